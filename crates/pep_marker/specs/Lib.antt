@@ -1,0 +1,5 @@
+pub mod Name
+pub mod Environment
+pub mod Marker
+pub mod MarkerText
+pub mod Holds

@@ -1,0 +1,50 @@
+use pep_clause::ClauseFault;
+use pep_marker::MarkerFault;
+use std::alloc::AllocError;
+use thiserror::Error;
+
+/// Why a line is refused as a requirement.
+#[derive(Clone, Copy, Debug, PartialEq, Eq, Error)]
+pub enum RequireFault {
+    /// 31: the line begins with no name.
+    #[error("not a name")]
+    BadName,
+    /// 32: the extras are faulty.
+    #[error("not a list of extras")]
+    BadExtras,
+    /// 33: a clause is faulty.
+    #[error("a faulty clause")]
+    BadClause(ClauseFault),
+    /// 34: the URL is faulty.
+    #[error("not a URL")]
+    BadUrl,
+    /// 35: the marker is faulty.
+    #[error("a faulty marker")]
+    BadMarker(MarkerFault),
+    /// 36: something else follows.
+    #[error("something else follows")]
+    Trailing,
+    /// 37: the line begins with `-`.
+    #[error("an option")]
+    OptionLine,
+    /// 38: the line has more than 65,536 bytes.
+    #[error("a line that is too long")]
+    LineTooLong,
+    /// 39: the URL is too long for the reader of URLs.
+    #[error("a URL that is too long")]
+    UrlOverflow,
+    /// 40: a growth was refused.
+    #[error("out of memory")]
+    NoMemory,
+}
+
+impl From<AllocError> for RequireFault {
+    ghost use Rattle.std.specs.Prelude.{◌≡◌};
+    ghost use Rattle.pep_require.specs.declared.fault.RequireFault.TheVariants.{NoMemory};
+
+    ghost from_gives = { λ _ e. e ≡ NoMemory };
+
+    fn from(_: AllocError) -> RequireFault {
+        RequireFault::NoMemory
+    }
+}

@@ -1,0 +1,6 @@
+//! The table of requirements by package. For now the crate has the definitions and their laws.
+#![tactic(auto)]
+
+mod verdict;
+
+pub use crate::verdict::{Answer, Verdict};

@@ -1,0 +1,320 @@
+-- The reading of a whole version from its spelling. So a text spells at most one version, and a text of which
+-- something other than a label is left spells none.
+use Rattle.std.proofs.Common.{◌≢◌, ◌≡◌, ◌==◌, ◌&&◌, ◌||◌, ℕ, List, [], ◌∷◌, ◌++◌, Option, Some, None, Bool, true, false, codes, refl, sym, ap, subst, ◌∙◌, arith, inl, inr, append-nil, append_assoc, map}
+use Rattle.std.proofs.lemmas.Bool.{cases_Bool}
+use Rattle.std.specs.Prelude.{if◌then◌else◌}
+use Rattle.std.specs.Char.{is_ascii_digit}
+use Rattle.std.specs.List.{list_all, onto_first}
+use Rattle.std.specs.Str.{str_to_ascii_lowercase}
+use Rattle.std.specs.Str.Parse.{digits_value}
+use Rattle.pep_version.specs.declared.parts.Phase.{Phase}
+use Rattle.pep_version.specs.declared.parts.Phase.TheVariants.{Alpha, Beta, Rc}
+use Rattle.pep_version.specs.Version.{Segment, Version}
+use Rattle.pep_version.specs.Spelling.{DevSpelling, EpochSpelling, IsOneOf, IsOptionalSeparator, LabelSpelling, PostSpelling, PreSpelling, PrecedingVSpelling, SpellsAny, dotted_parts, is_number, is_separator, pre_words, segment_of_run, separated_parts, trimmed}
+use Rattle.pep_version.proofs.Readers.{and-first, and-second, behind, behind-append, front, front-append, may_follow, starts_digit, without_separator}
+use Rattle.pep_version.proofs.Suffixes.{read_suffix, suffix-read, tail-worded}
+use Rattle.pep_version.proofs.Tails.{Tail, digits-all, digits-start, whole-of}
+
+abbrev dot_digit : List ℕ → Bool
+dot_digit [] = false
+dot_digit (b ∷ rest) = (b == 46) && starts_digit rest
+
+abbrev release_front : List ℕ → List ℕ
+release_front [] = []
+release_front (b ∷ rest) = if is_ascii_digit b then b ∷ release_front rest else if (b == 46) && starts_digit rest then b ∷ release_front rest else []
+
+abbrev release_behind : List ℕ → List ℕ
+release_behind [] = []
+release_behind (b ∷ rest) = if is_ascii_digit b then release_behind rest else if (b == 46) && starts_digit rest then release_behind rest else b ∷ rest
+
+abbrev is_dotted : List ℕ → Bool
+is_dotted [] = true
+is_dotted (b ∷ rest) = (is_ascii_digit b || ((b == 46) && starts_digit rest)) && is_dotted rest
+
+starts-append : (xs rest : List ℕ) → starts_digit xs ≡ true → starts_digit (xs ++ rest) ≡ true
+starts-append [] rest s = cc s
+starts-append (x ∷ xs) rest s = s
+
+or-second : (a b : Bool) → a ≡ false → (a || b) ≡ true → b ≡ true
+or-second true b e h = cc e
+or-second false b e h = h
+
+release_front-append : (xs rest : List ℕ) → is_dotted xs ≡ true → starts_digit rest ≡ false → dot_digit rest ≡ false → release_front (xs ++ rest) ≡ xs
+release_front-append [] [] d s t = refl
+release_front-append [] (b ∷ rest) d s t = rw (s, t) refl
+release_front-append (x ∷ xs) rest d s t =
+    let more = release_front-append xs rest (and-second (is_ascii_digit x || ((x == 46) && starts_digit xs)) (is_dotted xs) d) s t in
+    let one = and-first (is_ascii_digit x || ((x == 46) && starts_digit xs)) (is_dotted xs) d in
+    elim (cases_Bool (is_ascii_digit x)) [
+      | inl digit ↦ rw digit (ap (λ (l : List ℕ). x ∷ l) more)
+      | inr other ↦
+          let both = or-second (is_ascii_digit x) ((x == 46) && starts_digit xs) other one in
+          let dot = and-first (x == 46) (starts_digit xs) both in
+          let next = starts-append xs rest (and-second (x == 46) (starts_digit xs) both) in
+          rw (other, dot, next) (ap (λ (l : List ℕ). x ∷ l) more)
+    ]
+
+release_behind-append : (xs rest : List ℕ) → is_dotted xs ≡ true → starts_digit rest ≡ false → dot_digit rest ≡ false → release_behind (xs ++ rest) ≡ rest
+release_behind-append [] [] d s t = refl
+release_behind-append [] (b ∷ rest) d s t = rw (s, t) refl
+release_behind-append (x ∷ xs) rest d s t =
+    let more = release_behind-append xs rest (and-second (is_ascii_digit x || ((x == 46) && starts_digit xs)) (is_dotted xs) d) s t in
+    let one = and-first (is_ascii_digit x || ((x == 46) && starts_digit xs)) (is_dotted xs) d in
+    elim (cases_Bool (is_ascii_digit x)) [
+      | inl digit ↦ rw digit more
+      | inr other ↦
+          let both = or-second (is_ascii_digit x) ((x == 46) && starts_digit xs) other one in
+          let dot = and-first (x == 46) (starts_digit xs) both in
+          let next = starts-append xs rest (and-second (x == 46) (starts_digit xs) both) in
+          rw (other, dot, next) more
+    ]
+
+-- ---- numbers between dots
+
+abbrev first_ok : List (List ℕ) → Bool
+first_ok [] = true
+first_ok (p ∷ ps) = list_all is_ascii_digit p && list_all is_number ps
+
+numbers-first : (ps : List (List ℕ)) → list_all is_number ps ≡ true → first_ok ps ≡ true
+numbers-first [] h = refl
+numbers-first (p ∷ ps) h =
+    let digits = digits-all p (and-first (is_number p) (list_all is_number ps) h) in
+    rw (digits, and-second (is_number p) (list_all is_number ps) h) refl
+
+onto-number : (c : ℕ) (ps : List (List ℕ)) → list_all is_number (onto_first c ps) ≡ true → is_ascii_digit c ≡ true
+onto-number c [] h = and-first (is_ascii_digit c) true (and-first (is_number (c ∷ [])) true h)
+onto-number c (p ∷ ps) h = and-first (is_ascii_digit c) (list_all is_ascii_digit p) (and-first (is_number (c ∷ p)) (list_all is_number ps) h)
+
+numbers-start : (xs : List ℕ) → list_all is_number (dotted_parts xs) ≡ true → starts_digit xs ≡ true
+numbers-start [] h = cc h
+numbers-start (c ∷ rest) h = elim (cases_Bool (c == 46)) [
+  | inl dot ↦ cc (rw dot at h)
+  | inr other ↦ onto-number c (dotted_parts rest) (rw other at h)
+]
+
+onto-digit : (b : ℕ) (ps : List (List ℕ)) → first_ok (onto_first b ps) ≡ true → is_ascii_digit b ≡ true
+onto-digit b [] h = and-first (is_ascii_digit b) true (and-first (is_ascii_digit b && true) true h)
+onto-digit b (p ∷ ps) h = and-first (is_ascii_digit b) (list_all is_ascii_digit p) (and-first (is_ascii_digit b && list_all is_ascii_digit p) (list_all is_number ps) h)
+
+onto-rest : (b : ℕ) (ps : List (List ℕ)) → first_ok (onto_first b ps) ≡ true → first_ok ps ≡ true
+onto-rest b [] h = refl
+onto-rest b (p ∷ ps) h =
+    let digits = and-second (is_ascii_digit b) (list_all is_ascii_digit p) (and-first (is_ascii_digit b && list_all is_ascii_digit p) (list_all is_number ps) h) in
+    rw (digits, and-second (is_ascii_digit b && list_all is_ascii_digit p) (list_all is_number ps) h) refl
+
+dotted-ok : (xs : List ℕ) → first_ok (dotted_parts xs) ≡ true → is_dotted xs ≡ true
+dotted-ok [] h = refl
+dotted-ok (b ∷ rest) h = elim (cases_Bool (b == 46)) [
+  | inl dot ↦
+      let numbers : list_all is_number (dotted_parts rest) ≡ true = rw dot at h in
+      let start = numbers-start rest numbers in
+      let more = dotted-ok rest (numbers-first (dotted_parts rest) numbers) in
+      rw (dot, start, more) (either_true (is_ascii_digit b))
+  | inr other ↦
+      let parts : first_ok (onto_first b (dotted_parts rest)) ≡ true = rw other at h in
+      let digit = onto-digit b (dotted_parts rest) parts in
+      let more = dotted-ok rest (onto-rest b (dotted_parts rest) parts) in
+      rw (digit, more) refl
+]
+  where
+    either_true : (a : Bool) → ((a || true) && true) ≡ true
+    either_true true = refl
+    either_true false = refl
+
+-- ---- what stands behind a release
+
+abbrev bang : List ℕ → Option (List ℕ)
+bang [] = None
+bang (b ∷ rest) = if b == 33 then Some rest else None
+
+record Head (text : List ℕ) : Type 0 where
+  no_digit : starts_digit text ≡ false
+  no_dot : dot_digit text ≡ false
+  no_bang : bang text ≡ None
+
+dot-separates : (b : ℕ) → (b == 46) ≡ true → is_separator b ≡ true
+dot-separates b h = grind arith
+
+no-dot : (text : List ℕ) → starts_digit (without_separator text) ≡ false → dot_digit text ≡ false
+no-dot [] s = refl
+no-dot (b ∷ rest) s = elim (cases_Bool (b == 46)) [
+  | inl dot ↦ let t = rw (dot-separates b dot) at s in rw (dot, t) refl
+  | inr other ↦ rw other refl
+]
+
+follows-no-bang : (text : List ℕ) → may_follow text ≡ true → bang text ≡ None
+follows-no-bang [] f = refl
+follows-no-bang (b ∷ rest) f = let other : (b == 33) ≡ false = grind arith in rw other refl
+
+head-from-tail : (text : List ℕ) → Tail text → Head text
+head-from-tail text t = record { no_digit = t.no_digit; no_dot = no-dot text t.no_digit_behind; no_bang = follows-no-bang text t.follows }
+
+separator-head : (c : ℕ) (text : List ℕ) → is_separator c ≡ true → starts_digit text ≡ false → Head (c ∷ text)
+separator-head c text b s =
+    let other : (c == 33) ≡ false = grind arith in
+    let no : is_ascii_digit c ≡ false = grind arith in
+    record { no_digit = no; no_dot = no-dot (c ∷ text) (rw b s); no_bang = rw other refl }
+
+head-at-pre : (phase : Phase) (before letters text : List ℕ) → IsOptionalSeparator before → IsOneOf (pre_words phase) letters → Head (before ++ (letters ++ text))
+head-at-pre phase (c ∷ d ∷ before) letters text b l = absurd b
+head-at-pre Alpha [] letters text b (inl e) = rw e (record { no_digit = refl; no_dot = refl; no_bang = refl })
+head-at-pre Alpha [] letters text b (inr (inl e)) = rw e (record { no_digit = refl; no_dot = refl; no_bang = refl })
+head-at-pre Alpha (c ∷ []) letters text b (inl e) = separator-head c (letters ++ text) b (rw e refl)
+head-at-pre Alpha (c ∷ []) letters text b (inr (inl e)) = separator-head c (letters ++ text) b (rw e refl)
+head-at-pre Alpha before letters text b (inr (inr k)) = absurd k
+head-at-pre Beta [] letters text b (inl e) = rw e (record { no_digit = refl; no_dot = refl; no_bang = refl })
+head-at-pre Beta [] letters text b (inr (inl e)) = rw e (record { no_digit = refl; no_dot = refl; no_bang = refl })
+head-at-pre Beta (c ∷ []) letters text b (inl e) = separator-head c (letters ++ text) b (rw e refl)
+head-at-pre Beta (c ∷ []) letters text b (inr (inl e)) = separator-head c (letters ++ text) b (rw e refl)
+head-at-pre Beta before letters text b (inr (inr k)) = absurd k
+head-at-pre Rc [] letters text b (inl e) = rw e (record { no_digit = refl; no_dot = refl; no_bang = refl })
+head-at-pre Rc [] letters text b (inr (inl e)) = rw e (record { no_digit = refl; no_dot = refl; no_bang = refl })
+head-at-pre Rc [] letters text b (inr (inr (inl e))) = rw e (record { no_digit = refl; no_dot = refl; no_bang = refl })
+head-at-pre Rc [] letters text b (inr (inr (inr (inl e)))) = rw e (record { no_digit = refl; no_dot = refl; no_bang = refl })
+head-at-pre Rc (c ∷ []) letters text b (inl e) = separator-head c (letters ++ text) b (rw e refl)
+head-at-pre Rc (c ∷ []) letters text b (inr (inl e)) = separator-head c (letters ++ text) b (rw e refl)
+head-at-pre Rc (c ∷ []) letters text b (inr (inr (inl e))) = separator-head c (letters ++ text) b (rw e refl)
+head-at-pre Rc (c ∷ []) letters text b (inr (inr (inr (inl e)))) = separator-head c (letters ++ text) b (rw e refl)
+head-at-pre Rc before letters text b (inr (inr (inr (inr k)))) = absurd k
+
+head-post : (pre post dev rest : List ℕ) (vpost vdev : Option ℕ) (label : List Segment) → PostSpelling pre post vpost → DevSpelling dev vdev → LabelSpelling rest label → Head (post ++ (dev ++ rest))
+head-post pre post dev rest None vdev label p d l = head-from-tail (post ++ (dev ++ rest)) (tail-worded pre post dev rest None vdev label p d l)
+head-post pre post dev rest (Some n) vdev label (inl p) d l = head-from-tail (post ++ (dev ++ rest)) (tail-worded pre post dev rest (Some n) vdev label p d l)
+head-post pre post dev rest (Some n) vdev label (inr p) d l =
+    let shape : post ++ (dev ++ rest) ≡ 45 ∷ (p.digits ++ (dev ++ rest)) = ap (λ (x : List ℕ). x ++ (dev ++ rest)) p.pieces in
+    rw shape (record { no_digit = refl; no_dot = refl; no_bang = refl })
+
+head-suffix : (pre post dev rest : List ℕ) (vpre : Option (Phase × ℕ)) (vpost vdev : Option ℕ) (label : List Segment) → PreSpelling pre vpre → PostSpelling pre post vpost → DevSpelling dev vdev → LabelSpelling rest label
+    → Head (pre ++ (post ++ (dev ++ rest)))
+head-suffix pre post dev rest None vpost vdev label e p d l =
+    let plain = head-post pre post dev rest vpost vdev label p d l in rw e plain
+head-suffix pre post dev rest (Some q) vpost vdev label e p d l =
+    subst Head (sym (whole-of (pre_words q.0) pre (post ++ (dev ++ rest)) q.1 e)) (head-at-pre q.0 e.before e.letters (e.after ++ (e.digits ++ (post ++ (dev ++ rest)))) e.before_is e.letters_is)
+
+-- ---- the whole
+
+abbrev without_v : List ℕ → List ℕ
+without_v [] = []
+without_v (b ∷ rest) = if b == 118 then rest else b ∷ rest
+
+abbrev epoch_taken : Option (List ℕ) → List ℕ → ℕ × List ℕ
+epoch_taken None text = (0, text)
+epoch_taken (Some rest) text = (digits_value 10 (front text), rest)
+
+abbrev read_epoch : List ℕ → ℕ × List ℕ
+read_epoch text = epoch_taken (bang (behind text)) text
+
+abbrev read_label : List ℕ → List Segment
+read_label [] = []
+read_label (b ∷ text) = map segment_of_run (separated_parts text)
+
+abbrev with_suffix : ℕ → List ℕ → Option (Phase × ℕ) × (Option ℕ × (Option ℕ × List ℕ)) → Version
+with_suffix epoch release s = record { epoch = epoch; release = map (digits_value 10) (dotted_parts release); pre = s.0; post = s.1.0; dev = s.1.1.0; label = read_label s.1.1.1 }
+
+abbrev from_release : ℕ → List ℕ → Version
+from_release epoch text = with_suffix epoch (release_front text) (read_suffix (release_behind text))
+
+abbrev from_epoch : ℕ × List ℕ → Version
+from_epoch e = from_release e.0 e.1
+
+abbrev pub read_version : List ℕ → Version
+read_version text = from_epoch (read_epoch (without_v text))
+
+digit-no-v : (text : List ℕ) → starts_digit text ≡ true → without_v text ≡ text
+digit-no-v [] s = refl
+digit-no-v (x ∷ rest) s = let other : (x == 118) ≡ false = grind arith in rw other refl
+
+v-read : («prefix» text : List ℕ) → PrecedingVSpelling «prefix» → starts_digit text ≡ true → without_v («prefix» ++ text) ≡ text
+v-read «prefix» text (inl e) s = let plain = digit-no-v text s in rw e plain
+v-read «prefix» text (inr e) s = rw e refl
+
+bang-behind : (xs rest : List ℕ) → is_dotted xs ≡ true → Head rest → bang (behind (xs ++ rest)) ≡ None
+bang-behind [] rest d h = ap bang (behind-append [] rest refl h.no_digit) ∙ h.no_bang
+bang-behind (x ∷ xs) rest d h =
+    let one = and-first (is_ascii_digit x || ((x == 46) && starts_digit xs)) (is_dotted xs) d in
+    let more = bang-behind xs rest (and-second (is_ascii_digit x || ((x == 46) && starts_digit xs)) (is_dotted xs) d) h in
+    elim (cases_Bool (is_ascii_digit x)) [
+      | inl digit ↦ rw digit more
+      | inr other ↦
+          let dot = and-first (x == 46) (starts_digit xs) (or-second (is_ascii_digit x) ((x == 46) && starts_digit xs) other one) in
+          let no : (x == 33) ≡ false = grind arith in
+          rw (other, no) refl
+    ]
+
+epoch-read : (epoch release rest : List ℕ) (n : ℕ) → EpochSpelling epoch n → is_dotted release ≡ true → starts_digit release ≡ true → Head rest
+    → (read_epoch (epoch ++ (release ++ rest)) ≡ (n, release ++ rest)) × (starts_digit (epoch ++ (release ++ rest)) ≡ true)
+epoch-read epoch release rest n (inl e) d s h =
+    let none = bang-behind release rest d h in
+    let plain : read_epoch (release ++ rest) ≡ (0, release ++ rest) = ap (λ q. epoch_taken q (release ++ rest)) none in
+    let start = starts-append release rest s in
+    (rw (e.0, e.1) plain, rw e.0 start)
+epoch-read epoch release rest n (inr e) d s h =
+    let all = digits-all e.0 e.2.0 in
+    let shape : epoch ++ (release ++ rest) ≡ e.0 ++ (33 ∷ (release ++ rest)) = ap (λ (x : List ℕ). x ++ (release ++ rest)) e.1 ∙ append_assoc e.0 (codes "!") (release ++ rest) in
+    let digits = front-append e.0 (33 ∷ (release ++ rest)) all refl in
+    let others = behind-append e.0 (33 ∷ (release ++ rest)) all refl in
+    let plain : read_epoch (e.0 ++ (33 ∷ (release ++ rest))) ≡ (n, release ++ rest) =
+    (λ i. epoch_taken (bang (others i)) (e.0 ++ (33 ∷ (release ++ rest)))) ∙ (λ i. (digits_value 10 (digits i), release ++ rest)) ∙ λ i. (sym e.2.1 i, release ++ rest) in
+    (ap read_epoch shape ∙ plain, ap starts_digit shape ∙ digits-start e.0 (33 ∷ (release ++ rest)) e.2.0)
+
+label-read : (text : List ℕ) (label : List Segment) → LabelSpelling text label → read_label text ≡ label
+label-read [] label l = sym l
+label-read (b ∷ text) label l = sym l.2
+
+-- a text spells what is read from it
+pub spelled-read : (text : List ℕ) (v : Version) → SpellsAny text v → read_version (str_to_ascii_lowercase (trimmed text)) ≡ v
+spelled-read text v s =
+    let suffix = s.pre ++ (s.post ++ (s.dev ++ s.label)) in
+    let ends : s.pre ++ (s.post ++ (s.dev ++ (s.label ++ []))) ≡ suffix = ap (λ (x : List ℕ). s.pre ++ (s.post ++ (s.dev ++ x))) (append-nil s.label) in
+    let head = head-suffix s.pre s.post s.dev s.label v.pre v.post v.dev v.label s.pre_is s.post_is s.dev_is s.label_is in
+    let dotted = dotted-ok s.release (numbers-first (dotted_parts s.release) s.release_is.0) in
+    let start = numbers-start s.release s.release_is.0 in
+    let epoch = epoch-read s.epoch s.release suffix v.epoch s.epoch_is dotted start head in
+    let whole : str_to_ascii_lowercase (trimmed text) ≡ s.preceding_v ++ (s.epoch ++ (s.release ++ suffix)) = s.pieces ∙ ap (λ (x : List ℕ). s.preceding_v ++ (s.epoch ++ (s.release ++ x))) ends in
+    let no_v = v-read s.preceding_v (s.epoch ++ (s.release ++ suffix)) s.preceding_v_is epoch.1 in
+    let release_is = release_front-append s.release suffix dotted head.no_digit head.no_dot in
+    let behind_is = release_behind-append s.release suffix dotted head.no_digit head.no_dot in
+    let others = suffix-read s.pre s.post s.dev s.label v.pre v.post v.dev v.label s.pre_is s.post_is s.dev_is s.label_is in
+    ap read_version whole ∙ ap (λ (x : List ℕ). from_epoch (read_epoch x)) no_v ∙ ap from_epoch epoch.0
+    ∙ (λ i. with_suffix v.epoch (release_is i) (read_suffix (behind_is i)))
+    ∙ (λ i. with_suffix v.epoch s.release (others i))
+    ∙ λ i. record { epoch = v.epoch; release = sym s.release_is.1 i; pre = v.pre; post = v.post; dev = v.dev; label = label-read s.label v.label s.label_is i }
+
+-- a text spells at most one version
+pub one-version : (text : List ℕ) (v w : Version) → SpellsAny text v → SpellsAny text w → v ≡ w
+one-version text v w s t = sym (spelled-read text v s) ∙ spelled-read text w t
+
+-- what is read as the label's text
+abbrev pub read_label_text : List ℕ → List ℕ
+read_label_text text = (read_suffix (release_behind (read_epoch (without_v text)).1)).1.1.1
+
+-- of a spelled text it is the label's text, so any other leftover refutes every spelling
+pub spelled-label : (text : List ℕ) (v : Version) (s : SpellsAny text v) → read_label_text (str_to_ascii_lowercase (trimmed text)) ≡ s.label
+spelled-label text v s =
+    let suffix = s.pre ++ (s.post ++ (s.dev ++ s.label)) in
+    let ends : s.pre ++ (s.post ++ (s.dev ++ (s.label ++ []))) ≡ suffix = ap (λ (x : List ℕ). s.pre ++ (s.post ++ (s.dev ++ x))) (append-nil s.label) in
+    let head = head-suffix s.pre s.post s.dev s.label v.pre v.post v.dev v.label s.pre_is s.post_is s.dev_is s.label_is in
+    let dotted = dotted-ok s.release (numbers-first (dotted_parts s.release) s.release_is.0) in
+    let epoch = epoch-read s.epoch s.release suffix v.epoch s.epoch_is dotted (numbers-start s.release s.release_is.0) head in
+    let whole : str_to_ascii_lowercase (trimmed text) ≡ s.preceding_v ++ (s.epoch ++ (s.release ++ suffix)) = s.pieces ∙ ap (λ (x : List ℕ). s.preceding_v ++ (s.epoch ++ (s.release ++ x))) ends in
+    let no_v = v-read s.preceding_v (s.epoch ++ (s.release ++ suffix)) s.preceding_v_is epoch.1 in
+    let behind_is = release_behind-append s.release suffix dotted head.no_digit head.no_dot in
+    let others = suffix-read s.pre s.post s.dev s.label v.pre v.post v.dev v.label s.pre_is s.post_is s.dev_is s.label_is in
+    ap read_label_text whole ∙ ap (λ (x : List ℕ). (read_suffix (release_behind (read_epoch x).1)).1.1.1) no_v ∙ ap (λ (e : ℕ × List ℕ). (read_suffix (release_behind e.1)).1.1.1) epoch.0
+    ∙ ap (λ (x : List ℕ). (read_suffix x).1.1.1) behind_is ∙ ap (λ (q : Option (Phase × ℕ) × (Option ℕ × (Option ℕ × List ℕ))). q.1.1.1) others
+
+-- a leftover that does not begin with `+`
+refuted : (text : List ℕ) (b : ℕ) (rest : List ℕ) → read_label_text (str_to_ascii_lowercase (trimmed text)) ≡ b ∷ rest → b ≢ 43 → (v : Version) → ¬ SpellsAny text v
+refuted text b rest read other v s = other (begins (sym (spelled-label text v s) ∙ read) s.label_is)
+  where
+    begins : {l : List ℕ} → l ≡ b ∷ rest → LabelSpelling l v.label → b ≡ 43
+    begins e l = let first = subst (λ (x : List ℕ). LabelSpelling x v.label) e l in first.0
+
+no-dash : (v : Version) → ¬ SpellsAny (codes "1.0-") v
+no-dash = refuted (codes "1.0-") 45 [] refl (omega arith)
+
+no-two-dots : (v : Version) → ¬ SpellsAny (codes "1..0") v
+no-two-dots = refuted (codes "1..0") 46 (codes ".0") refl (omega arith)
+
+no-two-pre : (v : Version) → ¬ SpellsAny (codes "1.0a1a2") v
+no-two-pre = refuted (codes "1.0a1a2") 97 (codes "2") refl (omega arith)

@@ -1,0 +1,48 @@
+-- The normal text of a version, which has one spelling for each version ("Normalization").
+use Rattle.std.specs.Prelude.{ℕ, ◌==◌, List, [], ◌∷◌, ◌++◌, map, Option, Some, None, codes, decimal, if◌then◌else◌}
+use Rattle.std.specs.List.{join_with_byte}
+use Rattle.pep_version.specs.declared.parts.Phase.{Phase}
+use Rattle.pep_version.specs.declared.parts.Phase.TheVariants.{Alpha, Beta, Rc}
+use Rattle.pep_version.specs.Version.{Segment, number, Version, word}
+
+-- the epoch and `!`, unless it is 0 ("Version epochs")
+abbrev pub epoch_text : ℕ → List ℕ
+epoch_text epoch = if epoch == 0 then [] else decimal epoch ++ codes "!"
+
+-- the release's numbers with dots between them, the zeros at its end included ("Final releases")
+abbrev pub release_text : List ℕ → List ℕ
+release_text release = join_with_byte 46 (map decimal release)
+
+-- `a`, `b` or `rc` ("Pre-release spelling")
+abbrev pub phase_text : Phase → List ℕ
+phase_text Alpha = codes "a"
+phase_text Beta = codes "b"
+phase_text Rc = codes "rc"
+
+-- the pre-release part ("Pre-releases")
+abbrev pub pre_text : Option (Phase × ℕ) → List ℕ
+pre_text None = []
+pre_text (Some p) = phase_text p.0 ++ decimal p.1
+
+-- the post-release part ("Post-releases")
+abbrev pub post_text : Option ℕ → List ℕ
+post_text None = []
+post_text (Some n) = codes ".post" ++ decimal n
+
+-- the developmental release part ("Developmental releases")
+abbrev pub dev_text : Option ℕ → List ℕ
+dev_text None = []
+dev_text (Some n) = codes ".dev" ++ decimal n
+
+abbrev pub segment_text : Segment → List ℕ
+segment_text (number n) = decimal n
+segment_text (word letters) = letters
+
+-- `+` and the segments with dots between them ("Local version segments")
+abbrev pub label_text : List Segment → List ℕ
+label_text [] = []
+label_text (s ∷ rest) = codes "+" ++ join_with_byte 46 (map segment_text (s ∷ rest))
+
+-- the normal text of a version
+abbrev pub normal_text : Version → List ℕ
+normal_text v = epoch_text v.epoch ++ release_text v.release ++ pre_text v.pre ++ post_text v.post ++ dev_text v.dev ++ label_text v.label

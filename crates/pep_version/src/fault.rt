@@ -1,0 +1,38 @@
+use std::alloc::{AllocError, AllocFailed};
+use thiserror::Error;
+
+/// Why a text is refused as a version.
+#[derive(Clone, Copy, Debug, PartialEq, Eq, Error)]
+pub enum VersionFault {
+    /// 1: the text is no spelling of a version.
+    #[error("not a version")]
+    NotAVersion,
+    /// 2: the text would be a spelling, but for a number above 18446744073709551615.
+    #[error("a number of the version is too large")]
+    NumberTooLarge,
+    /// 3: a growth was refused.
+    #[error("out of memory")]
+    NoMemory,
+}
+
+impl From<AllocError> for VersionFault {
+    ghost use Rattle.std.specs.Prelude.{◌≡◌};
+    ghost use Rattle.pep_version.specs.declared.fault.VersionFault.TheVariants.{NoMemory};
+
+    ghost from_gives = { λ _ e. e ≡ NoMemory };
+
+    fn from(_: AllocError) -> VersionFault {
+        VersionFault::NoMemory
+    }
+}
+
+impl<T: Drop> From<AllocFailed<T>> for VersionFault {
+    ghost use Rattle.std.specs.Prelude.{◌≡◌};
+    ghost use Rattle.pep_version.specs.declared.fault.VersionFault.TheVariants.{NoMemory};
+
+    ghost from_gives = { λ _ e. e ≡ NoMemory };
+
+    fn from(_: AllocFailed<T>) -> VersionFault {
+        VersionFault::NoMemory
+    }
+}
