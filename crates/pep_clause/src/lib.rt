@@ -1,8 +1,20 @@
 //! Version specifier clauses, cuts and version sets, by PEP 440.
 #![tactic(auto)]
 
+mod clause;
+mod cut;
 mod fault;
+mod laws;
 mod op;
+mod range;
+mod set;
+#[cfg(test)]
+mod tests;
 
+pub use crate::clause::Clause;
+pub use crate::cut::Cut;
 pub use crate::fault::ClauseFault;
+pub use crate::laws::one_list;
 pub use crate::op::Op;
+pub use crate::range::Range;
+pub use crate::set::VersionSet;

@@ -27,7 +27,7 @@ abbrev release_behind : List ℕ → List ℕ
 release_behind [] = []
 release_behind (b ∷ rest) = if is_ascii_digit b then release_behind rest else if (b == 46) && starts_digit rest then release_behind rest else b ∷ rest
 
-abbrev is_dotted : List ℕ → Bool
+abbrev pub is_dotted : List ℕ → Bool
 is_dotted [] = true
 is_dotted (b ∷ rest) = (is_ascii_digit b || ((b == 46) && starts_digit rest)) && is_dotted rest
 
@@ -71,11 +71,11 @@ release_behind-append (x ∷ xs) rest d s t =
 
 -- ---- numbers between dots
 
-abbrev first_ok : List (List ℕ) → Bool
+abbrev pub first_ok : List (List ℕ) → Bool
 first_ok [] = true
 first_ok (p ∷ ps) = list_all is_ascii_digit p && list_all is_number ps
 
-numbers-first : (ps : List (List ℕ)) → list_all is_number ps ≡ true → first_ok ps ≡ true
+pub numbers-first : (ps : List (List ℕ)) → list_all is_number ps ≡ true → first_ok ps ≡ true
 numbers-first [] h = refl
 numbers-first (p ∷ ps) h =
     let digits = digits-all p (and-first (is_number p) (list_all is_number ps) h) in
@@ -102,7 +102,7 @@ onto-rest b (p ∷ ps) h =
     let digits = and-second (is_ascii_digit b) (list_all is_ascii_digit p) (and-first (is_ascii_digit b && list_all is_ascii_digit p) (list_all is_number ps) h) in
     rw (digits, and-second (is_ascii_digit b && list_all is_ascii_digit p) (list_all is_number ps) h) refl
 
-dotted-ok : (xs : List ℕ) → first_ok (dotted_parts xs) ≡ true → is_dotted xs ≡ true
+pub dotted-ok : (xs : List ℕ) → first_ok (dotted_parts xs) ≡ true → is_dotted xs ≡ true
 dotted-ok [] h = refl
 dotted-ok (b ∷ rest) h = elim (cases_Bool (b == 46)) [
   | inl dot ↦

@@ -228,13 +228,21 @@ short_release-tied (m ∷ rest) (n ∷ more) h g e =
     first_told m n (without_end_zeros rest) (without_end_zeros more)
     (slice_cmp-IsAntisymmetric nat_cmp-IsAntisymmetric _ _ (sym (release_cmp-lists (m ∷ rest) (n ∷ more)) ∙ e))
 
--- versions that are the same in order have one place
-pub place_of-same : (v w : Version) → 0 < length v.release → 0 < length w.release → Same v w → place_of v ≡ place_of w
-place_of-same v w some_v some_w same =
+-- what versions that are the same in order have alike: all but the zeros at the ends of their releases
+pub record SameParts (v w : Version) : Type 0 where
+  pub epoch : v.epoch ≡ w.epoch
+  pub release : without_end_zeros v.release ≡ without_end_zeros w.release
+  pub pre : v.pre ≡ w.pre
+  pub post : v.post ≡ w.post
+  pub dev : v.dev ≡ w.dev
+  pub label : v.label ≡ w.label
+
+pub same-parts : (v w : Version) → Same v w → SameParts v w
+same-parts v w same =
     let place = then_first (place_cmp v w) (suffix_cmp v w) same in
     let suffix = then_second (place_cmp v w) (suffix_cmp v w) same in
     let epoch : v.epoch ≡ w.epoch = nat_cmp-IsAntisymmetric _ _ (then_first _ _ place) in
-    let release = short_release-tied v.release w.release some_v some_w (then_second _ _ place) in
+    let release = slice_cmp-IsAntisymmetric nat_cmp-IsAntisymmetric _ _ (sym (release_cmp-lists v.release w.release) ∙ then_second _ _ place) in
     let stages = then_first _ _ suffix in
     let others = then_second _ _ suffix in
     let stage_is : stage v ≡ stage w = nat_cmp-IsAntisymmetric _ _ (then_first _ _ stages) in
@@ -244,11 +252,17 @@ place_of-same v w some_v some_w same =
     let dev : v.dev ≡ w.dev = dev_cmp-anti _ _ (then_first _ _ last) in
     let label : v.label ≡ w.label = slice_cmp-IsAntisymmetric segment_cmp-anti _ _ (then_second _ _ last) in
     let stage_at : stage_of v.pre w.post w.dev ≡ stage_of w.pre w.post w.dev = (λ i. stage_of v.pre (sym post i) (sym dev i)) ∙ stage_is in
-    let pre = pre_from_stage v.pre w.pre w.post w.dev stage_at number_is in
-    λ i. record { epoch = epoch i; release = release i; pre = pre i; post = post i; dev = dev i; label = label i }
+    record { epoch = epoch; release = release; pre = pre_from_stage v.pre w.pre w.post w.dev stage_at number_is; post = post; dev = dev; label = label }
+
+-- versions that are the same in order have one place
+pub place_of-same : (v w : Version) → 0 < length v.release → 0 < length w.release → Same v w → place_of v ≡ place_of w
+place_of-same v w some_v some_w same =
+    let e = same-parts v w same in
+    let release = short_release-tied v.release w.release some_v some_w (then_second _ _ (then_first (place_cmp v w) (suffix_cmp v w) same)) in
+    λ i. record { epoch = e.epoch i; release = release i; pre = e.pre i; post = e.post i; dev = e.dev i; label = e.label i }
 
 -- taking the zeros away twice is as taking them away once
-without_end_zeros-twice : (xs : List ℕ) → without_end_zeros (without_end_zeros xs) ≡ without_end_zeros xs
+pub without_end_zeros-twice : (xs : List ℕ) → without_end_zeros (without_end_zeros xs) ≡ without_end_zeros xs
 without_end_zeros-twice [] = refl
 without_end_zeros-twice (n ∷ rest) = step n (without_end_zeros rest) (without_end_zeros-twice rest)
   where

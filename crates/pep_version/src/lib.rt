@@ -2,7 +2,19 @@
 #![tactic(auto)]
 
 mod fault;
+mod key;
+pub mod laws;
+mod number;
 mod parts;
+mod release;
+mod space;
+mod version;
+mod writing;
 
 pub use crate::fault::VersionFault;
+pub use crate::key::Key;
 pub use crate::parts::{Label, Phase};
+pub use crate::version::Version;
+
+#[cfg(test)]
+mod tests;

@@ -1,0 +1,4 @@
+mod MeetingPoints
+mod NormalMeeting
+mod Rows
+mod SetLemmas

@@ -1,0 +1,125 @@
+-- A version set has one normal list: two normal lists with the same points are one list. All cuts are meant, also
+-- those between which no version lies.
+use Rattle.std.proofs.Common.{◌≡◌, ◌&&◌, ◌||◌, Bool, true, false, not, List, [], ◌∷◌, refl, sym, ap, ◌∙◌}
+use Rattle.std.specs.Ordering.{is_lt}
+use Rattle.pep_clause.specs.Cut.{Cut, IsCut, cut_cmp}
+use Rattle.pep_clause.specs.Laws.{cut_total}
+use Rattle.pep_clause.specs.VersionSet.{IsNormal, Range, is_point}
+use Rattle.pep_clause.specs.Between.{by_answer, is_between, less_told, not_above-test, not_below_itself, not_turned, tied_told}
+use Rattle.pep_clause.specs.NormalLists.{AllAbove, Apart, IsNormal-apart, IsNormal-spelled, Spelled}
+use Rattle.pep_clause.specs.OneCut.{one-cut}
+
+-- the two lists have the same points
+abbrev pub SamePoints : List Range → List Range → Type 0
+SamePoints ranges others = (c : Cut) → IsCut c → is_point ranges c ≡ is_point others c
+
+or_right : (p q : Bool) → p ≡ false → q ≡ false → (p || q) ≡ false
+or_right true q e f = cc e
+or_right false q e f = f
+
+outside_high : (p q : Bool) → p ≡ false → (p && q) ≡ false
+outside_high true q e = cc e
+outside_high false q e = refl
+
+outside_low : (p q : Bool) → q ≡ true → (p && not q) ≡ false
+outside_low true true e = refl
+outside_low true false e = cc e
+outside_low false q e = refl
+
+inside : (p q rest : Bool) → p ≡ true → q ≡ false → ((p && not q) || rest) ≡ true
+inside true true rest e f = cc f
+inside true false rest e f = refl
+inside false q rest e f = cc e
+
+-- a cut that is not above another lies in no range that begins above that
+none_below : (high c : Cut) (rest : List Range) → AllAbove high rest → is_lt (cut_cmp high c) ≡ false → is_point rest c ≡ false
+none_below high c [] h e = refl
+none_below high c (r ∷ rest) h e =
+    or_right (is_between cut_cmp r.low r.high c) (is_point rest c)
+    (outside_low (is_lt (cut_cmp c r.high)) (is_lt (cut_cmp c r.low)) (not_above-test cut_total c high r.low e (ap is_lt h.0)))
+    (none_below high c rest h.1 e)
+
+-- a cut of the first range's own is a point
+first_point : (r : Range) (rest : List Range) (c : Cut) → is_lt (cut_cmp c r.high) ≡ true → is_lt (cut_cmp c r.low) ≡ false → is_point (r ∷ rest) c ≡ true
+first_point r rest c e f = inside (is_lt (cut_cmp c r.high)) (is_lt (cut_cmp c r.low)) (is_point rest c) e f
+
+-- under the first range there is no point
+none_under_first : (r : Range) (rest : List Range) (c : Cut) → Apart (r ∷ rest) → is_lt (cut_cmp c r.low) ≡ true → is_point (r ∷ rest) c ≡ false
+none_under_first r rest c h e =
+    or_right (is_between cut_cmp r.low r.high c) (is_point rest c)
+    (outside_low (is_lt (cut_cmp c r.high)) (is_lt (cut_cmp c r.low)) e)
+    (none_below r.high c rest h.1 (not_turned cut_total c r.high (cut_total.trans c r.low r.high (less_told (cut_cmp c r.low) e) h.0)))
+
+-- above the first range the points are those of the others
+past_first : (r : Range) (rest : List Range) (c : Cut) → is_lt (cut_cmp c r.high) ≡ false → is_point (r ∷ rest) c ≡ is_point rest c
+past_first r rest c e = ap (λ b. b || is_point rest c) (outside_high (is_lt (cut_cmp c r.high)) (not (is_lt (cut_cmp c r.low))) e)
+
+-- where one list has a point that the other has not, they have not the same points
+differ : {G : Type 0} (p q : Bool) → p ≡ q → p ≡ true → q ≡ false → G
+differ true true e f g = cc g
+differ true false e f g = cc e
+differ false q e f g = cc f
+
+-- the first range of the one does not begin under that of the other
+begins_no_earlier : (r s : Range) (rest more : List Range) → Apart (r ∷ rest) → Apart (s ∷ more)
+    → is_point (r ∷ rest) r.low ≡ is_point (s ∷ more) r.low → is_lt (cut_cmp r.low s.low) ≡ false
+begins_no_earlier r s rest more h g e =
+    by_answer (is_lt (cut_cmp r.low s.low))
+    (λ t. differ (is_point (r ∷ rest) r.low) (is_point (s ∷ more) r.low) e
+    (first_point r rest r.low (ap is_lt h.0) (not_below_itself cut_total r.low))
+    (none_under_first s more r.low g t))
+    (λ t. t)
+
+-- where both begin at one cut, the first range of the one does not end under that of the other
+ends_no_earlier : (r s : Range) (rest more : List Range) → Apart (r ∷ rest) → r.low ≡ s.low
+    → is_point (r ∷ rest) r.high ≡ is_point (s ∷ more) r.high → is_lt (cut_cmp r.high s.high) ≡ false
+ends_no_earlier r s rest more h low e =
+    by_answer (is_lt (cut_cmp r.high s.high))
+    (λ t. differ (is_point (s ∷ more) r.high) (is_point (r ∷ rest) r.high) (sym e)
+    (first_point s more r.high t ((λ i. is_lt (cut_cmp r.high (sym low i))) ∙ not_turned cut_total r.low r.high h.0))
+    (past_first r rest r.high (not_below_itself cut_total r.high) ∙ none_below r.high r.high rest h.1 (not_below_itself cut_total r.high)))
+    (λ t. t)
+
+one_low : (r s : Range) (rest more : List Range) → Apart (r ∷ rest) → Apart (s ∷ more) → IsCut r.low → IsCut s.low
+    → SamePoints (r ∷ rest) (s ∷ more) → r.low ≡ s.low
+one_low r s rest more h g e f same =
+    one-cut r.low s.low e f
+    (tied_told (cut_cmp r.low s.low) (cut_cmp s.low r.low) (cut_total.antisymm r.low s.low)
+    (begins_no_earlier r s rest more h g (same r.low e))
+    (begins_no_earlier s r more rest g h (sym (same s.low f))))
+
+one_high : (r s : Range) (rest more : List Range) → Apart (r ∷ rest) → Apart (s ∷ more) → IsCut r.high → IsCut s.high
+    → r.low ≡ s.low → SamePoints (r ∷ rest) (s ∷ more) → r.high ≡ s.high
+one_high r s rest more h g e f low same =
+    one-cut r.high s.high e f
+    (tied_told (cut_cmp r.high s.high) (cut_cmp s.high r.high) (cut_total.antisymm r.high s.high)
+    (ends_no_earlier r s rest more h low (same r.high e))
+    (ends_no_earlier s r more rest g (sym low) (sym (same s.high f))))
+
+-- the ranges behind the first have the same points
+same_rest : (r s : Range) (rest more : List Range) → Apart (r ∷ rest) → Apart (s ∷ more) → r.high ≡ s.high
+    → SamePoints (r ∷ rest) (s ∷ more) → SamePoints rest more
+same_rest r s rest more h g high same c spelled =
+    by_answer (is_lt (cut_cmp c r.high))
+    (λ t. let below : is_lt (cut_cmp r.high c) ≡ false = not_turned cut_total c r.high (less_told (cut_cmp c r.high) t) in
+    none_below r.high c rest h.1 below ∙ sym (none_below s.high c more g.1 ((λ i. is_lt (cut_cmp (sym high i) c)) ∙ below)))
+    (λ t. sym (past_first r rest c t) ∙ same c spelled ∙ past_first s more c ((λ i. is_lt (cut_cmp c (sym high i))) ∙ t))
+
+one_list : (ranges others : List Range) → Apart ranges → Apart others → Spelled ranges → Spelled others → SamePoints ranges others → ranges ≡ others
+one_list [] [] h g e f same = refl
+one_list [] (s ∷ more) h g e f same =
+    differ (is_point (s ∷ more) s.low) false (sym (same s.low f.0))
+    (first_point s more s.low (ap is_lt g.0) (not_below_itself cut_total s.low)) refl
+one_list (r ∷ rest) [] h g e f same =
+    differ (is_point (r ∷ rest) r.low) false (same r.low e.0)
+    (first_point r rest r.low (ap is_lt h.0) (not_below_itself cut_total r.low)) refl
+one_list (r ∷ rest) (s ∷ more) h g e f same =
+    let low = one_low r s rest more h g e.0 f.0 same in
+    let high = one_high r s rest more h g e.1 f.1 low same in
+    let others = one_list rest more h.2 g.2 e.2 f.2 (same_rest r s rest more h g high same) in
+    λ i. record { low = low i; high = high i } ∷ others i
+
+-- two normal lists with the same points are one list
+pub same_points : (ranges others : List Range) → IsNormal ranges → IsNormal others → SamePoints ranges others → ranges ≡ others
+same_points ranges others h g same =
+    one_list ranges others (IsNormal-apart ranges h) (IsNormal-apart others g) (IsNormal-spelled ranges h) (IsNormal-spelled others g) same

@@ -1,0 +1,111 @@
+// Ranges between cuts.
+
+ghost use Rattle.std.specs.Prelude.{◌≡◌, ◌&&◌, not, option_to_list, IfErr, IfOk};
+ghost use Rattle.std.specs.declared.cmp.Ordering.TheVariants.{Less};
+ghost use Rattle.pep_clause.specs.Between.{earlier, later};
+ghost use Rattle.pep_clause.specs.Cut.{IsCut, cut_cmp, is_under};
+ghost use Rattle.pep_clause.specs.Meeting.{common};
+ghost use Rattle.pep_clause.specs.OperatorTable.{range};
+
+use crate::cut::Cut;
+use crate::fault::ClauseFault;
+use pep_version::Key;
+use std::alloc::Global;
+use std::marker::Model;
+
+/// What lies under the high cut and not under the low one; the low cut is below the high one.
+#[derive(Drop)]
+pub struct Range {
+    low: Cut,
+    high: Cut,
+}
+
+impl Model for Range {
+    ghost use Rattle.std.specs.Prelude.{◌≡◌};
+    ghost use Rattle.std.specs.declared.cmp.Ordering.TheVariants.{Less};
+    ghost use Rattle.pep_clause.specs.Cut.{IsCut, cut_cmp};
+    ghost use Rattle.pep_clause.specs.VersionSet.{Range};
+
+    ghost Value = { Range };
+
+    ghost view = { λ a. record { low = a.low; high = a.high } };
+
+    ghost invariant = { λ a. (cut_cmp a.low a.high ≡ Less) × IsCut a.low × IsCut a.high };
+}
+
+fn later<'a>(a: &'a Cut, b: &'a Cut) -> &'a Cut
+    ensures { result.now ≡ later cut_cmp a.now b.now }
+{
+    if a < b { b } else { a }
+}
+
+fn earlier<'a>(a: &'a Cut, b: &'a Cut) -> &'a Cut
+    ensures { result.now ≡ earlier cut_cmp a.now b.now }
+{
+    if a < b { a } else { b }
+}
+
+impl Range {
+    /// The range between two cuts, or none where they are not in order.
+    pub(crate) fn between(low: Cut, high: Cut) -> Option<Range>
+        requires low { IsCut low }
+        requires high { IsCut high }
+        ensures { option_to_list result ≡ range low high }
+    {
+        if low >= high {
+            return None;
+        }
+        Some(Range { low, high })
+    }
+
+    /// The range that both have in common, or none.
+    pub(crate) fn common(&self, alloc: Global, other: &Range) -> Result<Option<Range>, ClauseFault>
+        ensures common { IfOk result (λ r. option_to_list r ≡ common self.now other.now) }
+        ensures faults { IfErr result (λ e. e ≡ ClauseFault.NoMemory) }
+    {
+        let low = later(self.low(), other.low());
+        let high = earlier(self.high(), other.high());
+        if low < high {
+            Ok(Some(Range {
+                low: low.copied(alloc)?,
+                high: high.copied(alloc)?,
+            }))
+        } else {
+            Ok(None)
+        }
+    }
+
+    /// Whether the version at this place is in the range.
+    pub(crate) fn contains(&self, key: &Key) -> bool
+        ensures { result ≡ (is_under self.now.high key.now && not (is_under self.now.low key.now)) }
+    {
+        self.high.is_above(key) && !self.low.is_above(key)
+    }
+
+    /// The cut where the range begins.
+    pub fn low(&self) -> &Cut
+        ensures low { result.now ≡ self.now.low }
+        ensures spelled { IsCut self.now.low }
+    {
+        &self.low
+    }
+
+    /// The cut where the range ends.
+    pub fn high(&self) -> &Cut
+        ensures high { result.now ≡ self.now.high }
+        ensures spelled { IsCut self.now.high }
+        ensures above { cut_cmp self.now.low self.now.high ≡ Less }
+    {
+        &self.high
+    }
+
+    /// An equal range in storage of its own. The only fault is `NoMemory`.
+    pub fn copied(&self, alloc: Global) -> Result<Range, ClauseFault>
+        ensures same { IfOk result (λ r. r ≡ self.now) }
+        ensures faults { IfErr result (λ e. e ≡ ClauseFault.NoMemory) }
+    {
+        let low = self.low.copied(alloc)?;
+        let high = self.high.copied(alloc)?;
+        Ok(Range { low, high })
+    }
+}

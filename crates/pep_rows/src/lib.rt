@@ -1,0 +1,13 @@
+//! Rows that cross the crates: what lists, readers and writers give, as the documents of the project say it.
+#![tactic(auto)]
+
+#[cfg(test)]
+mod limits;
+#[cfg(test)]
+mod lines;
+#[cfg(test)]
+mod lists;
+#[cfg(test)]
+mod names;
+#[cfg(test)]
+mod streams;

@@ -1,0 +1,153 @@
+-- What pairs of a name and a clause demand, and the clauses on one name.
+use Rattle.std.proofs.Common.{◌≡◌, ◌≢◌, ℕ, zero, suc, ◌<◌, ◌⊎◌, ◌&&◌, Bool, true, false, List, [], ◌∷◌, ◌++◌, length, map, refl, sym, ap, subst, ◌∙◌, arith, inl, inr}
+use Rattle.std.specs.Prelude.{Contains, bytes_eq, slice_index_or, ◌↔◌}
+use Rattle.std.specs.List.{AllByRecursion, AllZip, list_all}
+use Rattle.std.proofs.lemmas.Slice.Eq.{bytes_eq-Decides}
+use Rattle.pep_clause.specs.Clause.{Clause}
+use Rattle.pep_require.specs.Requirement.{RequirementParts}
+use Rattle.pep_table.specs.Demand.{Demand, RequirementDemands}
+use Rattle.pep_tool.specs.Gathered.{BytesDemand, Gathered, ListDemands}
+use Rattle.pep_tool.specs.Line.{ReadsLine}
+use Rattle.pep_tool.specs.Lists.{IsListOf, requirement_lines}
+use Rattle.pep_tool.specs.Sets.{InputsGive, IsPlainPair, ListGives, Pair, clauses_on, pair_requirement}
+use Rattle.pep_tool.specs.declared.input.Input.{Input}
+use Rattle.pep_tool.specs.declared.input.Kind.{Kind}
+use Rattle.pep_tool.specs.declared.input.Kind.TheVariants as kind
+use Rattle.pep_tool.proofs.LineLemmas.{one_line}
+use Rattle.pep_tool.proofs.RunLemmas.{and_first, and_second}
+
+-- the pair is in the list
+abbrev pub Among : List Pair → Pair → Type 0
+Among [] p = ⊥
+Among (q ∷ ps) p = (p ≡ q) ⊎ Among ps p
+
+-- what the pairs demand
+abbrev pub PairsDemand : List Pair → List ℕ → Demand → Type 0
+PairsDemand ps name d = (p : Pair) × Among ps p × RequirementDemands (pair_requirement p) name d
+
+-- ---- pairs as requirements
+
+contains_at : (ps : List Pair) (r : RequirementParts) (k : ℕ) → k < length (map pair_requirement ps) → slice_index_or (map pair_requirement ps) k r ≡ r →
+    (p : Pair) × Among ps p × (pair_requirement p ≡ r)
+contains_at [] r k h e = absurd (omega arith)
+contains_at (q ∷ ps) r zero h e = (q, inl refl, e)
+contains_at (q ∷ ps) r (suc k) h e = let rest = contains_at ps r k (omega arith) e in (rest.0, inr rest.1, rest.2)
+
+among_contains : (ps : List Pair) (p : Pair) → Among ps p → Contains (map pair_requirement ps) (pair_requirement p)
+among_contains [] p h = absurd h
+among_contains (q ∷ ps) p (inl e) = (0, omega arith, ap pair_requirement (sym e))
+among_contains (q ∷ ps) p (inr h) = let rest = among_contains ps p h in (suc rest.0, omega (arith, rest.1), rest.2)
+
+list_demands : (ps : List Pair) (name : List ℕ) (d : Demand) → ListDemands (map pair_requirement ps) name d ↔ PairsDemand ps name d
+list_demands ps name d = (
+  λ h. let found = contains_at ps h.0 h.1.0 h.1.1 h.1.2 in
+      (found.0, found.1, subst (λ (r : RequirementParts). RequirementDemands r name d) (sym found.2) h.2),
+  λ h. (pair_requirement h.0, among_contains ps h.0 h.1, h.2),
+)
+
+-- ---- one list of requirements
+
+one_zip : (xs : List (List ℕ)) (rs ss : List RequirementParts) → AllZip ReadsLine xs rs → AllZip ReadsLine xs ss → rs ≡ ss
+one_zip [] [] [] z w = refl
+one_zip [] [] (s ∷ ss) z w = absurd w
+one_zip [] (r ∷ rs) ss z w = absurd z
+one_zip (x ∷ xs) [] ss z w = absurd z
+one_zip (x ∷ xs) (r ∷ rs) [] z w = absurd w
+one_zip (x ∷ xs) (r ∷ rs) (s ∷ ss) z w = λ i. one_line x r s z.0 w.0 i ∷ one_zip xs rs ss z.1 w.1 i
+
+-- bytes are one list at most
+pub one_list_of : (bytes : List ℕ) (rs ss : List RequirementParts) → IsListOf bytes rs → IsListOf bytes ss → rs ≡ ss
+one_list_of bytes rs ss z w = one_zip (requirement_lines bytes) rs ss z.requirements w.requirements
+
+bytes_demand : (k : Kind) (bytes : List ℕ) (ps : List Pair) (name : List ℕ) (d : Demand) → ListGives bytes ps → BytesDemand k bytes name d ↔ PairsDemand ps name d
+bytes_demand kind.List bytes ps name d gives = (
+  λ h. (list_demands ps name d).0 (subst (λ (rs : List RequirementParts). ListDemands rs name d) (one_list_of bytes h.0 (map pair_requirement ps) h.1 gives) h.2),
+  λ h. (map pair_requirement ps, gives, (list_demands ps name d).1 h),
+)
+
+among_left : (ps qs : List Pair) (p : Pair) → Among ps p → Among (ps ++ qs) p
+among_left [] qs p h = absurd h
+among_left (q ∷ ps) qs p (inl e) = inl e
+among_left (q ∷ ps) qs p (inr h) = inr (among_left ps qs p h)
+
+among_right : (ps qs : List Pair) (p : Pair) → Among qs p → Among (ps ++ qs) p
+among_right [] qs p h = h
+among_right (q ∷ ps) qs p h = inr (among_right ps qs p h)
+
+among_either : (ps qs : List Pair) (p : Pair) → Among (ps ++ qs) p → Among ps p ⊎ Among qs p
+among_either [] qs p h = inr h
+among_either (q ∷ ps) qs p (inl e) = inl (inl e)
+among_either (q ∷ ps) qs p (inr h) = elim (among_either ps qs p h) [ inl a ↦ inl (inr a) | inr b ↦ inr b ]
+
+demands_both : (first rest : List Pair) (name : List ℕ) (d : Demand) → PairsDemand (first ++ rest) name d ↔ (PairsDemand first name d ⊎ PairsDemand rest name d)
+demands_both first rest name d = (
+  λ h. elim (among_either first rest h.0 h.1) [ inl a ↦ inl (h.0, a, h.2) | inr b ↦ inr (h.0, b, h.2) ],
+  λ h. elim h [ inl a ↦ (a.0, among_left first rest a.0 a.1, a.2) | inr b ↦ (b.0, among_right first rest b.0 b.1, b.2) ],
+)
+
+-- what inputs demand is what their pairs demand
+pub gathered_pairs : (inputs : List Input) (ps : List Pair) (name : List ℕ) (d : Demand) → InputsGive inputs ps → Gathered inputs name d ↔ PairsDemand ps name d
+gathered_pairs [] ps name d g = (λ h. absurd h, λ h. nothing (subst (λ (l : List Pair). PairsDemand l name d) g h))
+  where
+    nothing : PairsDemand [] name d → ⊥
+    nothing h = h.1
+gathered_pairs (i ∷ inputs) ps name d g =
+    let own = bytes_demand i.kind i.bytes.items g.0 name d g.2 in
+    let others = gathered_pairs inputs g.1 name d g.3 in
+    let both = demands_both g.0 g.1 name d in (
+      λ h. subst (λ (l : List Pair). PairsDemand l name d) (sym g.4) (both.1 (elim h [ inl a ↦ inl (own.0 a) | inr b ↦ inr (others.0 b) ])),
+      λ h. elim (both.0 (subst (λ (l : List Pair). PairsDemand l name d) g.4 h)) [ inl a ↦ inl (own.1 a) | inr b ↦ inr (others.1 b) ],
+    )
+
+-- ---- the clauses on one name
+
+same_name : (x y : List ℕ) → bytes_eq x y ≡ true → x ≡ y
+same_name x y e = (bytes_eq-Decides x y).0 e
+
+name_same : (x y : List ℕ) → x ≡ y → bytes_eq x y ≡ true
+name_same x y e = (bytes_eq-Decides x y).1 e
+
+and_both : (a b : Bool) → a ≡ true → b ≡ true → (a && b) ≡ true
+and_both a b e f = rw (e, f) refl
+
+-- a test that all clauses on a name pass is passed by each pair of that name
+pub all_told : (f : Clause → Bool) (name : List ℕ) (ps : List Pair) → list_all f (clauses_on name ps) ≡ true → (p : Pair) → Among ps p → name ≡ p.0 → f p.1 ≡ true
+all_told f name [] h p a e = absurd a
+all_told f name (q ∷ ps) h p a e = by (bytes_eq q.0 name) refl a (λ rest b. all_told f name ps rest p b e)
+  where
+    by : (b : Bool) → bytes_eq q.0 name ≡ b → Among (q ∷ ps) p → (list_all f (clauses_on name ps) ≡ true → Among ps p → f p.1 ≡ true) → f p.1 ≡ true
+    by true at (inl s) rest = let all : (f q.1 && list_all f (clauses_on name ps)) ≡ true = rw at at h in ap (λ (r : Pair). f r.1) s ∙ and_first _ _ all
+    by true at (inr b) rest = let all : (f q.1 && list_all f (clauses_on name ps)) ≡ true = rw at at h in rest (and_second _ _ all) b
+    by false at (inl s) rest = let found : true ≡ false = sym (name_same q.0 name (sym (e ∙ ap (λ (r : Pair). r.0) s))) ∙ at in cc found
+    by false at (inr b) rest = rest (rw at at h) b
+
+pub all_from_pairs : (f : Clause → Bool) (name : List ℕ) (ps : List Pair) → ((p : Pair) → Among ps p → name ≡ p.0 → f p.1 ≡ true) → list_all f (clauses_on name ps) ≡ true
+all_from_pairs f name [] h = refl
+all_from_pairs f name (q ∷ ps) h = by (bytes_eq q.0 name) refl (all_from_pairs f name ps (λ p a e. h p (inr a) e))
+  where
+    by : (b : Bool) → bytes_eq q.0 name ≡ b → list_all f (clauses_on name ps) ≡ true → list_all f (clauses_on name (q ∷ ps)) ≡ true
+    by true at rest = rw at (and_both _ _ (h q (inl refl) (sym (same_name q.0 name at))) rest)
+    by false at rest = rw at rest
+
+-- a name with a clause has a pair, and the other way round
+pub some_pair : (name : List ℕ) (ps : List Pair) (c : Clause) (cs : List Clause) → clauses_on name ps ≡ c ∷ cs → (p : Pair) × Among ps p × (name ≡ p.0)
+some_pair name [] c cs e = cc e
+some_pair name (q ∷ ps) c cs e = by (bytes_eq q.0 name) refl (some_pair name ps c cs)
+  where
+    by : (b : Bool) → bytes_eq q.0 name ≡ b → (clauses_on name ps ≡ c ∷ cs → (p : Pair) × Among ps p × (name ≡ p.0)) → (p : Pair) × Among (q ∷ ps) p × (name ≡ p.0)
+    by true at rest = (q, inl refl, sym (same_name q.0 name at))
+    by false at rest = let more = rest (rw at at e) in (more.0, inr more.1, more.2)
+
+pub some_clause : (name : List ℕ) (ps : List Pair) (p : Pair) → Among ps p → name ≡ p.0 → clauses_on name ps ≢ []
+some_clause name [] p a e h = absurd a
+some_clause name (q ∷ ps) p a e h = by (bytes_eq q.0 name) refl a (λ b. some_clause name ps p b e)
+  where
+    by : (b : Bool) → bytes_eq q.0 name ≡ b → Among (q ∷ ps) p → (Among ps p → clauses_on name ps ≢ []) → ⊥
+    by true at a rest = cc (rw at at h)
+    by false at (inl s) rest = let found : true ≡ false = sym (name_same q.0 name (sym (e ∙ ap (λ (r : Pair). r.0) s))) ∙ at in cc found
+    by false at (inr b) rest = rest b (rw at at h)
+
+pub plain_among : (ps : List Pair) (p : Pair) → AllByRecursion IsPlainPair ps → Among ps p → IsPlainPair p
+plain_among [] p h a = absurd a
+plain_among (q ∷ ps) p h (inl e) = subst IsPlainPair (sym e) h.0
+plain_among (q ∷ ps) p h (inr b) = plain_among ps p h.1 b

@@ -1,0 +1,11 @@
+pub mod Appended
+pub mod Refusals
+pub mod RunLemmas
+pub mod LineLemmas
+pub mod GatherLemmas
+pub mod ListLemmas
+pub mod DemandLemmas
+pub mod TableLemmas
+pub mod PrintLemmas
+pub mod VerdictLemmas
+pub mod MergeLemmas

@@ -1,0 +1,30 @@
+-- What merging inputs gives.
+use Rattle.std.specs.Prelude.{ℕ, ⊤, List, Any, All, IfSome}
+use Rattle.pep_table.specs.declared.verdict.Verdict.{Verdict}
+use Rattle.pep_table.specs.Demand.{Demands}
+use Rattle.pep_table.specs.Table.{HasExactPoints, TableParts, IsTable, entry_at}
+use Rattle.pep_table.specs.TableText.{IsTableText, Shows}
+use Rattle.pep_table.specs.Verdict.{IsVerdict}
+use Rattle.pep_tool.specs.declared.fault.Cause.{Cause}
+use Rattle.pep_tool.specs.declared.fault.Cause.TheVariants.{NoMemory}
+use Rattle.pep_tool.specs.declared.input.Input.{Input}
+use Rattle.pep_tool.specs.Gathered.{IsAccepted, Gathered}
+
+-- The verdict that is printed for each name is the verdict on all demands on it: `none` exactly if no version meets
+-- them all.
+abbrev pub ShowsVerdicts : Demands → TableParts → Type 0
+ShowsVerdicts Q t = (name : List ℕ) → IfSome (entry_at t name) (λ e. (w : Verdict) → Shows e w → IsVerdict (Q name) w)
+
+-- every input is accepted, and this is the text of the table of all that they demand
+pub record IsMerge (inputs : List Input) (x : List ℕ) : Type 0 where
+  pub accepted : All IsAccepted inputs
+  pub table : TableParts
+  pub is_table : IsTable (Gathered inputs) table
+  pub points : HasExactPoints (Gathered inputs) table
+  pub text : IsTableText table x
+  pub verdicts : ShowsVerdicts (Gathered inputs) table
+
+-- A refusal means that some input isn't accepted. Want of memory means nothing.
+abbrev pub MeansRefused : List Input → Cause → Type 0
+MeansRefused inputs NoMemory = ⊤
+MeansRefused inputs fault = Any (λ i. ¬ IsAccepted i) inputs

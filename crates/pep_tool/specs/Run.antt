@@ -1,0 +1,69 @@
+-- What a run of the program does to its streams.
+use Rattle.std.specs.Prelude.{◌≡◌, ◌⊎◌, ℕ, ◌<◌, IsTrue, false, List, [], ◌∷◌, Option, codes}
+use Rattle.std.specs.Io.KnownBytes.{Appends, Consumes, IsAtEnd}
+use Rattle.pep_tool.specs.declared.fault.Cause.TheVariants as cause
+use Rattle.pep_tool.specs.declared.fault.Fault.{Fault}
+use Rattle.pep_tool.specs.declared.fault.Place.TheVariants as place
+use Rattle.pep_tool.specs.declared.input.Input.{Input}
+use Rattle.pep_tool.specs.declared.input.Kind.TheVariants as kind
+use Rattle.pep_tool.specs.Device.{Device}
+use Rattle.pep_tool.specs.FaultLine.{fault_line}
+use Rattle.pep_tool.specs.Merge.{IsMerge, MeansRefused}
+
+-- want of memory, which has no place
+abbrev pub no_memory : Fault
+no_memory = record { place = place.Nowhere; cause = cause.NoMemory }
+
+-- reading the input failed
+abbrev pub read_fault : Fault
+read_fault = record { place = place.Input 1; cause = cause.ReadFault }
+
+-- writing the table failed
+abbrev pub write_fault : Fault
+write_fault = record { place = place.Nowhere; cause = cause.WriteFault }
+
+-- Of a source that tells its bytes: all that was left was read, and this is the text of the table of these bytes, as
+-- one list.
+pub record MergesInput (left after : Option (List ℕ)) (text : List ℕ) : Type 0 where
+  pub input : Input
+  pub is_list : input.kind ≡ kind.List
+  pub reads : Consumes left after input.bytes.items
+  pub whole : IsAtEnd after
+  pub merges : IsMerge (input ∷ []) text
+
+-- .. and that text was written to a sink that tells its bytes
+pub record PrintsMerge (left after written printed : Option (List ℕ)) : Type 0 where
+  pub text : List ℕ
+  pub merges : MergesInput left after text
+  pub writes : Appends written printed text
+
+-- the bytes that were read are refused, as one list
+pub record RefusesInput (left after : Option (List ℕ)) (fault : Fault) : Type 0 where
+  pub input : Input
+  pub is_list : input.kind ≡ kind.List
+  pub reads : Consumes left after input.bytes.items
+  pub refuses : MeansRefused (input ∷ []) fault.cause
+
+-- Why the program refuses with this fault, where so many words were given: there are words, memory is wanting, the
+-- input failed, the output failed, or what was read is refused.
+pub data Refuses (words : ℕ) (left after : Option (List ℕ)) (input output : Device) (fault : Fault) : Type 0 where
+  by_words : 0 < words → fault_line fault ≡ codes "refused code 61\n" → Refuses words left after input output fault
+  by_memory : fault ≡ no_memory → Refuses words left after input output fault
+  by_input : IsTrue input.failed → fault ≡ read_fault → Refuses words left after input output fault
+  by_output : IsTrue output.failed → fault ≡ write_fault → Refuses words left after input output fault
+  by_bytes : RefusesInput left after fault → Refuses words left after input output fault
+
+-- of a sink that tells its bytes: where it hasn't failed, the line was written
+abbrev pub WritesLine : List ℕ → Option (List ℕ) → Option (List ℕ) → Device → Type 0
+WritesLine line written told sink = sink.failed ≡ false → Appends written told line
+
+-- the line of the fault was written, or that of want of memory
+abbrev pub Tells : Fault → Option (List ℕ) → Option (List ℕ) → Device → Type 0
+Tells fault written told sink =
+    WritesLine (fault_line fault) written told sink ⊎ WritesLine (fault_line no_memory) written told sink
+
+-- the line of a fault was written, with which the program refuses
+pub record TellsRefusal (words : ℕ) (left after : Option (List ℕ)) (input output : Device) (written told : Option (List ℕ)) (sink : Device) : Type 0 where
+  pub fault : Fault
+  pub refuses : Refuses words left after input output fault
+  pub line : WritesLine (fault_line fault) written told sink

@@ -1,0 +1,15 @@
+//! What is merged.
+
+/// The kind of an input.
+#[derive(Clone, Copy, Debug, PartialEq, Eq)]
+pub enum Kind {
+    /// A list of requirements, one a line.
+    List,
+}
+
+/// An input: its kind and its bytes.
+#[derive(Debug, Drop)]
+pub struct Input {
+    pub kind: Kind,
+    pub bytes: Vec<u8>,
+}

@@ -1,0 +1,25 @@
+//! Laws of the definitions.
+
+ghost use Rattle.std.specs.Prelude.{◌≡◌, ℕ, List};
+ghost use Rattle.pep_require.specs.Requirement.{RequirementParts};
+ghost use Rattle.pep_table.specs.Demand.{HaveSameDemands};
+ghost use Rattle.pep_tool.specs.declared.input.Input.{Input};
+ghost use Rattle.pep_tool.specs.Gathered.{Gathered};
+ghost use Rattle.pep_tool.specs.Line.{ReadsLine};
+ghost use Rattle.pep_tool.specs.Lists.{IsListOf};
+ghost use Rattle.pep_tool.specs.Merge.{IsMerge};
+
+/// Inputs that demand the same have one text, whatever the order, the grouping and the repeats of their lines.
+pub fn one_text()
+    ensures { (a b : List Input) (x y : List ℕ) → IsMerge a x → IsMerge b y → HaveSameDemands (Gathered a) (Gathered b) → x ≡ y }
+{}
+
+/// A line is one requirement at most.
+pub fn one_line()
+    ensures { (x : List ℕ) (r q : RequirementParts) → ReadsLine x r → ReadsLine x q → r ≡ q }
+{}
+
+/// Bytes are one list of requirements at most.
+pub fn one_list()
+    ensures { (bytes : List ℕ) (rs qs : List RequirementParts) → IsListOf bytes rs → IsListOf bytes qs → rs ≡ qs }
+{}

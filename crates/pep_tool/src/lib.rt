@@ -1,0 +1,22 @@
+//! Merging lists of Python requirements into one table by package.
+#![tactic(auto)]
+
+mod device;
+mod fault;
+mod input;
+pub mod laws;
+mod line;
+mod list;
+mod merge;
+mod print;
+mod program;
+mod runs;
+mod sets;
+mod write;
+
+pub use crate::device::{Bytes, Counted, Failed, Sink, Source};
+pub use crate::fault::{Cause, Fault, LineFault, Place};
+pub use crate::input::{Input, Kind};
+pub use crate::merge::merge_bytes;
+pub use crate::program::run;
+pub use crate::write::write_text;

@@ -1,0 +1,162 @@
+//! The program, but for its streams.
+
+ghost use Rattle.std.specs.Prelude.{◌≡◌, ◌⊎◌, ◌≤◌, ◌+◌, ◌<◌, ◌↔◌, IfOk, IfErr, OnOk, OnErr, IsErrOf, IsTrue, false, length, string_bytes};
+ghost use Rattle.std.specs.Io.KnownBytes.{Consumes, IsAtEnd, Keeps};
+ghost use Rattle.pep_tool.specs.Device.{Device, IsFresh};
+ghost use Rattle.pep_tool.specs.Lists.{input_limit};
+ghost use Rattle.pep_tool.specs.Run.{MergesInput, PrintsMerge, Refuses, Tells, TellsRefusal, WritesLine, no_memory, read_fault};
+
+use crate::device::{Sink, Source};
+use crate::fault::{Cause, Fault, Place};
+use crate::input::{Input, Kind};
+use crate::merge::merge_bytes;
+use crate::write::write_text;
+use std::alloc::Global;
+use std::rt::Files;
+
+// How many bytes are asked for at once.
+const PIECE: usize = 65_536;
+
+// How many bytes of an input are read: one more than it may have.
+const READ_LIMIT: usize = 16_777_217;
+
+// What is told where no memory is left for the line of a fault.
+const NO_MEMORY_LINE: &str = "refused code 60\n";
+
+/// The program, but for its streams: merges the input as one list, and answers the exit status.
+///
+/// Without words it reads the whole input, at most 16,777,217 bytes of it, and then writes the text of the table to
+/// `output`, status 0. Any refusal is status 2, with the line of [`Fault::text`] on `faults` and nothing on `output`
+/// but where writing there failed: 61 for any word, 58 where reading failed, which lies in input 1 and comes before any
+/// fault of the bytes, 60 for want of memory, the refusals of [`merge_bytes`], and 63 where writing failed. A failure
+/// to write to `faults` changes nothing.
+pub fn run<R: Files + AllocGlobal, I: Source, O: Sink, F: Sink>(
+    rt: &R,
+    words: &[String],
+    input: &mut I,
+    output: &mut O,
+    faults: &mut F,
+) -> u8
+    requires input { IsFresh (I.device input.old) }
+    requires output { IsFresh (O.device output.old) }
+    requires faults { IsFresh (F.device faults.old) }
+    ensures status { (result ≡ 0) ⊎ (result ≡ 2) }
+    ensures words { 0 < length words.now → result ≡ 2 }
+
+    // At status 0 the table of the whole input was printed, and nothing was told.
+    ensures printed { result ≡ 0
+        → PrintsMerge (I.left input.old) (I.left input.new) (O.written output.old) (O.written output.new) }
+    ensures no_failure { result ≡ 0
+        → ((I.device input.new).failed ≡ false) × ((O.device output.new).failed ≡ false) }
+    ensures quiet { result ≡ 0 → Keeps (F.written faults.old) (F.written faults.new) }
+
+    // At status 2 a fault was told, and nothing was printed.
+    ensures told { result ≡ 2
+        → TellsRefusal (length words.now) (I.left input.old) (I.left input.new) (I.device input.new)
+        (O.device output.new) (F.written faults.old) (F.written faults.new) (F.device faults.new) }
+    ensures silent { result ≡ 2 → (O.device output.new).failed ≡ false
+        → Keeps (O.written output.old) (O.written output.new) }
+{
+    match print_merge(rt.alloc(), words, input, output) {
+        Ok(()) => 0,
+        Err(fault) => {
+            tell(rt.alloc(), &fault, faults);
+            2
+        }
+    }
+}
+
+// Writes the table of the input.
+fn print_merge<I: Source, O: Sink>(
+    alloc: Global,
+    words: &[String],
+    input: &mut I,
+    output: &mut O,
+) -> Result<(), Fault>
+    requires input { IsFresh (I.device input.old) }
+    requires output { IsFresh (O.device output.old) }
+    ensures words { OnOk result (length words.now ≡ 0) }
+    ensures no_failure { OnOk result
+        (((I.device input.new).failed ≡ false) × ((O.device output.new).failed ≡ false)) }
+    ensures printed { OnOk result
+        (PrintsMerge (I.left input.old) (I.left input.new) (O.written output.old) (O.written output.new)) }
+    ensures refused { IfErr result
+        (Refuses (length words.now) (I.left input.old) (I.left input.new) (I.device input.new)
+        (O.device output.new)) }
+    ensures silent { OnErr result
+        ((O.device output.new).failed ≡ false → Keeps (O.written output.old) (O.written output.new)) }
+{
+    if !words.is_empty() {
+        return Err(Fault {
+            place: Place::Nowhere,
+            cause: Cause::BadWords(String::new(alloc)),
+        });
+    }
+    let text = merge_input(alloc, input)?;
+    write_text(output, text.as_str())
+}
+
+// The text of the table of the input.
+fn merge_input<S: Source>(alloc: Global, source: &mut S) -> Result<String, Fault>
+    requires { IsFresh (S.device source.old) }
+    ensures merged { IfOk result
+        (λ text. MergesInput (S.left source.old) (S.left source.new) (string_bytes text)) }
+    ensures no_failure { OnOk result ((S.device source.new).failed ≡ false) }
+    ensures refused { IfErr result (λ fault. (output : Device)
+        → Refuses 0 (S.left source.old) (S.left source.new) (S.device source.new) output fault) }
+{
+    let bytes = read_all(alloc, source)?;
+    let inputs = [Input {
+        kind: Kind::List,
+        bytes,
+    }];
+    merge_bytes(alloc, &inputs)
+}
+
+// The bytes of the input, and no more than the limit and one.
+fn read_all<S: Source>(alloc: Global, source: &mut S) -> Result<Vec<u8>, Fault>
+    requires { IsFresh (S.device source.old) }
+    ensures bytes { IfOk result (λ bytes. Consumes (S.left source.old) (S.left source.new) bytes.items) }
+    ensures whole { IfOk result (λ bytes. length bytes.items ≤ input_limit → IsAtEnd (S.left source.new)) }
+    ensures bound { IfOk result (λ bytes. length bytes.items ≤ input_limit + 1) }
+    ensures calls { (S.device source.new).calls ≤ input_limit + 1 }
+    ensures failed { IsTrue (S.device source.new).failed ↔ IsErrOf result read_fault }
+    ensures faults { IfErr result (λ fault. (fault ≡ read_fault) ⊎ (fault ≡ no_memory)) }
+{
+    let mut buffer = [0u8; PIECE];
+    let mut bytes = Vec::new(alloc);
+    while bytes.len() < READ_LIMIT {
+        let room = PIECE.min(READ_LIMIT - bytes.len());
+        let piece = &mut buffer[..room];
+        match source.pull(piece) {
+            Ok(0) => return Ok(bytes),
+            Ok(count) => bytes.extend_from_slice(&piece[..count])?,
+            Err(_) => {
+                return Err(Fault {
+                    place: Place::Input(1),
+                    cause: Cause::ReadFault,
+                });
+            }
+        }
+    }
+    Ok(bytes)
+}
+
+// Writes the line of a fault, or that of want of memory where there is none for it.
+fn tell<F: Sink>(alloc: Global, fault: &Fault, faults: &mut F)
+    requires { IsFresh (F.device faults.old) }
+    ensures { Tells fault.now (F.written faults.old) (F.written faults.new) (F.device faults.new) }
+{
+    match fault.text(alloc) {
+        Ok(text) => tell_line(faults, text.as_str()),
+        Err(_) => tell_line(faults, NO_MEMORY_LINE),
+    }
+}
+
+// Writes a line as far as the sink takes it.
+fn tell_line<F: Sink>(faults: &mut F, line: &str)
+    requires { IsFresh (F.device faults.old) }
+    ensures { WritesLine line.now (F.written faults.old) (F.written faults.new) (F.device faults.new) }
+{
+    let _ = write_text(faults, line);
+}

@@ -1,0 +1,51 @@
+//! What the lines read so far demand: for each name the versions that all clauses on it admit.
+
+ghost use Rattle.std.specs.Prelude.{◌≡◌, [], ◌∷◌, None, IfErr, IfOk, OnOk};
+ghost use Rattle.pep_clause.specs.Clause.{demanded_text};
+ghost use Rattle.pep_tool.specs.Run.{no_memory};
+ghost use Rattle.pep_tool.specs.Sets.{Folds, Gathers, Meets};
+
+use crate::fault::Fault;
+use crate::line::Line;
+use pep_clause::{Clause, VersionSet};
+use std::alloc::Global;
+use std::collections::BTreeMap;
+
+/// The names in byte order, each with the versions that all clauses on it admit.
+pub(crate) type Sets = BTreeMap<String, VersionSet>;
+
+fn set_of(alloc: Global, clause: &Clause) -> Result<VersionSet, Fault>
+    ensures ok { IfOk result (Folds None clause.now) }
+    ensures faults { IfErr result (λ fault. fault ≡ no_memory) }
+{
+    match VersionSet::of(alloc, clause) {
+        Ok(set) => Ok(set),
+        Err(_) => Err(Fault::no_memory()),
+    }
+}
+
+fn both(alloc: Global, kept: &VersionSet, set: &VersionSet) -> Result<VersionSet, Fault>
+    ensures ok { IfOk result (Meets kept.now set.now) }
+    ensures faults { IfErr result (λ fault. fault ≡ no_memory) }
+{
+    match kept.joined(alloc, set) {
+        Ok(both) => Ok(both),
+        Err(_) => Err(Fault::no_memory()),
+    }
+}
+
+/// Takes the clause of a line into the entry of its name.
+pub(crate) fn gather(alloc: Global, sets: &mut Sets, line: &Line) -> Result<(), Fault>
+    requires { demanded_text line.now.clause ≡ None }
+    ensures ok { OnOk result (Gathers sets.old ((line.now.name, line.now.clause) ∷ []) sets.new) }
+    ensures faults { IfErr result (λ fault. fault ≡ no_memory) }
+{
+    let set = set_of(alloc, &line.clause)?;
+    let name = line.name.text();
+    if let Some(kept) = sets.get_mut(name) {
+        *kept = both(alloc, kept, &set)?;
+        return Ok(());
+    }
+    sets.insert(String::from_str(alloc, name)?, set)?;
+    Ok(())
+}

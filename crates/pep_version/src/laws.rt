@@ -1,0 +1,35 @@
+//! Laws of the definitions.
+
+ghost use Rattle.std.specs.Prelude.{◌≡◌, ◌<◌, ◌↔◌, ℕ, List, length};
+ghost use Rattle.std.specs.Cmp.{IsTotalOrder};
+ghost use Rattle.pep_version.specs.Order.{Same, place_of, version_cmp};
+ghost use Rattle.pep_version.specs.Release.{SpellsRelease, release_version};
+ghost use Rattle.pep_version.specs.Spelling.{SpellsAny};
+ghost use Rattle.pep_version.specs.Text.{normal_text};
+ghost use Rattle.pep_version.specs.Version.{IsVersion, Version};
+
+/// Versions are in a total order.
+#[tactic(auto, using(crate::specs::Laws::version_total))]
+pub fn order_is_total()
+    ensures { IsTotalOrder version_cmp }
+{}
+
+/// Two versions are the same in order exactly if they have one place.
+pub fn one_place()
+    ensures { (v w : Version) → 0 < length v.release → 0 < length w.release → Same v w ↔ (place_of v ≡ place_of w) }
+{}
+
+/// A text spells at most one version.
+pub fn one_version()
+    ensures { (text : List ℕ) (v w : Version) → SpellsAny text v → SpellsAny text w → v ≡ w }
+{}
+
+/// A release that is read is a spelling by the whole grammar.
+pub fn release_is_a_spelling()
+    ensures { (text : List ℕ) (v : Version) → SpellsRelease text v → SpellsAny text v }
+{}
+
+/// The normal text of a release is a spelling of it.
+pub fn text_is_read()
+    ensures { (v : Version) → IsVersion v → v ≡ release_version v.release → SpellsRelease (normal_text v) v }
+{}

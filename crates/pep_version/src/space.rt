@@ -1,0 +1,43 @@
+// White space at the ends of a text.
+
+ghost use Rattle.std.specs.Prelude.{◌≡◌};
+ghost use Rattle.pep_version.specs.Spelling.{is_white_space, trimmed, without_leading_space, without_trailing_space};
+
+fn is_white_space(b: u8) -> bool
+    ensures { result ≡ is_white_space b }
+{
+    matches!(b, b' ' | b'\t'..=b'\r')
+}
+
+fn without_leading_space(text: &[u8]) -> &[u8]
+    ensures { result.now ≡ without_leading_space text.now }
+{
+    let mut rest = text;
+    while let [first, others @ ..] = rest {
+        if !is_white_space(*first) {
+            break;
+        }
+        rest = others;
+    }
+    rest
+}
+
+fn without_trailing_space(text: &[u8]) -> &[u8]
+    ensures { result.now ≡ without_trailing_space text.now }
+{
+    let mut rest = text;
+    while let [others @ .., last] = rest {
+        if !is_white_space(*last) {
+            break;
+        }
+        rest = others;
+    }
+    rest
+}
+
+/// The text without white space at both ends.
+pub(crate) fn trimmed(text: &[u8]) -> &[u8]
+    ensures { result.now ≡ trimmed text.now }
+{
+    without_trailing_space(without_leading_space(text))
+}

@@ -1,0 +1,148 @@
+use super::*;
+use std::alloc::Global;
+use std::cmp::Ordering;
+use std::hash::{DefaultHasher, Hash, Hasher};
+use std::test::*;
+
+fn normal(alloc: Global, text: &str) -> Result<String, VersionFault> {
+    Version::read(alloc, text)?.text(alloc)
+}
+
+fn key(alloc: Global, text: &str) -> Result<Key, VersionFault> {
+    Key::of(alloc, &Version::read(alloc, text)?)
+}
+
+fn hash_of(key: &Key) -> u64 {
+    let mut state = DefaultHasher::new();
+    key.hash(&mut state);
+    state.finish()
+}
+
+#[test]
+fn reads_releases(rt: HostRuntime) -> Result<(), Fail> {
+    for (text, want) in [
+        ("1.2", "1.2"),
+        ("01.002", "1.2"),
+        ("0", "0"),
+        ("1.0.0", "1.0.0"),
+        (" \t\n\u{b}\u{c}\r1.0 \t\n\u{b}\u{c}\r", "1.0"),
+        ("1.18446744073709551615", "1.18446744073709551615"),
+    ] {
+        let found = normal(rt.alloc(), text)?;
+        assert_eq!(rt; found.as_str(), want, "at {text}");
+    }
+    Ok(())
+}
+
+#[test]
+fn refuses_texts(rt: HostRuntime) {
+    for text in ["", " ", "1..0", "1.", ".1", "1.0a1", "é", "1. 0", "1\u{a0}"] {
+        assert_eq!(rt;
+            Version::read(rt.alloc(), text).err(),
+            Some(VersionFault::NotAVersion),
+            "at {text}"
+        );
+    }
+    for text in [
+        "18446744073709551616",
+        "1.18446744073709551616",
+        "100000000000000000000.1",
+    ] {
+        assert_eq!(rt;
+            Version::read(rt.alloc(), text).err(),
+            Some(VersionFault::NumberTooLarge),
+            "at {text}"
+        );
+    }
+}
+
+#[test]
+fn orders_releases(rt: HostRuntime) -> Result<(), Fail> {
+    let texts = [
+        "0",
+        "0.0.1",
+        "0.9",
+        "0.10",
+        "1",
+        "1.0.1",
+        "1.1",
+        "2.0",
+        "18446744073709551615",
+    ];
+    for i in 0..texts.len() - 1 {
+        let (low, high) = (key(rt.alloc(), texts[i])?, key(rt.alloc(), texts[i + 1])?);
+        assert_eq!(rt; low.cmp(&high), Ordering::Less, "at {i}");
+        assert_eq!(rt; high.partial_cmp(&low), Some(Ordering::Greater), "at {i}");
+        assert!(rt; low != high);
+    }
+    let (short, long) = (key(rt.alloc(), "0")?, key(rt.alloc(), "0.0.0")?);
+    assert!(rt; short == long);
+    assert_eq!(rt; hash_of(&short), hash_of(&long));
+    assert_eq!(rt;
+        hash_of(&key(rt.alloc(), "1.0")?),
+        hash_of(&key(rt.alloc(), "1")?)
+    );
+    Ok(())
+}
+
+#[test]
+fn keeps_parts(rt: HostRuntime) -> Result<(), Fail> {
+    let release = Vec::from_slice(rt.alloc(), &[2, 0])?;
+    let mut label = Vec::new(rt.alloc());
+    label.push(Label::Word(String::from_str(rt.alloc(), "a0")?))?;
+    label.push(Label::Number(7))?;
+    let version = Version::of_parts(
+        1,
+        release,
+        Some((Phase::Rc, 3)),
+        Some(4),
+        Some(5),
+        label,
+    ).expect(&rt, "a version");
+    assert_eq!(rt; version.epoch(), 1);
+    assert_eq!(rt; version.release(), [2, 0].as_slice());
+    assert_eq!(rt; version.pre(), Some((Phase::Rc, 3)));
+    assert_eq!(rt; version.post(), Some(4));
+    assert_eq!(rt; version.dev(), Some(5));
+    assert_eq!(rt; version.label().len(), 2);
+    assert!(rt; version.is_pre());
+    let copy = version.copied(rt.alloc())?;
+    let text = copy.text(rt.alloc())?;
+    assert_eq!(rt; text.as_str(), "1!2.0rc3.post4.dev5+a0.7");
+    let place = Key::of(rt.alloc(), &version)?.copied(rt.alloc())?;
+    let text = place.version(rt.alloc())?.text(rt.alloc())?;
+    assert_eq!(rt; text.as_str(), "1!2rc3.post4.dev5+a0.7");
+    Ok(())
+}
+
+#[test]
+fn refuses_parts(rt: HostRuntime) -> Result<(), Fail> {
+    let empty = Version::of_parts(
+        0,
+        Vec::new(rt.alloc()),
+        None,
+        None,
+        None,
+        Vec::new(rt.alloc()),
+    );
+    assert!(rt; empty.is_none());
+    for word in ["", "1", "A", "a-b", "é"] {
+        let release = Vec::from_slice(rt.alloc(), &[1])?;
+        let mut label = Vec::new(rt.alloc());
+        label.push(Label::Word(String::from_str(rt.alloc(), word)?))?;
+        assert!(rt;
+            Version::of_parts(0, release, None, None, None, label).is_none(),
+            "at {word}"
+        );
+    }
+    Ok(())
+}
+
+#[test]
+fn states_laws() {
+    laws::order_is_total();
+    laws::one_place();
+    laws::one_version();
+    laws::release_is_a_spelling();
+    laws::text_is_read();
+}

@@ -1,0 +1,268 @@
+// A version, and its parts.
+
+ghost use Rattle.std.specs.Prelude.{◌≡◌, ◌↔◌, map, refl, string_bytes, IfErr, IfOk, IfSome, IsSome, IsTrue};
+ghost use Rattle.std.specs.Char.{is_ascii_lowercase};
+ghost use Rattle.std.specs.List.{All, list_all, list_any};
+ghost use Rattle.pep_version.specs.Release.{ReadsRelease};
+ghost use Rattle.pep_version.specs.Text.{normal_text};
+ghost use Rattle.pep_version.specs.Version.{IsSegment, IsVersion, SegmentFits, is_pre_release, is_word, is_word_byte};
+ghost use Rattle.pep_version.specs.View.{segment_of, version_of};
+
+use crate::fault::VersionFault;
+use crate::parts::{Label, Phase};
+use crate::release::{is_release, release_numbers};
+use crate::space::trimmed;
+use crate::writing::{push_dev, push_epoch, push_label, push_post, push_pre, push_release};
+use std::alloc::Global;
+use std::marker::Model;
+
+/// A Python version (PEP 440): an epoch, a release, and the parts that may follow the release. Each number is
+/// at most 18446744073709551615.
+#[derive(Drop)]
+pub struct Version {
+    epoch: u64,
+    release: Vec<u64>,
+    pre: Option<(Phase, u64)>,
+    post: Option<u64>,
+    dev: Option<u64>,
+    label: Vec<Label>,
+}
+
+impl Model for Version {
+    ghost use Rattle.pep_version.specs.Version.{IsVersion, Version};
+    ghost use Rattle.pep_version.specs.View.{version_of};
+
+    ghost Value = { Version };
+
+    ghost view = { λ a. version_of a.epoch a.release a.pre a.post a.dev a.label };
+
+    ghost invariant = { λ a. IsVersion (version_of a.epoch a.release a.pre a.post a.dev a.label) };
+}
+
+fn is_word_byte(b: u8) -> bool
+    ensures { result ≡ is_word_byte b }
+{
+    b.is_ascii_lowercase() || b.is_ascii_digit()
+}
+
+fn has_letter(word: &[u8]) -> bool
+    ensures { result ≡ list_any is_ascii_lowercase word.now }
+{
+    word.iter().any(u8::is_ascii_lowercase)
+}
+
+fn has_word_bytes(word: &[u8]) -> bool
+    ensures { result ≡ list_all is_word_byte word.now }
+{
+    word.iter().all(|b| is_word_byte(*b))
+}
+
+fn is_word(word: &[u8]) -> bool
+    ensures { result ≡ is_word word.now }
+{
+    has_word_bytes(word) && has_letter(word)
+}
+
+fn is_segment(segment: &Label) -> bool
+    ensures segment { IsTrue result ↔ IsSegment (segment_of segment.now) }
+    ensures fits { SegmentFits (segment_of segment.now) }
+{
+    match segment {
+        Label::Number(n) => {
+            let _number = *n;
+            true
+        }
+        Label::Word(word) => is_word(word.as_bytes()),
+    }
+}
+
+fn is_label(label: &[Label]) -> bool
+    ensures segments { IsTrue result ↔ All (λ s. IsSegment (segment_of s)) label.now }
+    ensures fits { IsTrue result → All (λ s. SegmentFits (segment_of s)) label.now }
+{
+    for segment in label {
+        if !is_segment(segment) {
+            return false;
+        }
+    }
+    true
+}
+
+fn segment_copied(alloc: Global, segment: &Label) -> Result<Label, VersionFault>
+    ensures ok { IfOk result (λ s. segment_of s ≡ segment_of segment.now) }
+    ensures faults { IfErr result (λ e. e ≡ VersionFault.NoMemory) }
+{
+    match segment {
+        Label::Number(n) => Ok(Label::Number(*n)),
+        Label::Word(word) => Ok(Label::Word(String::from_str(alloc, word.as_str())?)),
+    }
+}
+
+/// The same segments in storage of their own.
+pub(crate) fn label_copied(alloc: Global, label: &[Label]) -> Result<Vec<Label>, VersionFault>
+    ensures ok { IfOk result (λ l. map segment_of l.items ≡ map segment_of label.now) }
+    ensures faults { IfErr result (λ e. e ≡ VersionFault.NoMemory) }
+{
+    let mut copy = Vec::with_capacity(alloc, label.len())?;
+    for segment in label {
+        copy.push(segment_copied(alloc, segment)?)?;
+    }
+    Ok(copy)
+}
+
+impl Version {
+    /// The version that a text spells. For now only a release alone is read (PEP 440, "Final releases"): numbers
+    /// with a dot between each two, with white space at both ends allowed ("Leading and Trailing Whitespace").
+    ///
+    /// Another text is `NotAVersion`. A text that would be a release but for a number above
+    /// 18446744073709551615 is `NumberTooLarge`. A growth that is refused is `NoMemory`.
+    pub fn read(alloc: Global, text: &str) -> Result<Version, VersionFault>
+        ensures { ReadsRelease text.now result }
+    {
+        let text = trimmed(text.as_bytes());
+        if !is_release(text) {
+            return Err(VersionFault::NotAVersion);
+        }
+        let release = release_numbers(alloc, text)?;
+        Ok(Version {
+            epoch: 0,
+            release,
+            pre: None,
+            post: None,
+            dev: None,
+            label: Vec::new(alloc),
+        })
+    }
+
+    /// The version with these parts, which make one.
+    pub(crate) fn with_parts(
+        epoch: u64,
+        release: Vec<u64>,
+        pre: Option<(Phase, u64)>,
+        post: Option<u64>,
+        dev: Option<u64>,
+        label: Vec<Label>,
+    ) -> Version
+        requires { IsVersion (version_of epoch release pre post dev label) }
+        ensures { result ≡ version_of epoch release pre post dev label }
+    {
+        Version {
+            epoch,
+            release,
+            pre,
+            post,
+            dev,
+            label,
+        }
+    }
+
+    /// The version with these parts, where they make one (PEP 440, "Public version identifiers", "Local version
+    /// identifiers"): the release is not empty, and each word of the label is lower-case letters and digits
+    /// with a letter among them. Else `None`, and the parts are dropped.
+    pub fn of_parts(
+        epoch: u64,
+        release: Vec<u64>,
+        pre: Option<(Phase, u64)>,
+        post: Option<u64>,
+        dev: Option<u64>,
+        label: Vec<Label>,
+    ) -> Option<Version>
+        ensures exactly { IsSome result ↔ IsVersion (version_of epoch release pre post dev label) }
+        ensures parts { IfSome result (λ v. v ≡ version_of epoch release pre post dev label) }
+    {
+        if release.is_empty() || !is_label(&label) {
+            return None;
+        }
+        Some(Version {
+            epoch,
+            release,
+            pre,
+            post,
+            dev,
+            label,
+        })
+    }
+
+    /// The epoch, which is 0 where none is written (PEP 440, "Version epochs").
+    pub fn epoch(&self) -> u64
+        ensures { result ≡ self.now.epoch }
+    {
+        self.epoch
+    }
+
+    /// The release (PEP 440, "Final releases").
+    pub fn release(&self) -> &[u64]
+        ensures numbers { result.now ≡ self.now.release }
+        ensures version { IsVersion self.now }
+    {
+        self.release.as_slice()
+    }
+
+    /// The pre-release part (PEP 440, "Pre-releases").
+    pub fn pre(&self) -> Option<(Phase, u64)>
+        ensures { result ≡ self.now.pre }
+    {
+        self.pre
+    }
+
+    /// The post-release part (PEP 440, "Post-releases").
+    pub fn post(&self) -> Option<u64>
+        ensures { result ≡ self.now.post }
+    {
+        self.post
+    }
+
+    /// The developmental release part (PEP 440, "Developmental releases").
+    pub fn dev(&self) -> Option<u64>
+        ensures { result ≡ self.now.dev }
+    {
+        self.dev
+    }
+
+    /// The label, which is empty where there is none (PEP 440, "Local version identifiers").
+    pub fn label(&self) -> &[Label]
+        ensures { map segment_of result.now ≡ self.now.label }
+    {
+        self.label.as_slice()
+    }
+
+    /// Whether this is a pre-release: it has a pre-release part or a developmental release part (PEP 440,
+    /// "Handling of pre-releases").
+    pub fn is_pre(&self) -> bool
+        ensures { result ≡ is_pre_release self.now }
+    {
+        self.pre.is_some() || self.dev.is_some()
+    }
+
+    /// The normal text (PEP 440, "Normalization"). The only fault is `NoMemory`.
+    pub fn text(&self, alloc: Global) -> Result<String, VersionFault>
+        ensures normal { IfOk result (λ t. string_bytes t ≡ normal_text self.now) }
+        ensures faults { IfErr result (λ e. e ≡ VersionFault.NoMemory) }
+    {
+        let mut text = String::new(alloc);
+        push_epoch(&mut text, self.epoch)?;
+        push_release(&mut text, self.release.as_slice())?;
+        push_pre(&mut text, self.pre)?;
+        push_post(&mut text, self.post)?;
+        push_dev(&mut text, self.dev)?;
+        push_label(&mut text, self.label.as_slice())?;
+        Ok(text)
+    }
+
+    /// An equal version in storage of its own. The only fault is `NoMemory`.
+    pub fn copied(&self, alloc: Global) -> Result<Version, VersionFault>
+        ensures same { IfOk result (λ v. v ≡ self.now) }
+        ensures faults { IfErr result (λ e. e ≡ VersionFault.NoMemory) }
+    {
+        let release = Vec::from_slice(alloc, self.release.as_slice())?;
+        let label = label_copied(alloc, self.label.as_slice())?;
+        Ok(Version {
+            epoch: self.epoch,
+            release,
+            pre: self.pre,
+            post: self.post,
+            dev: self.dev,
+            label,
+        })
+    }
+}
