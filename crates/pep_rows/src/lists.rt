@@ -23,7 +23,7 @@ const FLASK: &str = "flask open\n  range before 2 to before 3.dev0\n";
 
 #[test]
 fn tables_of_one_list(rt: HostRuntime) -> Result<(), Fail> {
-    let rows: [(&[u8], &str); 12] = [
+    let rows: [(&[u8], &str); 13] = [
         (b"flask>=2.0\nFlask<3\n", FLASK),
         (b"flask>=2.0\nFlask<3", FLASK),
         (b"  flask \t>=\t 2.0 \r\n\r\n# x\n\t# y\r\nFlask<3\r", FLASK),
@@ -46,6 +46,10 @@ fn tables_of_one_list(rt: HostRuntime) -> Result<(), Fail> {
         (
             b"b>=1.1\na<2\nb<1.1",
             "a open\n  range before 0.dev0 to before 2.dev0\nb none\n",
+        ),
+        (
+            b"a>=V1\nA<0!02.0 ",
+            "a open\n  range before 1 to before 2.dev0\n",
         ),
         (
             b"a>=18446744073709551615\n",
@@ -79,7 +83,7 @@ fn tables_of_several_lists(rt: HostRuntime) -> Result<(), Fail> {
 
 #[test]
 fn refusals_of_the_first_line(rt: HostRuntime) -> Result<(), Fail> {
-    let rows: [(&[u8], &str); 29] = [
+    let rows: [(&[u8], &str); 33] = [
         (b">=1", "31"),
         (b"_a>=1", "31"),
         (b".>=1", "31"),
@@ -97,6 +101,10 @@ fn refusals_of_the_first_line(rt: HostRuntime) -> Result<(), Fail> {
         (b"a>=", "33 12"),
         (b"a>=x", "33 12"),
         (b"a>=1.0a1", "33 12"),
+        (b"a>=1.0.post1", "33 12"),
+        (b"a>=1.0.dev1", "33 12"),
+        (b"a>=1!1", "33 12"),
+        (b"a>=1+x", "33 12"),
         (b"a>=1..0", "33 12"),
         (b"a<,1", "33 12"),
         (b"a>=18446744073709551616", "33 16"),

@@ -1,19 +1,20 @@
 -- How a line is cut: the pieces of a line that is read are what a reader from left to right finds.
-use Rattle.std.proofs.Common.{◌≡◌, ◌≢◌, ℕ, ◌<◌, ◌≤◌, ◌⊎◌, ◌==◌, Bool, true, false, not, List, [], ◌∷◌, ◌++◌, length, length-drop, take, drop, ◌-◌, Option, Some, None, Err, refl, sym, ap, subst, ◌∙◌, arith, inl, inr}
+use Rattle.std.proofs.Common.{◌≡◌, ◌≢◌, ℕ, ◌<◌, ◌≤◌, ◌⊎◌, ◌==◌, Bool, true, false, not, List, [], ◌∷◌, ◌++◌, length, length-drop, take, drop, ◌-◌, Option, Some, None, Err, Ok, refl, sym, ap, subst, ◌∙◌, arith, inl, inr}
 use Rattle.std.specs.Prelude.{if◌then◌else◌, nat_eq, nat_lt}
 use Rattle.std.specs.List.{list_all, prefix_len, starts_with}
-use Rattle.std.specs.Str.{IsUtf8}
+use Rattle.std.specs.Str.{IsUtf8, str_to_ascii_lowercase}
 use Rattle.std.proofs.Math.Seq.{drop-append_seam}
 use Rattle.std.proofs.lemmas.Bool.Decides.{Decides-eqb, nat_tests}
 use Rattle.std.proofs.lemmas.List.{take-append-drop, take_all}
 use Rattle.std.proofs.lemmas.List.Folds.{length-prefix_len}
 use Rattle.std.proofs.lemmas.Slice.Eq.{starts_is}
 use Rattle.std.proofs.lemmas.Str.{IsUtf8-from_ascii}
-use Rattle.pep_version.specs.Release.{ReadsRelease, SpellsRelease, release_version}
-use Rattle.pep_version.specs.Spelling.{dotted_parts, is_number, trimmed}
-use Rattle.pep_version.specs.Version.{NumbersFit, Version}
+use Rattle.pep_version.specs.Spelling.{Reads, SpellsAny, dotted_parts, is_number, trimmed}
+use Rattle.pep_version.specs.Version.{Version}
+use Rattle.pep_version.specs.declared.fault.VersionFault.{VersionFault}
 use Rattle.pep_version.specs.declared.fault.VersionFault.TheVariants as version_fault
 use Rattle.pep_clause.specs.Clause.{Clause, begins_with, is_clause_byte, operator_of, operator_text}
+use Rattle.pep_clause.specs.Released.{IsRelease}
 use Rattle.pep_clause.specs.declared.fault.ClauseFault.TheVariants as clause_fault
 use Rattle.pep_clause.specs.declared.op.Op.{Op}
 use Rattle.pep_clause.specs.declared.op.Op.TheVariants as op
@@ -24,7 +25,7 @@ use Rattle.pep_require.specs.Reads.{line_limit}
 use Rattle.pep_require.specs.Requirement.{RequirementParts}
 use Rattle.pep_require.specs.declared.fault.RequireFault.{RequireFault}
 use Rattle.pep_require.specs.declared.fault.RequireFault.TheVariants as fault
-use Rattle.pep_tool.specs.Line.{IsOperand, ReadsBound, ReadsLine, ReadsVersion, RefusesBound, RefusesBoundAs, RefusesLine, RefusesLineAs, RefusesVersion, after_operator, after_version, clause_run, line_clause, plain_requirement}
+use Rattle.pep_tool.specs.Line.{IsOperand, ReadsBound, ReadsLine, ReadsVersion, RefusesBound, RefusesBoundAs, RefusesLine, RefusesLineAs, RefusesVersion, after_operator, after_version, clause_run, line_clause, plain_requirement, release_fault_of}
 use Rattle.pep_tool.proofs.RunLemmas.{and_first, and_second, all-rest, all-run, ascii-class, rest-all, rest-span, run-span}
 
 -- ---- classes of bytes
@@ -88,12 +89,19 @@ operator_shape x p h = (starts_is Decides-eqb x (operator_text p) (begins_with p
 
 -- ---- what stands behind the operator
 
--- a release is written with a byte at least
-some_run : (run : List ℕ) (v : Version) → SpellsRelease run v → run ≡ [] → ⊥
-some_run run v s e = no (subst (λ x. list_all is_number (dotted_parts (trimmed x)) ≡ true) e s.0.0)
+-- a version is written with a byte at least
+some_run : (run : List ℕ) (v : Version) → SpellsAny run v → run ≡ [] → ⊥
+some_run run v s e =
+    let pieces : [] ≡ s.preceding_v ++ (s.epoch ++ (s.release ++ (s.pre ++ (s.post ++ (s.dev ++ (s.label ++ [])))))) = ap (λ (x : List ℕ). str_to_ascii_lowercase (trimmed x)) (sym e) ∙ s.pieces in
+    none s.release _ (behind_none s.epoch _ (behind_none s.preceding_v _ (sym pieces))) s.release_is.0
   where
-    no : list_all is_number (dotted_parts (trimmed [])) ≡ true → ⊥
-    no h = cc h
+    behind_none : (x y : List ℕ) → x ++ y ≡ [] → y ≡ []
+    behind_none [] y h = h
+    behind_none (b ∷ x) y h = cc h
+
+    none : (release rest : List ℕ) → release ++ rest ≡ [] → list_all is_number (dotted_parts release) ≡ true → ⊥
+    none [] rest h g = cc g
+    none (b ∷ release) rest h g = cc h
 
 begins_run : (p : ℕ → Bool) → ((b : ℕ) → is_clause_byte b ≡ true → p b ≡ false) → (run rest : List ℕ) → (run ≡ [] → ⊥) → list_all is_clause_byte run ≡ true → begins p (run ++ rest) ≡ false
 begins_run p off [] rest some h = absurd (some refl)
@@ -112,14 +120,14 @@ less_tail [] h = refl
 less_tail (b ∷ tail) h = rw h refl
 
 -- behind the operator and its white space a reader finds the run, and nothing behind it
-cut_behind : (run rest : List ℕ) (v : Version) → SpellsRelease run v → list_all is_clause_byte run ≡ true → list_all is_blank_byte rest ≡ true →
+cut_behind : (run rest : List ℕ) (v : Version) → SpellsAny run v → list_all is_clause_byte run ≡ true → list_all is_blank_byte rest ≡ true →
     (clause_run (run ++ rest) ≡ run) × (after_version (run ++ rest) ≡ [])
 cut_behind run rest v s b r =
     let found : clause_run (run ++ rest) ≡ run = run-span is_clause_byte run rest b (begins_blank is_clause_byte blank_no_clause rest r) in
     let left : drop (length (clause_run (run ++ rest))) (run ++ rest) ≡ rest = ap (λ (l : List ℕ). drop (length l) (run ++ rest)) found ∙ drop-append_seam run rest in
     (found, ap without_leading_blanks left ∙ rest-all is_blank_byte rest r)
 
-after_space : (space run rest : List ℕ) (v : Version) → SpellsRelease run v → list_all is_clause_byte run ≡ true → list_all is_blank_byte space ≡ true →
+after_space : (space run rest : List ℕ) (v : Version) → SpellsAny run v → list_all is_clause_byte run ≡ true → list_all is_blank_byte space ≡ true →
     without_leading_blanks (space ++ (run ++ rest)) ≡ run ++ rest
 after_space space run rest v s b h = rest-span is_blank_byte space (run ++ rest) h (begins_run is_blank_byte clause_no_blank run rest (some_run run v s) b)
 
@@ -127,7 +135,7 @@ after_space space run rest v s b h = rest-span is_blank_byte space (run ++ rest)
 abbrev CutsBound : List ℕ → Op → List ℕ → Type 0
 CutsBound x o run = (operator_of x ≡ Some o) × (clause_run (after_operator o x) ≡ run) × (after_version (after_operator o x) ≡ [])
 
-cut_tail : (space run rest : List ℕ) (v : Version) → SpellsRelease run v → list_all is_clause_byte run ≡ true → list_all is_blank_byte space ≡ true →
+cut_tail : (space run rest : List ℕ) (v : Version) → SpellsAny run v → list_all is_clause_byte run ≡ true → list_all is_blank_byte space ≡ true →
     list_all is_blank_byte rest ≡ true →
     (clause_run (without_leading_blanks (space ++ (run ++ rest))) ≡ run) × (after_version (without_leading_blanks (space ++ (run ++ rest))) ≡ [])
 cut_tail space run rest v s b h r =
@@ -135,7 +143,7 @@ cut_tail space run rest v s b h r =
     let found = cut_behind run rest v s b r in
     (ap clause_run gone ∙ found.0, ap after_version gone ∙ found.1)
 
-cut_pieces : (o : Op) (space run rest : List ℕ) (v : Version) (c : Clause) → line_clause o v ≡ Some c → SpellsRelease run v →
+cut_pieces : (o : Op) (space run rest : List ℕ) (v : Version) (c : Clause) → line_clause o v ≡ Some c → SpellsAny run v →
     list_all is_clause_byte run ≡ true → list_all is_blank_byte space ≡ true → list_all is_blank_byte rest ≡ true →
     CutsBound (operator_text o ++ (space ++ (run ++ rest))) o run
 cut_pieces op.AtLeast space run rest v c e s b h r = let found = cut_tail space run rest v s b h r in (refl, found.0, found.1)
@@ -151,7 +159,7 @@ cut_pieces op.Exact space run rest v c e s b h r = cc e
 
 cut_bound : (x : List ℕ) (c : Clause) (s : ReadsBound x c) → CutsBound x s.operator s.run
 cut_bound x c s = subst (λ (t : List ℕ). CutsBound t s.operator s.run) (sym s.whole)
-    (cut_pieces s.operator s.space s.run s.rest s.version c s.reads_clause s.reads_version.0 s.bytes s.blank.0 s.blank.1)
+    (cut_pieces s.operator s.space s.run s.rest s.version c s.reads_clause s.reads_version.0.0 s.bytes s.blank.0 s.blank.1)
 
 -- a bound that is read begins with `>` or `<`
 begins_bound : (p : ℕ → Bool) → p 62 ≡ false → p 60 ≡ false → (x : List ℕ) (c : Clause) → ReadsBound x c → begins p x ≡ false
@@ -169,9 +177,12 @@ begins_bound p more less x c s = ap (begins p) s.whole ∙ by s.operator (s.spac
 
 -- ---- a bound that is refused is none
 
-version_refused : (y : List ℕ) (f : RequireFault) (v : Version) → SpellsRelease (clause_run y) v → NumbersFit v → after_version y ≡ [] → RefusesVersion y f → ⊥
-version_refused y (fault.BadClause clause_fault.BadVersion) v s n e h = h v s
-version_refused y (fault.BadClause clause_fault.NumberTooLarge) v s n e h = h.1 v s n
+version_refused : (y : List ℕ) (f : RequireFault) (v : Version) → Reads (clause_run y) (Ok v) → IsRelease v → after_version y ≡ [] → RefusesVersion y f → ⊥
+version_refused y (fault.BadClause clause_fault.BadVersion) v s n e h = elim h [
+  | inl never ↦ never v s.0.0
+  | inr other ↦ other.2 (subst IsRelease (sym (s.1 other.0 other.1.0.0)) n)
+]
+version_refused y (fault.BadClause clause_fault.NumberTooLarge) v s n e h = h.1 v s.0
 version_refused y (fault.BadClause clause_fault.NoOperator) v s n e h = absurd h
 version_refused y (fault.BadClause clause_fault.StarNotAllowed) v s n e h = absurd h
 version_refused y (fault.BadClause clause_fault.LocalNotAllowed) v s n e h = absurd h
@@ -199,8 +210,8 @@ refuses_as x fault.LineTooLong m h = h
 refuses_as x fault.UrlOverflow m h = h
 refuses_as x fault.NoMemory m h = absurd (m refl)
 
-bound_refused_at : (o : Op) (x : List ℕ) (f : RequireFault) (c : Clause) (v : Version) → line_clause o v ≡ Some c → SpellsRelease (clause_run (after_operator o x)) v →
-    NumbersFit v → after_version (after_operator o x) ≡ [] → RefusesBoundAs (Some o) x f → ⊥
+bound_refused_at : (o : Op) (x : List ℕ) (f : RequireFault) (c : Clause) (v : Version) → line_clause o v ≡ Some c → Reads (clause_run (after_operator o x)) (Ok v) →
+    IsRelease v → after_version (after_operator o x) ≡ [] → RefusesBoundAs (Some o) x f → ⊥
 bound_refused_at op.AtLeast x f c v e s n r h = version_refused (after_operator op.AtLeast x) f v s n r h
 bound_refused_at op.Less x f c v e s n r h = version_refused (after_operator op.Less x) f v s n r h
 bound_refused_at op.Compatible x f c v e s n r h = cc e
@@ -213,13 +224,13 @@ bound_refused_at op.Exact x f c v e s n r h = cc e
 pub bound_refused : (x : List ℕ) (f : RequireFault) (c : Clause) → f ≢ fault.NoMemory → RefusesBound x f → ReadsBound x c → ⊥
 bound_refused x f c m h s =
     let cut = cut_bound x c s in
-    bound_refused_at s.operator x f c s.version s.reads_clause (subst (λ (t : List ℕ). SpellsRelease t s.version) (sym cut.1) s.reads_version.0) s.reads_version.1 cut.2
+    bound_refused_at s.operator x f c s.version s.reads_clause (subst (λ (t : List ℕ). Reads t (Ok s.version)) (sym cut.1) s.reads_version) s.release cut.2
     (subst (λ (t : Option Op). RefusesBoundAs t x f) cut.0 (refuses_as x f m h))
 
 -- ---- a text is one bound at most
 
-one_release : (x : List ℕ) (v w : Version) → SpellsRelease x v → SpellsRelease x w → v ≡ w
-one_release x v w s t = s.1 ∙ ap release_version (s.0.1 ∙ sym t.0.1) ∙ sym t.1
+one_release : (x : List ℕ) (v w : Version) → Reads x (Ok v) → Reads x (Ok w) → v ≡ w
+one_release x v w s t = sym (s.1 w t.0.0)
 
 pub one_bound : (x : List ℕ) (c d : Clause) → ReadsBound x c → ReadsBound x d → c ≡ d
 one_bound x c d s t =
@@ -227,7 +238,7 @@ one_bound x c d s t =
     let second = cut_bound x d t in
     let operators : s.operator ≡ t.operator = cc (first.0, second.0) in
     let runs : s.run ≡ t.run = sym first.1 ∙ ap (λ (o : Op). clause_run (after_operator o x)) operators ∙ second.1 in
-    let versions : s.version ≡ t.version = one_release t.run s.version t.version (subst (λ (r : List ℕ). SpellsRelease r s.version) runs s.reads_version.0) t.reads_version.0 in
+    let versions : s.version ≡ t.version = one_release t.run s.version t.version (subst (λ (r : List ℕ). Reads r (Ok s.version)) runs s.reads_version) t.reads_version in
     let clauses : line_clause s.operator s.version ≡ line_clause t.operator t.version = λ i. line_clause (operators i) (versions i) in
     let same : Some c ≡ Some d = sym s.reads_clause ∙ clauses ∙ t.reads_clause in
     cc same
@@ -246,7 +257,7 @@ bound_split x o h =
     ∙ ap (λ (l : List ℕ). operator_text o ++ (take (prefix_len is_blank_byte tail) tail ++ l)) (sym behind)
 
 pub bound_read : (x : List ℕ) (o : Op) (v : Version) (c : Clause) → operator_of x ≡ Some o → line_clause o v ≡ Some c →
-    SpellsRelease (clause_run (after_operator o x)) v → NumbersFit v → after_version (after_operator o x) ≡ [] → ReadsBound x c
+    Reads (clause_run (after_operator o x)) (Ok v) → IsRelease v → after_version (after_operator o x) ≡ [] → ReadsBound x c
 bound_read x o v c h e s n r =
     let tail = drop (length (operator_text o)) x in
     let y = after_operator o x in
@@ -259,7 +270,8 @@ bound_read x o v c h e s n r =
       blank = (all-run is_blank_byte tail, all-rest is_blank_byte (drop (length (clause_run y)) y) r);
       bytes = all-run is_clause_byte y;
       version = v;
-      reads_version = (s, n);
+      reads_version = s;
+      release = n;
       reads_clause = e;
     }
 
@@ -406,8 +418,8 @@ begins-starts_with (b ∷ x) = grind arith
 
 -- what refuses the run refuses what is behind the operator
 pub operand_refused : (x run : List ℕ) (e : RequireFault) → run ≡ clause_run x → ReadsVersion run (Err e) → (e ≡ fault.NoMemory) ⊎ RefusesVersion x e
-operand_refused x run (fault.BadClause clause_fault.BadVersion) same h = inr (subst (λ (t : List ℕ). ReadsRelease t (Err version_fault.NotAVersion)) same h)
-operand_refused x run (fault.BadClause clause_fault.NumberTooLarge) same h = inr (subst (λ (t : List ℕ). ReadsRelease t (Err version_fault.NumberTooLarge)) same h)
+operand_refused x run (fault.BadClause clause_fault.BadVersion) same h = inr (subst (λ (t : List ℕ). ReadsVersion t (Err (fault.BadClause clause_fault.BadVersion))) same h)
+operand_refused x run (fault.BadClause clause_fault.NumberTooLarge) same h = inr (subst (λ (t : List ℕ). ReadsVersion t (Err (fault.BadClause clause_fault.NumberTooLarge))) same h)
 operand_refused x run (fault.BadClause clause_fault.NoOperator) same h = absurd h
 operand_refused x run (fault.BadClause clause_fault.StarNotAllowed) same h = absurd h
 operand_refused x run (fault.BadClause clause_fault.LocalNotAllowed) same h = absurd h
@@ -424,8 +436,50 @@ operand_refused x run fault.UrlOverflow same h = absurd h
 operand_refused x run fault.NoMemory same h = inl refl
 
 pub operand_read : (x y : List ℕ) (o : Op) (v : Version) (c : Clause) → operator_of x ≡ Some o → line_clause o v ≡ Some c → y ≡ after_operator o x → IsOperand y v → ReadsBound x c
-operand_read x y o v c h e same s = let t = subst (λ (l : List ℕ). IsOperand l v) same s in bound_read x o v c h e t.0 t.1 t.2
+operand_read x y o v c h e same s = let t = subst (λ (l : List ℕ). IsOperand l v) same s in bound_read x o v c h e t.0.0 t.0.1 t.1
 
 -- the rest of a text from an index on, as a range of it
 pub behind-range : (n : ℕ) (x y : List ℕ) → y ≡ without_leading_blanks (take (length x - n) (drop n x)) → y ≡ without_leading_blanks (drop n x)
 behind-range n x y e = e ∙ ap without_leading_blanks (take_all (length x - n) (drop n x) (omega (arith, length-drop n x)))
+
+-- ---- what reading a run as a release answers
+
+pub release_fault : (x : List ℕ) (f : VersionFault) → Reads x (Err f) → ReadsVersion x (Err (release_fault_of f))
+release_fault x version_fault.NotAVersion h = inl h
+release_fault x version_fault.NumberTooLarge h = h
+release_fault x version_fault.NoMemory h = tt
+
+pub refuses_operand : (x y : List ℕ) (o : Op) (f : RequireFault) → (o ≡ op.AtLeast) ⊎ (o ≡ op.Less) → operator_of x ≡ Some o → y ≡ after_operator o x →
+    (f ≡ fault.NoMemory) ⊎ RefusesVersion y f → RefusesBound x f
+refuses_operand x y o f plain found same (inl e) = subst (RefusesBound x) (sym e) tt
+refuses_operand x y o f plain found same (inr h) = by f (subst (λ (t : Option Op). RefusesBoundAs t x f) (sym found) (at o plain same))
+  where
+    at : (p : Op) → (p ≡ op.AtLeast) ⊎ (p ≡ op.Less) → y ≡ after_operator p x → RefusesBoundAs (Some p) x f
+    at p (inl e) s = subst (λ (q : Op). y ≡ after_operator q x → RefusesBoundAs (Some q) x f) (sym e) (λ t. subst (λ (l : List ℕ). RefusesVersion l f) t h) s
+    at p (inr e) s = subst (λ (q : Op). y ≡ after_operator q x → RefusesBoundAs (Some q) x f) (sym e) (λ t. subst (λ (l : List ℕ). RefusesVersion l f) t h) s
+
+    by : (g : RequireFault) → RefusesBoundAs (operator_of x) x g → RefusesBound x g
+    by (fault.BadClause c) k = k
+    by fault.Trailing k = k
+    by fault.BadName k = k
+    by fault.BadExtras k = k
+    by fault.BadUrl k = k
+    by (fault.BadMarker c) k = k
+    by fault.OptionLine k = k
+    by fault.LineTooLong k = k
+    by fault.UrlOverflow k = k
+    by fault.NoMemory k = tt
+
+-- ---- behind the version
+
+pub behind_version : (n : ℕ) (x back y : List ℕ) → n ≡ prefix_len is_clause_byte x → back ≡ drop n x → y ≡ without_leading_blanks back → y ≡ after_version x
+behind_version n x back y count b e =
+    let same : n ≡ length (clause_run x) = count ∙ sym (length-prefix_len is_clause_byte x) in
+    e ∙ ap without_leading_blanks (b ∙ ap (λ k. drop k x) same)
+
+pub nothing_left : (y : List ℕ) → (length y == 0) ≡ true → y ≡ []
+nothing_left [] e = refl
+nothing_left (b ∷ y) e = absurd (grind arith)
+
+pub something_left : (y : List ℕ) → (length y == 0) ≡ false → 0 < length y
+something_left y e = grind (arith, nat_tests)

@@ -1,5 +1,5 @@
 -- What merging all inputs gives.
-use Rattle.std.proofs.Common.{◌≡◌, ℕ, zero, suc, ◌+◌, ◌<◌, List, [], ◌∷◌, ◌++◌, length, map, take, get_or, refl, sym, ap, subst, ◌∙◌, arith, append_assoc, append-nil}
+use Rattle.std.proofs.Common.{◌≡◌, ℕ, zero, suc, ◌+◌, ◌<◌, List, [], ◌∷◌, ◌++◌, length, map, take, get_or, refl, sym, ap, subst, ◌∙◌, arith, append_assoc, append-nil, ◌≢◌, inl, inr}
 use Rattle.std.specs.Prelude.{All, slice_index_or}
 use Rattle.std.specs.BTreeMap.{IsOrdered}
 use Rattle.std.specs.String.{string_cmp}
@@ -9,12 +9,14 @@ use Rattle.pep_table.specs.Demand.{HaveSameDemands}
 use Rattle.pep_table.specs.TableText.{IsTableText}
 use Rattle.pep_tool.specs.declared.fault.Cause.{Cause}
 use Rattle.pep_tool.specs.declared.fault.Cause.TheVariants as cause
+use Rattle.pep_tool.specs.declared.fault.Fault.{Fault}
+use Rattle.pep_tool.specs.declared.fault.Place.TheVariants as place
 use Rattle.pep_tool.specs.declared.input.Input.{Input}
 use Rattle.pep_tool.specs.declared.input.Kind.{Kind}
 use Rattle.pep_tool.specs.declared.input.Kind.TheVariants as kind
 use Rattle.pep_tool.specs.Gathered.{AcceptsBytes, Gathered, IsAccepted}
 use Rattle.pep_tool.specs.Lists.{IsListOf}
-use Rattle.pep_tool.specs.Merge.{IsMerge, MeansRefused}
+use Rattle.pep_tool.specs.Merge.{BlamesInput, IsMerge, MeansRefused}
 use Rattle.pep_tool.specs.Sets.{InputsGive, ListGives, MergesInputs, MergesList, Pair, RefusesList, Sets, pair_requirement, table_of}
 use Rattle.pep_tool.proofs.DemandLemmas.{PairsDemand, gathered_pairs}
 use Rattle.pep_tool.proofs.TableLemmas.{points_of_pairs, same_exact_points, same_table, table_of_pairs}
@@ -46,6 +48,19 @@ input_refused inputs k i (cause.Line n f) lt is h = (k, i, lt, sym is, not_accep
 input_refused inputs k i cause.ReadFault lt is h = (k, i, lt, sym is, not_accepted i.kind i.bytes.items h)
 input_refused inputs k i (cause.BadWords w) lt is h = (k, i, lt, sym is, not_accepted i.kind i.bytes.items h)
 input_refused inputs k i cause.WriteFault lt is h = (k, i, lt, sym is, not_accepted i.kind i.bytes.items h)
+
+blames_at : (inputs : List Input) (k : ℕ) (i : Input) (c : Cause) (f : Fault) → k < length inputs → i ≡ get_or inputs k i → ((rs : List RequirementParts) → ¬ IsListOf i.bytes.items rs) →
+    c ≢ cause.NoMemory → (c ≢ cause.NoMemory → f.place ≡ place.Input (k + 1)) → BlamesInput inputs f
+blames_at inputs k i c f lt is h other at = inr (k, i, lt, sym is, not_accepted i.kind i.bytes.items h, at other)
+
+pub input_blamed : (inputs : List Input) (k : ℕ) (i : Input) (c : Cause) (f : Fault) → k < length inputs → i ≡ get_or inputs k i → RefusesList i.bytes.items c →
+    (c ≡ cause.NoMemory → f ≡ record { place = place.Nowhere; cause = cause.NoMemory }) → (c ≢ cause.NoMemory → f.place ≡ place.Input (k + 1)) → BlamesInput inputs f
+input_blamed inputs k i cause.NoMemory f lt is h memory at = inl (memory refl)
+input_blamed inputs k i cause.TooLarge f lt is h memory at = blames_at inputs k i cause.TooLarge f lt is h (λ e. cc e) at
+input_blamed inputs k i (cause.Line n g) f lt is h memory at = blames_at inputs k i (cause.Line n g) f lt is h (λ e. cc e) at
+input_blamed inputs k i cause.ReadFault f lt is h memory at = blames_at inputs k i cause.ReadFault f lt is h (λ e. cc e) at
+input_blamed inputs k i (cause.BadWords w) f lt is h memory at = blames_at inputs k i (cause.BadWords w) f lt is h (λ e. cc e) at
+input_blamed inputs k i cause.WriteFault f lt is h memory at = blames_at inputs k i cause.WriteFault f lt is h (λ e. cc e) at
 
 -- ---- the whole
 

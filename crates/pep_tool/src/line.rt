@@ -1,11 +1,12 @@
 //! A line of a list: a name, an operator and a version.
 
-ghost use Rattle.std.specs.Prelude.{◌≡◌, ◌⊎◌, IfOk, IfErr, IsTrue};
+ghost use Rattle.std.specs.Prelude.{◌≡◌, ◌⊎◌, ◌↔◌, IfOk, IfErr, IsTrue};
 ghost use Rattle.std.specs.List.{list_all};
 ghost use Rattle.pep_clause.specs.Clause.{is_clause_byte, operator_of};
+ghost use Rattle.pep_clause.specs.Released.{IsRelease};
 ghost use Rattle.pep_require.specs.Faults.{without_leading_blanks};
 ghost use Rattle.pep_marker.specs.Name.{is_name_byte, name_of};
-ghost use Rattle.pep_tool.specs.Line.{IsOperand, ReadsBound, ReadsLine, ReadsVersion, RefusesBound, RefusesLine, RefusesVersion, plain_requirement};
+ghost use Rattle.pep_tool.specs.Line.{IsOperand, ReadsBound, ReadsLine, ReadsVersion, RefusesBound, RefusesLine, RefusesVersion, plain_requirement, release_fault_of};
 
 use crate::runs::{blank_run, clause_run, name_run};
 use pep_clause::{Clause, ClauseFault, Op};
@@ -74,7 +75,29 @@ fn read_name(alloc: Global, text: &[u8]) -> Result<Name, RequireFault>
     }
 }
 
-/// The version that a text of bytes of clauses spells.
+/// Whether the version is a release, with no epoch and no other part.
+fn is_release(version: &Version) -> bool
+    ensures { IsTrue result ↔ IsRelease version.now }
+{
+    version.epoch() == 0
+        && version.pre().is_none()
+        && version.post().is_none()
+        && version.dev().is_none()
+        && version.label().is_empty()
+}
+
+/// A fault of reading a version, as one of a line.
+fn release_fault(fault: VersionFault) -> RequireFault
+    ensures { result ≡ release_fault_of fault }
+{
+    match fault {
+        VersionFault::NotAVersion => RequireFault::BadClause(ClauseFault::BadVersion),
+        VersionFault::NumberTooLarge => RequireFault::BadClause(ClauseFault::NumberTooLarge),
+        VersionFault::NoMemory => RequireFault::NoMemory,
+    }
+}
+
+/// The release that a text of bytes of clauses spells.
 fn read_version(alloc: Global, text: &[u8]) -> Result<Version, RequireFault>
     requires { IsTrue (list_all is_clause_byte text.now) }
     ensures { ReadsVersion text.now result }
@@ -82,14 +105,14 @@ fn read_version(alloc: Global, text: &[u8]) -> Result<Version, RequireFault>
     let Ok(text) = std::str::from_utf8(text) else {
         unreachable!();
     };
-    match Version::read(alloc, text) {
-        Ok(version) => Ok(version),
-        Err(VersionFault::NotAVersion) => Err(RequireFault::BadClause(ClauseFault::BadVersion)),
-        Err(VersionFault::NumberTooLarge) => {
-            Err(RequireFault::BadClause(ClauseFault::NumberTooLarge))
-        }
-        Err(VersionFault::NoMemory) => Err(RequireFault::NoMemory),
+    let version = match Version::read(alloc, text) {
+        Ok(version) => version,
+        Err(fault) => return Err(release_fault(fault)),
+    };
+    if !is_release(&version) {
+        return Err(RequireFault::BadClause(ClauseFault::BadVersion));
     }
+    Ok(version)
 }
 
 /// The version behind an operator, with nothing behind it.

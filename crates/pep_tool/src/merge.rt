@@ -1,7 +1,8 @@
 //! The merge of inputs.
 
-ghost use Rattle.std.specs.Prelude.{◌≡◌, IfOk, IfErr, string_bytes};
-ghost use Rattle.pep_tool.specs.Merge.{IsMerge, MeansRefused};
+ghost use Rattle.std.specs.Prelude.{◌≡◌, ◌≢◌, IfOk, IfErr, string_bytes};
+ghost use Rattle.pep_tool.specs.Merge.{BlamesInput, IsMerge, MeansRefused};
+ghost use Rattle.pep_tool.specs.Run.{no_memory};
 ghost use Rattle.pep_tool.specs.Sets.{MergesInputs};
 
 use crate::fault::{Cause, Fault, Place};
@@ -15,6 +16,8 @@ use std::collections::BTreeMap;
 /// Where a fault with this cause in this input lies: want of memory has no place.
 fn fault_in(input: u64, cause: Cause) -> Fault
     ensures cause { result.cause ≡ cause }
+    ensures memory { cause ≡ Cause.NoMemory → result ≡ no_memory }
+    ensures place { cause ≢ Cause.NoMemory → result.place ≡ Place.Input input }
 {
     let place = match &cause {
         Cause::NoMemory => Place::Nowhere,
@@ -27,6 +30,7 @@ fn fault_in(input: u64, cause: Cause) -> Fault
 fn gather_inputs(alloc: Global, inputs: &[Input]) -> Result<Sets, Fault>
     ensures ok { IfOk result (MergesInputs inputs.now) }
     ensures refused { IfErr result (λ fault. MeansRefused inputs.now fault.cause) }
+    ensures place { IfErr result (BlamesInput inputs.now) }
 {
     let mut sets = BTreeMap::new(alloc);
     let mut number: u64 = 0;
@@ -42,10 +46,15 @@ fn gather_inputs(alloc: Global, inputs: &[Input]) -> Result<Sets, Fault>
     Ok(sets)
 }
 
-/// The text of the table of all inputs.
+/// The text of the table of all inputs, in which order, grouping and repeats of their lines don't matter.
+///
+/// An input that is no list of requirements is refused, with its number, counted from 1, as the place: 56 where it has
+/// more than 16,777,216 bytes, 57 for a line (see [`Cause`]); the first fault of the first such input is answered. Want of
+/// memory is 60, without a place.
 pub fn merge_bytes(alloc: Global, inputs: &[Input]) -> Result<String, Fault>
     ensures merged { IfOk result (λ text. IsMerge inputs.now (string_bytes text)) }
     ensures refused { IfErr result (λ fault. MeansRefused inputs.now fault.cause) }
+    ensures place { IfErr result (BlamesInput inputs.now) }
 {
     let sets = gather_inputs(alloc, inputs)?;
     table_text(alloc, &sets)

@@ -1,18 +1,21 @@
 -- The normal text of a version is a spelling of it.
-use Rattle.std.proofs.Common.{◌≡◌, ◌<◌, ◌==◌, ◌&&◌, ℕ, Bool, true, false, List, [], ◌∷◌, ◌++◌, length, map, not, decimal, append-nil, refl, sym, ap, subst, ◌∙◌, arith}
+use Rattle.std.proofs.Common.{◌≡◌, ◌<◌, ◌==◌, ◌&&◌, ℕ, Bool, true, false, List, [], ◌∷◌, ◌++◌, length, map, not, Option, Some, None, codes, decimal, inl, inr, append-nil, append_assoc, suc, zero, refl, sym, ap, ◌∙◌, arith}
+use Rattle.std.proofs.lemmas.Bool.{cases_Bool}
 use Rattle.std.proofs.lemmas.Bool.Decides.{nat_tests}
 use Rattle.std.proofs.lemmas.Fmt.{decimal_is_IsNumeral}
 use Rattle.std.proofs.lemmas.List.Elements.{All-from_recursion}
 use Rattle.std.proofs.lemmas.List.Folds.{list_all-append}
 use Rattle.std.proofs.lemmas.List.Splits.{slice_split_at, slice_split_none}
-use Rattle.std.specs.Char.{digit_value, is_ascii_digit, to_ascii_lowercase}
-use Rattle.std.specs.List.{AllByRecursion, join_with_byte, list_all, slice_split}
+use Rattle.std.specs.Char.{digit_value, is_ascii_digit, is_ascii_lowercase, to_ascii_lowercase}
+use Rattle.std.specs.List.{AllByRecursion, join_with_byte, list_all, list_any, slice_split}
+use Rattle.std.specs.Option.{IfSome}
 use Rattle.std.specs.Str.{str_to_ascii_lowercase}
 use Rattle.std.specs.Str.Parse.{AllDigits, digits_value}
-use Rattle.pep_version.specs.Release.{SpellsRelease, release_version}
-use Rattle.pep_version.specs.Spelling.{NumberSpelling, OptionalNumberSpelling, ReleaseSpelling, dotted_parts, is_number, is_white_space, trimmed, without_leading_space, without_trailing_space}
-use Rattle.pep_version.specs.Text.{normal_text, release_text}
-use Rattle.pep_version.specs.Version.{Fits, IsVersion, Version, is_word_byte}
+use Rattle.pep_version.specs.declared.parts.Phase.{Phase}
+use Rattle.pep_version.specs.declared.parts.Phase.TheVariants.{Alpha, Beta, Rc}
+use Rattle.pep_version.specs.Spelling.{DevSpelling, EpochSpelling, IsOneOf, LabelSpelling, NumberSpelling, OptionalNumberSpelling, PostSpelling, PreSpelling, ReleaseSpelling, Spells, dotted_parts, is_number, is_run, is_separator, is_white_space, pre_words, segment_of_run, separated_parts, trimmed, without_leading_space, without_trailing_space}
+use Rattle.pep_version.specs.Text.{dev_text, epoch_text, label_text, normal_text, phase_text, post_text, pre_text, release_text, segment_text}
+use Rattle.pep_version.specs.Version.{Fits, IsSegment, IsVersion, Segment, SegmentFits, number, Version, is_empty, is_word_byte, word}
 use Rattle.pep_version.proofs.Readers.{and-first, and-second}
 
 -- ---- numbers
@@ -140,9 +143,193 @@ release-spells release some fits =
     let parts : dotted_parts (release_text release) ≡ map decimal release = join-split (λ b. b == 46) 46 (map decimal release) refl (some-map decimal release some) (numbers-apart release fits) in
     rw parts (numbers-are release fits, numbers-worth release fits)
 
--- the normal text of a release is read back
-pub text-release : (v : Version) → IsVersion v → v ≡ release_version v.release → SpellsRelease (normal_text v) v
-text-release v is e =
-    let text : normal_text v ≡ release_text v.release = ap normal_text e ∙ simp append-nil in
-    let plain : list_all is_plain (normal_text v) ≡ true = ap (list_all is_plain) text ∙ join-plain (map decimal v.release) (numbers-plain v.release is.numbers.release) in
-    (subst (λ (t : List ℕ). ReleaseSpelling t v.release) (sym (plain-trimmed (normal_text v) plain ∙ text)) (release-spells v.release is.release is.numbers.release), e)
+release-plain : (release : List ℕ) → AllByRecursion Fits release → list_all is_plain (release_text release) ≡ true
+release-plain release fits = join-plain (map decimal release) (numbers-plain release fits)
+
+-- ---- the epoch
+
+not-zero : (n : ℕ) → (suc n == 0) ≡ false
+not-zero n = grind arith
+
+epoch-spells : (n : ℕ) → Fits n → EpochSpelling (epoch_text n) n
+epoch-spells zero fits = inl (refl, refl)
+epoch-spells (suc n) fits = rw (not-zero n) (inr (decimal (suc n), refl, decimal-spells (suc n) fits))
+
+epoch-plain : (n : ℕ) → Fits n → list_all is_plain (epoch_text n) ≡ true
+epoch-plain zero fits = refl
+epoch-plain (suc n) fits = rw (not-zero n) (plain-append (decimal (suc n)) (codes "!") (decimal-plain (suc n) fits) refl)
+
+-- ---- the parts of a word and a number
+
+phase-word : (p : Phase) → IsOneOf (pre_words p) (phase_text p)
+phase-word Alpha = inl refl
+phase-word Beta = inl refl
+phase-word Rc = inl refl
+
+phase-plain : (p : Phase) → list_all is_plain (phase_text p) ≡ true
+phase-plain Alpha = refl
+phase-plain Beta = refl
+phase-plain Rc = refl
+
+pre-spells : (pre : Option (Phase × ℕ)) → IfSome pre (λ p. Fits p.1) → PreSpelling (pre_text pre) pre
+pre-spells None fits = refl
+pre-spells (Some p) fits = record {
+  before = [];
+  letters = phase_text p.0;
+  after = [];
+  digits = decimal p.1;
+  pieces = ap (λ (t : List ℕ). phase_text p.0 ++ t) (sym (append-nil (decimal p.1)));
+  before_is = tt;
+  letters_is = phase-word p.0;
+  after_is = tt;
+  digits_is = optional-spells (decimal p.1) p.1 (decimal-spells p.1 fits);
+}
+
+pre-plain : (pre : Option (Phase × ℕ)) → IfSome pre (λ p. Fits p.1) → list_all is_plain (pre_text pre) ≡ true
+pre-plain None fits = refl
+pre-plain (Some p) fits = plain-append (phase_text p.0) (decimal p.1) (phase-plain p.0) (decimal-plain p.1 fits)
+
+post-spells : (pre : List ℕ) (post : Option ℕ) → IfSome post Fits → PostSpelling pre (post_text post) post
+post-spells pre None fits = refl
+post-spells pre (Some n) fits = inl (record {
+  before = codes ".";
+  letters = codes "post";
+  after = [];
+  digits = decimal n;
+  pieces = ap (λ (t : List ℕ). codes ".post" ++ t) (sym (append-nil (decimal n)));
+  before_is = refl;
+  letters_is = inl refl;
+  after_is = tt;
+  digits_is = optional-spells (decimal n) n (decimal-spells n fits);
+})
+
+post-plain : (post : Option ℕ) → IfSome post Fits → list_all is_plain (post_text post) ≡ true
+post-plain None fits = refl
+post-plain (Some n) fits = plain-append (codes ".post") (decimal n) refl (decimal-plain n fits)
+
+dev-spells : (dev : Option ℕ) → IfSome dev Fits → DevSpelling (dev_text dev) dev
+dev-spells None fits = refl
+dev-spells (Some n) fits = record {
+  before = codes ".";
+  letters = codes "dev";
+  after = [];
+  digits = decimal n;
+  pieces = ap (λ (t : List ℕ). codes ".dev" ++ t) (sym (append-nil (decimal n)));
+  before_is = refl;
+  letters_is = inl refl;
+  after_is = tt;
+  digits_is = optional-spells (decimal n) n (decimal-spells n fits);
+}
+
+dev-plain : (dev : Option ℕ) → IfSome dev Fits → list_all is_plain (dev_text dev) ≡ true
+dev-plain None fits = refl
+dev-plain (Some n) fits = plain-append (codes ".dev") (decimal n) refl (decimal-plain n fits)
+
+-- ---- the label
+
+digit-word : (b : ℕ) → is_ascii_digit b ≡ true → is_word_byte b ≡ true
+digit-word b h = grind arith
+
+word-no-separator : (b : ℕ) → is_word_byte b ≡ true → is_separator b ≡ false
+word-no-separator b h = grind arith
+
+segment-bytes : (s : Segment) → IsSegment s → SegmentFits s → list_all is_word_byte (segment_text s) ≡ true
+segment-bytes (number n) is fits = list_all-weaker is_ascii_digit is_word_byte digit-word (decimal n) (decimal-digits n fits)
+segment-bytes (word letters) is fits = and-first (list_all is_word_byte letters) (list_any is_ascii_lowercase letters) is
+
+some-run : (run : List ℕ) → is_empty run ≡ false → list_all is_word_byte run ≡ true → is_run run ≡ true
+some-run [] e h = cc
+some-run (b ∷ rest) e h = h
+
+number-some : (digits : List ℕ) → is_number digits ≡ true → is_empty digits ≡ false
+number-some [] h = cc
+number-some (b ∷ rest) h = refl
+
+letters-some : (letters : List ℕ) → list_any is_ascii_lowercase letters ≡ true → is_empty letters ≡ false
+letters-some [] h = cc
+letters-some (b ∷ rest) h = refl
+
+segment-run : (s : Segment) → IsSegment s → SegmentFits s → is_run (segment_text s) ≡ true
+segment-run (number n) is fits = some-run (decimal n) (number-some (decimal n) (decimal-number n fits)) (segment-bytes (number n) is fits)
+segment-run (word letters) is fits =
+    some-run letters (letters-some letters (and-second (list_all is_word_byte letters) (list_any is_ascii_lowercase letters) is)) (segment-bytes (word letters) is fits)
+
+letter-no-digit : (b : ℕ) → is_ascii_lowercase b ≡ true → is_ascii_digit b ≡ false
+letter-no-digit b h = grind arith
+
+not-digits : (letters : List ℕ) → list_any is_ascii_lowercase letters ≡ true → list_all is_ascii_digit letters ≡ false
+not-digits [] h = cc
+not-digits (b ∷ rest) h = elim (cases_Bool (is_ascii_lowercase b)) [
+  | inl letter ↦ rw (letter-no-digit b letter) refl
+  | inr other ↦ let more = not-digits rest (rw other at h) in rw more (never (is_ascii_digit b))
+]
+  where
+    never : (a : Bool) → (a && false) ≡ false
+    never true = refl
+    never false = refl
+
+segment-read : (s : Segment) → IsSegment s → SegmentFits s → s ≡ segment_of_run (segment_text s)
+segment-read (number n) is fits = let digits = decimal-digits n fits in rw digits (ap number (decimal-spells n fits).1)
+segment-read (word letters) is fits = let other = not-digits letters (and-second (list_all is_word_byte letters) (list_any is_ascii_lowercase letters) is) in rw other refl
+
+segments-apart : (label : List Segment) → AllByRecursion IsSegment label → AllByRecursion SegmentFits label → AllByRecursion (AllByRecursion (λ b. is_separator b ≡ false)) (map segment_text label)
+segments-apart [] is fits = tt
+segments-apart (s ∷ rest) is fits = (none-pass is_word_byte is_separator word-no-separator (segment_text s) (segment-bytes s is.0 fits.0), segments-apart rest is.1 fits.1)
+
+segments-runs : (label : List Segment) → AllByRecursion IsSegment label → AllByRecursion SegmentFits label → list_all is_run (map segment_text label) ≡ true
+segments-runs [] is fits = refl
+segments-runs (s ∷ rest) is fits = rw (segment-run s is.0 fits.0, segments-runs rest is.1 fits.1) refl
+
+segments-read : (label : List Segment) → AllByRecursion IsSegment label → AllByRecursion SegmentFits label → label ≡ map segment_of_run (map segment_text label)
+segments-read [] is fits = refl
+segments-read (s ∷ rest) is fits = λ i. segment-read s is.0 fits.0 i ∷ segments-read rest is.1 fits.1 i
+
+segments-plain : (label : List Segment) → AllByRecursion IsSegment label → AllByRecursion SegmentFits label → AllByRecursion (λ part. list_all is_plain part ≡ true) (map segment_text label)
+segments-plain [] is fits = tt
+segments-plain (s ∷ rest) is fits = (list_all-weaker is_word_byte is_plain word-plain (segment_text s) (segment-bytes s is.0 fits.0), segments-plain rest is.1 fits.1)
+
+label-spells : (label : List Segment) → AllByRecursion IsSegment label → AllByRecursion SegmentFits label → LabelSpelling (label_text label) label
+label-spells [] is fits = refl
+label-spells (s ∷ rest) is fits =
+    let parts : separated_parts (join_with_byte 46 (map segment_text (s ∷ rest))) ≡ map segment_text (s ∷ rest) =
+    join-split is_separator 46 (map segment_text (s ∷ rest)) refl (omega arith) (segments-apart (s ∷ rest) is fits) in
+    (refl, ap (list_all is_run) parts ∙ segments-runs (s ∷ rest) is fits, segments-read (s ∷ rest) is fits ∙ ap (map segment_of_run) (sym parts))
+
+label-plain : (label : List Segment) → AllByRecursion IsSegment label → AllByRecursion SegmentFits label → list_all is_plain (label_text label) ≡ true
+label-plain [] is fits = refl
+label-plain (s ∷ rest) is fits = plain-append (codes "+") (join_with_byte 46 (map segment_text (s ∷ rest))) refl (join-plain (map segment_text (s ∷ rest)) (segments-plain (s ∷ rest) is fits))
+
+-- ---- the whole
+
+regroup : (e r p o d l : List ℕ) → e ++ r ++ p ++ o ++ d ++ l ≡ e ++ (r ++ (p ++ (o ++ (d ++ (l ++ [])))))
+regroup e r p o d l = simp (append_assoc, append-nil)
+
+-- the normal text of a version spells it
+pub normal-spells : (v : Version) → IsVersion v → Spells (normal_text v) v
+normal-spells v is =
+    let fits = is.numbers in
+    let pieces : normal_text v ≡ epoch_text v.epoch ++ (release_text v.release ++ (pre_text v.pre ++ (post_text v.post ++ (dev_text v.dev ++ (label_text v.label ++ []))))) =
+    regroup (epoch_text v.epoch) (release_text v.release) (pre_text v.pre) (post_text v.post) (dev_text v.dev) (label_text v.label) in
+    let label = plain-append (label_text v.label) [] (label-plain v.label is.label fits.label) refl in
+    let plain = ap (list_all is_plain) pieces
+    ∙ plain-append (epoch_text v.epoch) _ (epoch-plain v.epoch fits.epoch) (plain-append (release_text v.release) _ (release-plain v.release fits.release)
+    (plain-append (pre_text v.pre) _ (pre-plain v.pre fits.pre) (plain-append (post_text v.post) _ (post-plain v.post fits.post) (plain-append (dev_text v.dev) _ (dev-plain v.dev fits.dev) label)))) in (
+      record {
+        preceding_v = [];
+        epoch = epoch_text v.epoch;
+        release = release_text v.release;
+        pre = pre_text v.pre;
+        post = post_text v.post;
+        dev = dev_text v.dev;
+        label = label_text v.label;
+        pieces = ap str_to_ascii_lowercase (plain-trimmed (normal_text v) plain) ∙ plain-lower (normal_text v) plain ∙ pieces;
+        preceding_v_is = inl refl;
+        epoch_is = epoch-spells v.epoch fits.epoch;
+        release_is = release-spells v.release is.release fits.release;
+        pre_is = pre-spells v.pre fits.pre;
+        post_is = post-spells (pre_text v.pre) v.post fits.post;
+        dev_is = dev-spells v.dev fits.dev;
+        label_is = label-spells v.label is.label fits.label;
+      },
+      fits,
+    )

@@ -1,8 +1,7 @@
 -- The reading of a whole version from its spelling. So a text spells at most one version, and a text of which
 -- something other than a label is left spells none.
-use Rattle.std.proofs.Common.{◌≢◌, ◌≡◌, ◌==◌, ◌&&◌, ◌||◌, ℕ, List, [], ◌∷◌, ◌++◌, Option, Some, None, Bool, true, false, codes, refl, sym, ap, subst, ◌∙◌, arith, inl, inr, append-nil, append_assoc, map}
+use Rattle.std.proofs.Common.{◌≡◌, ◌==◌, ◌&&◌, ◌||◌, ℕ, List, [], ◌∷◌, ◌++◌, Option, Some, None, Bool, true, false, codes, refl, sym, ap, subst, ◌∙◌, arith, inl, inr, append-nil, append_assoc}
 use Rattle.std.proofs.lemmas.Bool.{cases_Bool}
-use Rattle.std.specs.Prelude.{if◌then◌else◌}
 use Rattle.std.specs.Char.{is_ascii_digit}
 use Rattle.std.specs.List.{list_all, onto_first}
 use Rattle.std.specs.Str.{str_to_ascii_lowercase}
@@ -10,26 +9,20 @@ use Rattle.std.specs.Str.Parse.{digits_value}
 use Rattle.pep_version.specs.declared.parts.Phase.{Phase}
 use Rattle.pep_version.specs.declared.parts.Phase.TheVariants.{Alpha, Beta, Rc}
 use Rattle.pep_version.specs.Version.{Segment, Version}
-use Rattle.pep_version.specs.Spelling.{DevSpelling, EpochSpelling, IsOneOf, IsOptionalSeparator, LabelSpelling, PostSpelling, PreSpelling, PrecedingVSpelling, SpellsAny, dotted_parts, is_number, is_separator, pre_words, segment_of_run, separated_parts, trimmed}
-use Rattle.pep_version.proofs.Readers.{and-first, and-second, behind, behind-append, front, front-append, may_follow, starts_digit, without_separator}
-use Rattle.pep_version.proofs.Suffixes.{read_suffix, suffix-read, tail-worded}
+use Rattle.pep_version.specs.Spelling.{DevSpelling, EpochSpelling, IsOneOf, IsOptionalSeparator, LabelSpelling, PostSpelling, PreSpelling, PrecedingVSpelling, SpellsAny, dotted_parts, is_number, is_separator, pre_words, trimmed}
+use Rattle.pep_version.proofs.Readers.{and-first, and-second, behind-append, front-append, may_follow}
+use Rattle.pep_version.proofs.Suffixes.{suffix-read, tail-worded}
 use Rattle.pep_version.proofs.Tails.{Tail, digits-all, digits-start, whole-of}
-
-abbrev dot_digit : List ℕ → Bool
-dot_digit [] = false
-dot_digit (b ∷ rest) = (b == 46) && starts_digit rest
-
-abbrev release_front : List ℕ → List ℕ
-release_front [] = []
-release_front (b ∷ rest) = if is_ascii_digit b then b ∷ release_front rest else if (b == 46) && starts_digit rest then b ∷ release_front rest else []
-
-abbrev release_behind : List ℕ → List ℕ
-release_behind [] = []
-release_behind (b ∷ rest) = if is_ascii_digit b then release_behind rest else if (b == 46) && starts_digit rest then release_behind rest else b ∷ rest
+use Rattle.pep_version.specs.Reading.{bang, behind, epoch_taken, from_epoch, read_epoch, read_label, read_label_text, read_suffix, read_version, release_behind, release_front, passes, behind_epoch, is_label_text, starts_digit, with_suffix, without_separator, without_v}
 
 abbrev pub is_dotted : List ℕ → Bool
 is_dotted [] = true
 is_dotted (b ∷ rest) = (is_ascii_digit b || ((b == 46) && starts_digit rest)) && is_dotted rest
+
+-- a dot and a digit
+abbrev dot_digit : List ℕ → Bool
+dot_digit [] = false
+dot_digit (b ∷ rest) = (b == 46) && starts_digit rest
 
 starts-append : (xs rest : List ℕ) → starts_digit xs ≡ true → starts_digit (xs ++ rest) ≡ true
 starts-append [] rest s = cc s
@@ -123,10 +116,6 @@ dotted-ok (b ∷ rest) h = elim (cases_Bool (b == 46)) [
 
 -- ---- what stands behind a release
 
-abbrev bang : List ℕ → Option (List ℕ)
-bang [] = None
-bang (b ∷ rest) = if b == 33 then Some rest else None
-
 record Head (text : List ℕ) : Type 0 where
   no_digit : starts_digit text ≡ false
   no_dot : dot_digit text ≡ false
@@ -193,33 +182,6 @@ head-suffix pre post dev rest (Some q) vpost vdev label e p d l =
 
 -- ---- the whole
 
-abbrev without_v : List ℕ → List ℕ
-without_v [] = []
-without_v (b ∷ rest) = if b == 118 then rest else b ∷ rest
-
-abbrev epoch_taken : Option (List ℕ) → List ℕ → ℕ × List ℕ
-epoch_taken None text = (0, text)
-epoch_taken (Some rest) text = (digits_value 10 (front text), rest)
-
-abbrev read_epoch : List ℕ → ℕ × List ℕ
-read_epoch text = epoch_taken (bang (behind text)) text
-
-abbrev read_label : List ℕ → List Segment
-read_label [] = []
-read_label (b ∷ text) = map segment_of_run (separated_parts text)
-
-abbrev with_suffix : ℕ → List ℕ → Option (Phase × ℕ) × (Option ℕ × (Option ℕ × List ℕ)) → Version
-with_suffix epoch release s = record { epoch = epoch; release = map (digits_value 10) (dotted_parts release); pre = s.0; post = s.1.0; dev = s.1.1.0; label = read_label s.1.1.1 }
-
-abbrev from_release : ℕ → List ℕ → Version
-from_release epoch text = with_suffix epoch (release_front text) (read_suffix (release_behind text))
-
-abbrev from_epoch : ℕ × List ℕ → Version
-from_epoch e = from_release e.0 e.1
-
-abbrev pub read_version : List ℕ → Version
-read_version text = from_epoch (read_epoch (without_v text))
-
 digit-no-v : (text : List ℕ) → starts_digit text ≡ true → without_v text ≡ text
 digit-no-v [] s = refl
 digit-no-v (x ∷ rest) s = let other : (x == 118) ≡ false = grind arith in rw other refl
@@ -284,10 +246,6 @@ spelled-read text v s =
 pub one-version : (text : List ℕ) (v w : Version) → SpellsAny text v → SpellsAny text w → v ≡ w
 one-version text v w s t = sym (spelled-read text v s) ∙ spelled-read text w t
 
--- what is read as the label's text
-abbrev pub read_label_text : List ℕ → List ℕ
-read_label_text text = (read_suffix (release_behind (read_epoch (without_v text)).1)).1.1.1
-
 -- of a spelled text it is the label's text, so any other leftover refutes every spelling
 pub spelled-label : (text : List ℕ) (v : Version) (s : SpellsAny text v) → read_label_text (str_to_ascii_lowercase (trimmed text)) ≡ s.label
 spelled-label text v s =
@@ -303,18 +261,22 @@ spelled-label text v s =
     ap read_label_text whole ∙ ap (λ (x : List ℕ). (read_suffix (release_behind (read_epoch x).1)).1.1.1) no_v ∙ ap (λ (e : ℕ × List ℕ). (read_suffix (release_behind e.1)).1.1.1) epoch.0
     ∙ ap (λ (x : List ℕ). (read_suffix x).1.1.1) behind_is ∙ ap (λ (q : Option (Phase × ℕ) × (Option ℕ × (Option ℕ × List ℕ))). q.1.1.1) others
 
--- a leftover that does not begin with `+`
-refuted : (text : List ℕ) (b : ℕ) (rest : List ℕ) → read_label_text (str_to_ascii_lowercase (trimmed text)) ≡ b ∷ rest → b ≢ 43 → (v : Version) → ¬ SpellsAny text v
-refuted text b rest read other v s = other (begins (sym (spelled-label text v s) ∙ read) s.label_is)
-  where
-    begins : {l : List ℕ} → l ≡ b ∷ rest → LabelSpelling l v.label → b ≡ 43
-    begins e l = let first = subst (λ (x : List ℕ). LabelSpelling x v.label) e l in first.0
+label-passes : (text : List ℕ) (label : List Segment) → LabelSpelling text label → is_label_text text ≡ true
+label-passes [] label l = refl
+label-passes (b ∷ text) label l = rw (l.0, l.1) refl
 
-no-dash : (v : Version) → ¬ SpellsAny (codes "1.0-") v
-no-dash = refuted (codes "1.0-") 45 [] refl (omega arith)
-
-no-two-dots : (v : Version) → ¬ SpellsAny (codes "1..0") v
-no-two-dots = refuted (codes "1..0") 46 (codes ".0") refl (omega arith)
-
-no-two-pre : (v : Version) → ¬ SpellsAny (codes "1.0a1a2") v
-no-two-pre = refuted (codes "1.0a1a2") 97 (codes "2") refl (omega arith)
+-- a spelled text passes
+pub spelled-passes : (text : List ℕ) (v : Version) → SpellsAny text v → passes (str_to_ascii_lowercase (trimmed text)) ≡ true
+spelled-passes text v s =
+    let suffix = s.pre ++ (s.post ++ (s.dev ++ s.label)) in
+    let ends : s.pre ++ (s.post ++ (s.dev ++ (s.label ++ []))) ≡ suffix = ap (λ (x : List ℕ). s.pre ++ (s.post ++ (s.dev ++ x))) (append-nil s.label) in
+    let head = head-suffix s.pre s.post s.dev s.label v.pre v.post v.dev v.label s.pre_is s.post_is s.dev_is s.label_is in
+    let dotted = dotted-ok s.release (numbers-first (dotted_parts s.release) s.release_is.0) in
+    let start = numbers-start s.release s.release_is.0 in
+    let epoch = epoch-read s.epoch s.release suffix v.epoch s.epoch_is dotted start head in
+    let whole : str_to_ascii_lowercase (trimmed text) ≡ s.preceding_v ++ (s.epoch ++ (s.release ++ suffix)) = s.pieces ∙ ap (λ (x : List ℕ). s.preceding_v ++ (s.epoch ++ (s.release ++ x))) ends in
+    let no_v : without_v (str_to_ascii_lowercase (trimmed text)) ≡ s.epoch ++ (s.release ++ suffix) = ap without_v whole ∙ v-read s.preceding_v (s.epoch ++ (s.release ++ suffix)) s.preceding_v_is epoch.1 in
+    let first : starts_digit (without_v (str_to_ascii_lowercase (trimmed text))) ≡ true = ap starts_digit no_v ∙ epoch.1 in
+    let release : starts_digit (behind_epoch (str_to_ascii_lowercase (trimmed text))) ≡ true = ap (λ (x : List ℕ). starts_digit (read_epoch x).1) no_v ∙ ap (λ (e : ℕ × List ℕ). starts_digit e.1) epoch.0 ∙ starts-append s.release suffix start in
+    let label : is_label_text (read_label_text (str_to_ascii_lowercase (trimmed text))) ≡ true = ap is_label_text (spelled-label text v s) ∙ label-passes s.label v.label s.label_is in
+    λ i. first i && release i && label i

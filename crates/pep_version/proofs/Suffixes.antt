@@ -1,34 +1,13 @@
 -- The reading of a pre-release and all parts behind it, from their spellings.
-use Rattle.std.proofs.Common.{lit≤, ◌≤◌, ◌≡◌, ◌==◌, ℕ, List, [], ◌∷◌, ◌++◌, Option, Some, None, true, false, codes, refl, sym, ap, subst, ◌∙◌, arith, inl, inr}
+use Rattle.std.proofs.Common.{lit≤, ◌≤◌, ◌≡◌, ◌==◌, ℕ, List, [], ◌∷◌, ◌++◌, Option, Some, None, true, false, refl, sym, ap, subst, ◌∙◌, arith, inl, inr}
 use Rattle.std.specs.Char.{is_ascii_digit}
 use Rattle.pep_version.specs.declared.parts.Phase.{Phase}
 use Rattle.pep_version.specs.declared.parts.Phase.TheVariants.{Alpha, Beta, Rc}
 use Rattle.pep_version.specs.Version.{Segment}
 use Rattle.pep_version.specs.Spelling.{DevSpelling, ImplicitPostSpelling, IsOneOf, IsOptionalSeparator, LabelSpelling, PostSpelling, PreSpelling, WordAndNumber, dev_words, ends_in_letter, post_words, pre_words}
-use Rattle.pep_version.proofs.Readers.{before-gone, dev-gone, left, may_follow, not-c, not-e, number_behind, starts_digit, stripped, tail-follows, without_separator}
-use Rattle.pep_version.proofs.Tails.{Bare, Tail, Worded, digits-start, implicit-read, label-plain, opens, read_post_dev, tail-at-label, tail-at-post, tail-dev, tail-number, whole-of, worded-read}
-
-abbrev table : List (Phase × List ℕ)
-table = (Alpha, codes "alpha") ∷ (Alpha, codes "a") ∷ (Beta, codes "beta") ∷ (Beta, codes "b") ∷ (Rc, codes "preview") ∷ (Rc, codes "pre") ∷ (Rc, codes "rc") ∷ (Rc, codes "c") ∷ []
-
-abbrev phase_or : Phase → Option (List ℕ) → Option (Phase × List ℕ) → Option (Phase × List ℕ)
-phase_or phase (Some text) other = Some (phase, text)
-phase_or phase None other = other
-
-abbrev behind_phase : List (Phase × List ℕ) → List ℕ → Option (Phase × List ℕ)
-behind_phase [] text = None
-behind_phase (w ∷ words) text = phase_or w.0 (stripped w.1 text) (behind_phase words text)
-
-abbrev with_phase : Phase → Option (ℕ × List ℕ) → List ℕ → Option (Phase × ℕ) × List ℕ
-with_phase phase None text = (None, text)
-with_phase phase (Some q) text = (Some (phase, q.0), q.1)
-
-abbrev pre_taken : Option (Phase × List ℕ) → List ℕ → Option (Phase × ℕ) × List ℕ
-pre_taken None text = (None, text)
-pre_taken (Some q) text = with_phase q.0 (number_behind (Some q.1)) text
-
-abbrev pub read_pre : List ℕ → Option (Phase × ℕ) × List ℕ
-read_pre text = pre_taken (behind_phase table (without_separator text)) text
+use Rattle.pep_version.proofs.Readers.{before-gone, dev-gone, left, may_follow, not-c, not-e, tail-follows}
+use Rattle.pep_version.proofs.Tails.{Bare, Tail, Worded, digits-start, implicit-read, label-plain, opens, tail-at-label, tail-at-post, tail-dev, tail-number, whole-of, worded-read}
+use Rattle.pep_version.specs.Reading.{behind_phase, pre_taken, read_post_dev, read_pre, read_suffix, starts_digit, table, with_phase, without_separator}
 
 not-l : (b : ℕ) (rest : List ℕ) → may_follow (b ∷ rest) ≡ true → (108 == b) ≡ false
 not-l b rest f = grind arith
@@ -155,9 +134,6 @@ bare-ends Rc (c ∷ []) letters [] [] b (inr (inr (inr (inl e)))) h = rw e refl
 bare-ends Rc before letters [] [] b (inr (inr (inr (inr k)))) h = absurd k
 
 -- ---- all parts behind the release
-
-abbrev pub read_suffix : List ℕ → Option (Phase × ℕ) × (Option ℕ × (Option ℕ × List ℕ))
-read_suffix text = ((read_pre text).0, read_post_dev (read_pre text).1)
 
 left-worded : (after digits pre post dev rest : List ℕ) (vpost vdev : Option ℕ) (label : List Segment) → Worded pre post vpost → DevSpelling dev vdev → LabelSpelling rest label
     → read_post_dev (left after digits (post ++ (dev ++ rest))) ≡ (vpost, (vdev, rest))

@@ -22,7 +22,7 @@ use std::marker::Model;
 /// A version's place in the order (PEP 440, "Summary of permitted suffixes and relative ordering"): one key for
 /// all versions that are the same in order, as `1.0` and `1.0.0`. The release of a key has no zeros at its end,
 /// except that its first number stays.
-#[derive(Drop)]
+#[derive(Debug, Drop)]
 pub struct Key {
     epoch: u64,
     release: Vec<u64>,

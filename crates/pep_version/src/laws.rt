@@ -3,8 +3,7 @@
 ghost use Rattle.std.specs.Prelude.{◌≡◌, ◌<◌, ◌↔◌, ℕ, List, length};
 ghost use Rattle.std.specs.Cmp.{IsTotalOrder};
 ghost use Rattle.pep_version.specs.Order.{Same, place_of, version_cmp};
-ghost use Rattle.pep_version.specs.Release.{SpellsRelease, release_version};
-ghost use Rattle.pep_version.specs.Spelling.{SpellsAny};
+ghost use Rattle.pep_version.specs.Spelling.{Spells, SpellsAny};
 ghost use Rattle.pep_version.specs.Text.{normal_text};
 ghost use Rattle.pep_version.specs.Version.{IsVersion, Version};
 
@@ -24,12 +23,7 @@ pub fn one_version()
     ensures { (text : List ℕ) (v w : Version) → SpellsAny text v → SpellsAny text w → v ≡ w }
 {}
 
-/// A release that is read is a spelling by the whole grammar.
-pub fn release_is_a_spelling()
-    ensures { (text : List ℕ) (v : Version) → SpellsRelease text v → SpellsAny text v }
-{}
-
-/// The normal text of a release is a spelling of it.
+/// The normal text of a version is a spelling of it, so a version is read back from its normal text.
 pub fn text_is_read()
-    ensures { (v : Version) → IsVersion v → v ≡ release_version v.release → SpellsRelease (normal_text v) v }
+    ensures { (v : Version) → IsVersion v → Spells (normal_text v) v }
 {}

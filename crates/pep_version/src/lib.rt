@@ -1,12 +1,14 @@
 //! Python versions by PEP 440: reading, the normal text, and the order.
 #![tactic(auto)]
 
+mod cut;
 mod fault;
 mod key;
 pub mod laws;
 mod number;
 mod parts;
 mod release;
+mod segments;
 mod space;
 mod version;
 mod writing;

@@ -4,7 +4,6 @@ ghost use Rattle.std.specs.Prelude.{◌≡◌, ◌≤◌, ◌^◌, ◌+◌, ◌*
 ghost use Rattle.std.specs.List.{list_all};
 ghost use Rattle.std.specs.Char.{digit_value, is_ascii_digit};
 ghost use Rattle.std.specs.Str.Parse.{digits_value};
-ghost use Rattle.pep_version.specs.Spelling.{is_number};
 
 // The number with one digit more, if that fits.
 fn with_digit(value: u64, digit: u8) -> Option<u64>
@@ -31,16 +30,9 @@ pub(crate) fn number(digits: &[u8]) -> Option<u64>
     Some(value)
 }
 
-fn all_digits(text: &[u8]) -> bool
+/// Whether the text is digits, and perhaps none.
+pub(crate) fn all_digits(text: &[u8]) -> bool
     ensures { result ≡ list_all is_ascii_digit text.now }
 {
     text.iter().all(u8::is_ascii_digit)
-}
-
-/// Whether the text is one or more digits.
-#[tactic(auto, using(crate::proofs::NumberLemmas::is_empty_length))]
-pub(crate) fn is_number(text: &[u8]) -> bool
-    ensures { result ≡ is_number text.now }
-{
-    !text.is_empty() && all_digits(text)
 }

@@ -7,15 +7,8 @@ ghost use Rattle.pep_version.specs.Numbers.{NumbersOf, left_parts};
 ghost use Rattle.pep_version.specs.Spelling.{dotted_parts, is_number};
 
 use crate::fault::VersionFault;
-use crate::number::{is_number, number};
+use crate::number::number;
 use std::alloc::Global;
-
-/// Whether the text is numbers with a dot between each two.
-pub(crate) fn is_release(text: &[u8]) -> bool
-    ensures { result ≡ list_all is_number (dotted_parts text.now) }
-{
-    text.split(|b| *b == b'.').all(|part| is_number(part))
-}
 
 // The first part of a text at its dots, and what stands behind that dot.
 fn first_part(text: &[u8]) -> (&[u8], Option<&[u8]>)

@@ -3,14 +3,18 @@
 ghost use Rattle.std.specs.Prelude.{◌≡◌, ◌↔◌, map, refl, string_bytes, IfErr, IfOk, IfSome, IsSome, IsTrue};
 ghost use Rattle.std.specs.Char.{is_ascii_lowercase};
 ghost use Rattle.std.specs.List.{All, list_all, list_any};
-ghost use Rattle.pep_version.specs.Release.{ReadsRelease};
+ghost use Rattle.pep_version.specs.Cut.{IsCut, version_of_cut};
+ghost use Rattle.pep_version.specs.Segments.{VersionOf};
+ghost use Rattle.pep_version.specs.Spelling.{Reads};
 ghost use Rattle.pep_version.specs.Text.{normal_text};
 ghost use Rattle.pep_version.specs.Version.{IsSegment, IsVersion, SegmentFits, is_pre_release, is_word, is_word_byte};
 ghost use Rattle.pep_version.specs.View.{segment_of, version_of};
 
+use crate::cut::{Cut, cut_version};
 use crate::fault::VersionFault;
 use crate::parts::{Label, Phase};
-use crate::release::{is_release, release_numbers};
+use crate::release::release_numbers;
+use crate::segments::{optional_number, pre_number, read_segments, written_number};
 use crate::space::trimmed;
 use crate::writing::{push_dev, push_epoch, push_label, push_post, push_pre, push_release};
 use std::alloc::Global;
@@ -18,7 +22,7 @@ use std::marker::Model;
 
 /// A Python version (PEP 440): an epoch, a release, and the parts that may follow the release. Each number is
 /// at most 18446744073709551615.
-#[derive(Drop)]
+#[derive(Debug, Drop)]
 pub struct Version {
     epoch: u64,
     release: Vec<u64>,
@@ -111,26 +115,41 @@ pub(crate) fn label_copied(alloc: Global, label: &[Label]) -> Result<Vec<Label>,
 }
 
 impl Version {
-    /// The version that a text spells. For now only a release alone is read (PEP 440, "Final releases"): numbers
-    /// with a dot between each two, with white space at both ends allowed ("Leading and Trailing Whitespace").
+    /// The version that a text spells (PEP 440, "Version scheme" and "Normalization"; the spellings are those of
+    /// the regular expression in the appendix "Parsing version strings with regular expressions"). White space
+    /// at both ends and the case of letters do not matter. A number may have leading zeros.
     ///
-    /// Another text is `NotAVersion`. A text that would be a release but for a number above
+    /// A `-` and a number behind the bare word of a pre-release are that word's number: `1.0a-1` is `1.0a1`.
+    ///
+    /// A text that spells no version is `NotAVersion`. A text that would spell one but for a number above
     /// 18446744073709551615 is `NumberTooLarge`. A growth that is refused is `NoMemory`.
     pub fn read(alloc: Global, text: &str) -> Result<Version, VersionFault>
-        ensures { ReadsRelease text.now result }
+        ensures { Reads text.now result }
     {
-        let text = trimmed(text.as_bytes());
-        if !is_release(text) {
+        let Some(cut) = cut_version(trimmed(text.as_bytes())) else {
             return Err(VersionFault::NotAVersion);
-        }
-        let release = release_numbers(alloc, text)?;
+        };
+        Version::of_cut(alloc, cut)
+    }
+
+    // The version that the slices write.
+    fn of_cut(alloc: Global, cut: Cut<'_>) -> Result<Version, VersionFault>
+        requires { IsCut cut }
+        ensures { VersionOf (version_of_cut cut.entry) result }
+    {
+        let epoch = written_number(cut.epoch)?;
+        let release = release_numbers(alloc, cut.release)?;
+        let pre = pre_number(cut.pre)?;
+        let post = optional_number(cut.post)?;
+        let dev = optional_number(cut.dev)?;
+        let label = read_segments(alloc, cut.label)?;
         Ok(Version {
-            epoch: 0,
+            epoch,
             release,
-            pre: None,
-            post: None,
-            dev: None,
-            label: Vec::new(alloc),
+            pre,
+            post,
+            dev,
+            label,
         })
     }
 

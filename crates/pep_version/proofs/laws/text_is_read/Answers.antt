@@ -1,5 +1,5 @@
-use Rattle.pep_version.proofs.NormalTexts.{text-release}
+use Rattle.pep_version.proofs.NormalTexts.{normal-spells}
 use Rattle.pep_version.proofs.laws.text_is_read.Goals as goal
 
 pub returns : goal.returns
-returns c = text-release
+returns c = normal-spells

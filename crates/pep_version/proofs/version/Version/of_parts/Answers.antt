@@ -4,7 +4,7 @@ use Rattle.std.specs.List.{All}
 use Rattle.std.proofs.lemmas.List.Elements.{All-map, recursion_from_All}
 use Rattle.pep_version.specs.Version.{Fits, IsSegment, IsVersion, SegmentFits}
 use Rattle.pep_version.specs.View.{segment_of, version_of}
-use Rattle.pep_version.proofs.ReleaseLemmas.{segments-from-all}
+use Rattle.pep_version.proofs.PartLemmas.{segments-from-all}
 use Rattle.pep_version.proofs.version.Version.of_parts.Goals as goal
 use Rattle.pep_version.proofs.version.Version.of_parts.Goals.{then-is_empty-via-then-is_empty, then-is_empty-via-else-is_empty+then-not-is_label}
 

@@ -1,0 +1,97 @@
+// The numbers and words of a text that was cut.
+
+ghost use Rattle.std.specs.Prelude.{◌≡◌, ◌∷◌, ◌<◌, ◌++◌, codes, length, map, string_bytes, IfErr, IfOk, IfSome, IsTrue, MatchResult};
+ghost use Rattle.std.specs.Char.{is_ascii_digit};
+ghost use Rattle.std.specs.List.{list_all};
+ghost use Rattle.std.specs.Str.Parse.{digits_value};
+ghost use Rattle.pep_version.specs.Cut.{IsDigits, label_of, left_runs, lower, optional_of, pre_of, value_of};
+ghost use Rattle.pep_version.specs.Segments.{NumberOf, OptionalOf, PreOf, SegmentOf, SegmentsOf};
+ghost use Rattle.pep_version.specs.Spelling.{is_run, is_separator, segment_of_run, separated_parts};
+
+use crate::cut::is_separator;
+use crate::fault::VersionFault;
+use crate::number::{all_digits, number};
+use crate::parts::{Label, Phase};
+use std::alloc::Global;
+
+/// The number that the digits write.
+pub(crate) fn written_number(digits: &[u8]) -> Result<u64, VersionFault>
+    requires { IsDigits digits }
+    ensures { NumberOf (value_of digits.entry) result }
+{
+    number(digits).ok_or(VersionFault::NumberTooLarge)
+}
+
+/// The number of a part, if the part is there.
+pub(crate) fn optional_number(digits: Option<&[u8]>) -> Result<Option<u64>, VersionFault>
+    requires { IfSome digits IsDigits }
+    ensures { OptionalOf (optional_of digits.entry) result }
+{
+    match digits {
+        Some(digits) => Ok(Some(written_number(digits)?)),
+        None => Ok(None),
+    }
+}
+
+/// The phase and the number of a pre-release part, if it is there.
+pub(crate) fn pre_number(pre: Option<(Phase, &[u8])>) -> Result<Option<(Phase, u64)>, VersionFault>
+    requires { IfSome pre (λ p. IsDigits p.1) }
+    ensures { PreOf (pre_of pre.entry) result }
+{
+    match pre {
+        Some((phase, digits)) => Ok(Some((phase, written_number(digits)?))),
+        None => Ok(None),
+    }
+}
+
+// The letters and digits in lower case.
+fn lower_text(alloc: Global, run: &[u8]) -> Result<String, VersionFault>
+    requires { IsTrue (is_run (lower run.now)) }
+    ensures text { IfOk result (λ t. string_bytes t ≡ lower run.now) }
+    ensures faults { IfErr result (λ e. e ≡ VersionFault.NoMemory) }
+{
+    let mut text = String::with_capacity(alloc, run.len())?;
+    for b in run {
+        text.push(char::from(b.to_ascii_lowercase()))?;
+    }
+    Ok(text)
+}
+
+fn read_segment(alloc: Global, run: &[u8]) -> Result<Label, VersionFault>
+    requires { IsTrue (is_run (lower run.now)) }
+    ensures { SegmentOf (segment_of_run (lower run.now)) result }
+{
+    if all_digits(run) {
+        Ok(Label::Number(written_number(run)?))
+    } else {
+        Ok(Label::Word(lower_text(alloc, run)?))
+    }
+}
+
+// The first run of a label, and what stands behind its separator.
+fn first_run(text: &[u8]) -> (&[u8], Option<&[u8]>)
+    ensures runs { separated_parts (lower text.now) ≡ lower result.0.now ∷ left_runs result.1 }
+    ensures shorter { IfSome result.1 (λ rest. length rest.now < length text.now) }
+{
+    'bytes: for i in 0..text.len() {
+        if is_separator(text[i]) {
+            return (&text[..i], Some(&text[i + 1..]));
+        }
+    }
+    (text, None)
+}
+
+/// The segments of a label.
+pub(crate) fn read_segments(alloc: Global, label: Option<&[u8]>) -> Result<Vec<Label>, VersionFault>
+    requires { IsTrue (list_all is_run (left_runs label)) }
+    ensures { SegmentsOf (label_of label.entry) result }
+{
+    let mut segments = Vec::new(alloc);
+    let mut rest = label;
+    while let Some(text) = rest {
+        let (run, after) = first_run(text);
+        segments.push(read_segment(alloc, run)?)?;
+        rest = after;
+    }
+    Ok(segments)
+}
