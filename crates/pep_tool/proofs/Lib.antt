@@ -9,3 +9,4 @@ pub mod TableLemmas
 pub mod PrintLemmas
 pub mod VerdictLemmas
 pub mod MergeLemmas
+pub mod PlanLemmas

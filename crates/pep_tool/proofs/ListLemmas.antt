@@ -179,6 +179,7 @@ too_large_refused bytes cause.TooLarge big = λ rs s. big s.size
 too_large_refused bytes (cause.Line n f) big = λ rs s. big s.size
 too_large_refused bytes cause.ReadFault big = λ rs s. big s.size
 too_large_refused bytes (cause.BadWords w) big = λ rs s. big s.size
+too_large_refused bytes (cause.BadArgument f) big = λ rs s. big s.size
 too_large_refused bytes cause.WriteFault big = λ rs s. big s.size
 
 cause_refused : (bytes : List ℕ) (n : ℕ) (f : LineFault) (c : Cause) → f ≢ line_fault.Requirement fault.NoMemory →

@@ -47,6 +47,7 @@ input_refused inputs k i cause.TooLarge lt is h = (k, i, lt, sym is, not_accepte
 input_refused inputs k i (cause.Line n f) lt is h = (k, i, lt, sym is, not_accepted i.kind i.bytes.items h)
 input_refused inputs k i cause.ReadFault lt is h = (k, i, lt, sym is, not_accepted i.kind i.bytes.items h)
 input_refused inputs k i (cause.BadWords w) lt is h = (k, i, lt, sym is, not_accepted i.kind i.bytes.items h)
+input_refused inputs k i (cause.BadArgument f) lt is h = (k, i, lt, sym is, not_accepted i.kind i.bytes.items h)
 input_refused inputs k i cause.WriteFault lt is h = (k, i, lt, sym is, not_accepted i.kind i.bytes.items h)
 
 blames_at : (inputs : List Input) (k : ℕ) (i : Input) (c : Cause) (f : Fault) → k < length inputs → i ≡ get_or inputs k i → ((rs : List RequirementParts) → ¬ IsListOf i.bytes.items rs) →
@@ -60,6 +61,7 @@ input_blamed inputs k i cause.TooLarge f lt is h memory at = blames_at inputs k 
 input_blamed inputs k i (cause.Line n g) f lt is h memory at = blames_at inputs k i (cause.Line n g) f lt is h (λ e. cc e) at
 input_blamed inputs k i cause.ReadFault f lt is h memory at = blames_at inputs k i cause.ReadFault f lt is h (λ e. cc e) at
 input_blamed inputs k i (cause.BadWords w) f lt is h memory at = blames_at inputs k i (cause.BadWords w) f lt is h (λ e. cc e) at
+input_blamed inputs k i (cause.BadArgument g) f lt is h memory at = blames_at inputs k i (cause.BadArgument g) f lt is h (λ e. cc e) at
 input_blamed inputs k i cause.WriteFault f lt is h memory at = blames_at inputs k i cause.WriteFault f lt is h (λ e. cc e) at
 
 -- ---- the whole

@@ -1,7 +1,7 @@
 -- What refusals of the program mean, and the lines that tell two of them.
-use Rattle.std.proofs.Common.{◌≡◌, ℕ, ◌≤◌, List, [], ◌∷◌, Option, Result, Ok, Err, IfOk, IfErr, codes, refl, inl, inr, arith}
+use Rattle.std.proofs.Common.{◌≡◌, ◌≢◌, ◌⊎◌, ℕ, ◌≤◌, List, [], ◌∷◌, Option, Some, None, subst, Result, Ok, Err, IfOk, IfErr, codes, refl, inl, inr}
 use Rattle.std.specs.Fmt.{digits}
-use Rattle.std.specs.Io.KnownBytes.{Consumes, IsAtEnd}
+use Rattle.std.specs.Io.KnownBytes.{Consumes, IsAtEnd, Keeps}
 use Rattle.std.proofs.lemmas.List.Elements.{All-head}
 use Rattle.pep_tool.specs.declared.fault.Fault.{Fault}
 use Rattle.pep_tool.specs.declared.input.Input.{Input}
@@ -11,7 +11,9 @@ use Rattle.pep_tool.specs.FaultLine.{fault_line}
 use Rattle.pep_tool.specs.Gathered.{IsAccepted, AcceptsBytes}
 use Rattle.pep_tool.specs.Lists.{input_limit}
 use Rattle.pep_tool.specs.Merge.{IsMerge, MeansRefused}
-use Rattle.pep_tool.specs.Run.{MergesInput, Refuses, by_words, by_memory, by_input, by_output, by_bytes, no_memory, Tells, TellsRefusal}
+use Rattle.pep_tool.specs.Run.{Answers, MergesInput, IsVersionLine, Refuses, RefusesVersion, by_version, by_words, by_argument, by_memory, by_input, by_output, by_bytes, no_memory, Tells, TellsRefusal}
+use Rattle.pep_tool.specs.Plan.{AskNothing, Asks, IsBadWords, show_version, standard}
+use Rattle.clap.specs.Words.{Text}
 use Rattle.std.proofs.Common.{length}
 
 pub fault_line-no_memory : fault_line no_memory ≡ codes "refused code 60\n"
@@ -40,25 +42,57 @@ MergesInput-from_merge text_of (Err f) i left after e reads whole h = tt
 -- the refusal of a list that was read
 pub Refuses-from_merge : {A : Type 0} (r : Result A Fault) (i : Input) (left after : Option (List ℕ)) (source : Device) →
     i.kind ≡ kind.List → Consumes left after i.bytes.items → IfErr r (λ fault. MeansRefused (i ∷ []) fault.cause) →
-    IfErr r (λ fault. (output : Device) → Refuses 0 left after source output fault)
+    IfErr r (λ fault. (output : Device) → Refuses [] left after source output fault)
 Refuses-from_merge (Ok text) i left after source e reads h = tt
 Refuses-from_merge (Err f) i left after source e reads h =
-    λ output. by_bytes (record { input = i; is_list = e; reads = reads; refuses = h })
+    λ output. by_bytes refl (record { input = i; is_list = e; reads = reads; refuses = h })
 
--- a refusal without words is one with any
-pub Refuses-any : (words : ℕ) (left after : Option (List ℕ)) (source output : Device) (fault : Fault) →
-    Refuses 0 left after source output fault → Refuses words left after source output fault
-Refuses-any words left after source output fault (by_words h e) = absurd (omega arith)
-Refuses-any words left after source output fault (by_memory e) = by_memory e
-Refuses-any words left after source output fault (by_input h e) = by_input h e
-Refuses-any words left after source output fault (by_output h e) = by_output h e
-Refuses-any words left after source output fault (by_bytes h) = by_bytes h
+-- a refusal of the table that words ask for
+pub Refuses-table : (words : List Text) (left after : Option (List ℕ)) (source output : Device) (fault : Fault) →
+    Asks words standard → Refuses [] left after source output fault → Refuses words left after source output fault
+Refuses-table words left after source output fault asked (by_words none bad) = absurd (none standard refl)
+Refuses-table words left after source output fault asked (by_argument argument other refuses) = absurd (not_shown argument other)
+  where
+    not_shown : (argument : Text) → show_version argument ≢ standard
+    not_shown argument e = cc e
+Refuses-table words left after source output fault asked (by_memory e) = by_memory e
+Refuses-table words left after source output fault asked (by_input none h e) = by_input asked h e
+Refuses-table words left after source output fault asked (by_output h e) = by_output h e
+Refuses-table words left after source output fault asked (by_bytes none h) = by_bytes asked h
 
 -- what was told of a fault with which the program refuses
-pub TellsRefusal-from_tells : (words : ℕ) (left after : Option (List ℕ)) (input output : Device) (fault : Fault)
+pub TellsRefusal-from_tells : (words : List Text) (left after : Option (List ℕ)) (input output : Device) (fault : Fault)
     (written told : Option (List ℕ)) (sink : Device) → Refuses words left after input output fault →
     Tells fault written told sink → TellsRefusal words left after input output written told sink
 TellsRefusal-from_tells words left after input output fault written told sink refuses (inl line) =
     record { fault = fault; refuses = refuses; line = line }
 TellsRefusal-from_tells words left after input output fault written told sink refuses (inr line) =
     record { fault = no_memory; refuses = by_memory refl; line = line }
+
+Keeps-itself : (a : Option (List ℕ)) → Keeps a a
+Keeps-itself None = tt
+Keeps-itself (Some a) = refl
+
+-- the line of a version that the words name
+pub Answers-from_line : {A : Type 0} (text_of : A → List ℕ) (r : Result A Fault) (words : List Text) (left : Option (List ℕ))
+    (argument given : Text) → given ≡ argument → Asks words (show_version argument)
+    → IfOk r (λ line. IsVersionLine given (text_of line)) → IfOk r (λ line. Answers words left left (text_of line))
+Answers-from_line text_of (Ok line) words left argument given same asked h =
+    by_version argument asked (subst (λ (x : Text). IsVersionLine x (text_of line)) same h) (Keeps-itself left)
+Answers-from_line text_of (Err f) words left argument given same asked h = tt
+
+-- the refusal of one
+pub Refuses-from_line : {A : Type 0} (r : Result A Fault) (words : List Text) (left : Option (List ℕ)) (source : Device)
+    (argument given : Text) → given ≡ argument → Asks words (show_version argument)
+    → IfErr r (λ fault. (fault ≡ no_memory) ⊎ RefusesVersion given fault)
+    → IfErr r (λ fault. (output : Device) → Refuses words left left source output fault)
+Refuses-from_line (Ok line) words left source argument given same asked h = tt
+Refuses-from_line (Err f) words left source argument given same asked (inl memory) = λ output. by_memory memory
+Refuses-from_line (Err f) words left source argument given same asked (inr refuses) =
+    λ output. by_argument argument asked (subst (λ (x : Text). RefusesVersion x f) same refuses)
+
+-- words that ask for nothing
+pub Refuses-from_plan : (words : List Text) (left after : Option (List ℕ)) (source output : Device) (fault : Fault)
+    → (fault ≡ no_memory) ⊎ (IsBadWords fault × AskNothing words) → Refuses words left after source output fault
+Refuses-from_plan words left after source output fault (inl memory) = by_memory memory
+Refuses-from_plan words left after source output fault (inr bad) = by_words bad.1 bad.0

@@ -4,5 +4,6 @@ pub mod Gathered
 pub mod Merge
 pub mod FaultLine
 pub mod Device
+pub mod Plan
 pub mod Run
 pub mod Sets

@@ -1,6 +1,12 @@
 -- What a run of the program does to its streams.
-use Rattle.std.specs.Prelude.{◌≡◌, ◌⊎◌, ℕ, ◌<◌, IsTrue, false, List, [], ◌∷◌, Option, codes}
-use Rattle.std.specs.Io.KnownBytes.{Appends, Consumes, IsAtEnd}
+use Rattle.std.specs.Prelude.{◌≡◌, ◌≢◌, ◌⊎◌, ℕ, IsTrue, false, List, [], ◌∷◌, ◌++◌, Option, Ok, Err, codes}
+use Rattle.std.specs.Io.KnownBytes.{Appends, Consumes, IsAtEnd, Keeps}
+use Rattle.clap.specs.Words.{Text}
+use Rattle.pep_version.specs.Spelling.{Reads}
+use Rattle.pep_version.specs.Text.{normal_text}
+use Rattle.pep_version.specs.Version.{Version}
+use Rattle.pep_version.specs.declared.fault.VersionFault.{VersionFault}
+use Rattle.pep_version.specs.declared.fault.VersionFault.TheVariants as version_fault
 use Rattle.pep_tool.specs.declared.fault.Cause.TheVariants as cause
 use Rattle.pep_tool.specs.declared.fault.Fault.{Fault}
 use Rattle.pep_tool.specs.declared.fault.Place.TheVariants as place
@@ -9,6 +15,7 @@ use Rattle.pep_tool.specs.declared.input.Kind.TheVariants as kind
 use Rattle.pep_tool.specs.Device.{Device}
 use Rattle.pep_tool.specs.FaultLine.{fault_line}
 use Rattle.pep_tool.specs.Merge.{IsMerge, MeansRefused}
+use Rattle.pep_tool.specs.Plan.{AskNothing, Asks, IsBadWords, show_version, standard}
 
 -- want of memory, which has no place
 abbrev pub no_memory : Fault
@@ -31,10 +38,23 @@ pub record MergesInput (left after : Option (List ℕ)) (text : List ℕ) : Type
   pub whole : IsAtEnd after
   pub merges : IsMerge (input ∷ []) text
 
+-- the line of the version that a text spells: its normal text (PEP 440, "Normalization")
+pub record IsVersionLine (argument line : List ℕ) : Type 0 where
+  pub version : Version
+  pub reads : Reads argument (Ok version)
+  pub text : line ≡ normal_text version ++ codes "\n"
+
+-- The text is what the words ask for: the table of the input, or the line of a version, and then the input is left as it
+-- was.
+pub data Answers (words : List Text) (left after : Option (List ℕ)) (text : List ℕ) : Type 0 where
+  by_table : Asks words standard → MergesInput left after text → Answers words left after text
+  by_version : (argument : Text) → Asks words (show_version argument) → IsVersionLine argument text → Keeps left after
+      → Answers words left after text
+
 -- .. and that text was written to a sink that tells its bytes
-pub record PrintsMerge (left after written printed : Option (List ℕ)) : Type 0 where
+pub record PrintsAnswer (words : List Text) (left after written printed : Option (List ℕ)) : Type 0 where
   pub text : List ℕ
-  pub merges : MergesInput left after text
+  pub answers : Answers words left after text
   pub writes : Appends written printed text
 
 -- the bytes that were read are refused, as one list
@@ -44,14 +64,23 @@ pub record RefusesInput (left after : Option (List ℕ)) (fault : Fault) : Type 
   pub reads : Consumes left after input.bytes.items
   pub refuses : MeansRefused (input ∷ []) fault.cause
 
--- Why the program refuses with this fault, where so many words were given: there are words, memory is wanting, the
--- input failed, the output failed, or what was read is refused.
-pub data Refuses (words : ℕ) (left after : Option (List ℕ)) (input output : Device) (fault : Fault) : Type 0 where
-  by_words : 0 < words → fault_line fault ≡ codes "refused code 61\n" → Refuses words left after input output fault
+-- a version that the words name can't be read
+pub record RefusesVersion (argument : Text) (fault : Fault) : Type 0 where
+  pub reason : VersionFault
+  pub reads : Reads argument (Err reason)
+  pub known : reason ≢ version_fault.NoMemory
+  pub is : fault ≡ record { place = place.Nowhere; cause = cause.BadArgument reason }
+
+-- Why the program refuses with this fault: the words ask for nothing, a version that they name can't be read, memory is
+-- wanting, the input failed, the output failed, or what was read is refused.
+pub data Refuses (words : List Text) (left after : Option (List ℕ)) (input output : Device) (fault : Fault) : Type 0 where
+  by_words : AskNothing words → IsBadWords fault → Refuses words left after input output fault
+  by_argument : (argument : Text) → Asks words (show_version argument) → RefusesVersion argument fault
+      → Refuses words left after input output fault
   by_memory : fault ≡ no_memory → Refuses words left after input output fault
-  by_input : IsTrue input.failed → fault ≡ read_fault → Refuses words left after input output fault
+  by_input : Asks words standard → IsTrue input.failed → fault ≡ read_fault → Refuses words left after input output fault
   by_output : IsTrue output.failed → fault ≡ write_fault → Refuses words left after input output fault
-  by_bytes : RefusesInput left after fault → Refuses words left after input output fault
+  by_bytes : Asks words standard → RefusesInput left after fault → Refuses words left after input output fault
 
 -- of a sink that tells its bytes: where it hasn't failed, the line was written
 abbrev pub WritesLine : List ℕ → Option (List ℕ) → Option (List ℕ) → Device → Type 0
@@ -63,7 +92,7 @@ Tells fault written told sink =
     WritesLine (fault_line fault) written told sink ⊎ WritesLine (fault_line no_memory) written told sink
 
 -- the line of a fault was written, with which the program refuses
-pub record TellsRefusal (words : ℕ) (left after : Option (List ℕ)) (input output : Device) (written told : Option (List ℕ)) (sink : Device) : Type 0 where
+pub record TellsRefusal (words : List Text) (left after : Option (List ℕ)) (input output : Device) (written told : Option (List ℕ)) (sink : Device) : Type 0 where
   pub fault : Fault
   pub refuses : Refuses words left after input output fault
   pub line : WritesLine (fault_line fault) written told sink

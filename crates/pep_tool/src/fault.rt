@@ -1,12 +1,13 @@
 //! Faults of inputs and of the program, and the line that tells one.
 
 ghost use Rattle.std.specs.Prelude.{◌≡◌, ◌++◌, ◌∷◌, codes, decimal, string_bytes, OnOk, option_to_list};
-ghost use Rattle.pep_tool.specs.FaultLine.{clause_code, marker_code, require_codes, line_codes, cause_codes, codes_text, place_text, line_text, words_text};
+ghost use Rattle.pep_tool.specs.FaultLine.{version_code, clause_code, marker_code, require_codes, line_codes, cause_codes, codes_text, place_text, line_text, words_text};
 
 use itoa::Buffer;
 use pep_clause::ClauseFault;
 use pep_marker::MarkerFault;
 use pep_require::RequireFault;
+use pep_version::VersionFault;
 use std::alloc::{AllocError, AllocFailed, Global};
 
 /// Where a fault lies.
@@ -40,6 +41,8 @@ pub enum Cause {
     NoMemory,
     /// 61: the words of the command line are refused, with the text that tells why.
     BadWords(String),
+    /// 62: a version on the command line can't be read.
+    BadArgument(VersionFault),
     /// 63: a write failed.
     WriteFault,
 }
@@ -107,6 +110,17 @@ impl<T: Drop> From<AllocFailed<T>> for Fault {
 
     fn from(_: AllocFailed<T>) -> Fault {
         Fault::no_memory()
+    }
+}
+
+// The code of a fault of a version.
+fn version_code(fault: VersionFault) -> u64
+    ensures { result ≡ version_code fault }
+{
+    match fault {
+        VersionFault::NotAVersion => 1,
+        VersionFault::NumberTooLarge => 2,
+        VersionFault::NoMemory => 3,
     }
 }
 
@@ -232,6 +246,10 @@ fn push_codes(text: &mut String, cause: &Cause) -> Result<(), AllocError>
         Cause::ReadFault => push_number(text, 58),
         Cause::NoMemory => push_number(text, 60),
         Cause::BadWords(_) => push_number(text, 61),
+        Cause::BadArgument(fault) => {
+            push_number(text, 62)?;
+            push_number(text, version_code(*fault))
+        }
         Cause::WriteFault => push_number(text, 63),
     }
 }

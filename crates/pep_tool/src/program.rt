@@ -1,16 +1,18 @@
 //! The program, but for its streams.
 
-ghost use Rattle.std.specs.Prelude.{◌≡◌, ◌⊎◌, ◌≤◌, ◌+◌, ◌<◌, ◌↔◌, IfOk, IfErr, OnOk, OnErr, IsErrOf, IsTrue, false, length, string_bytes};
+ghost use Rattle.std.specs.Prelude.{◌≡◌, ◌≢◌, ◌⊎◌, ◌≤◌, ◌+◌, ◌↔◌, [], IfOk, IfErr, OnOk, OnErr, IsErrOf, IsTrue, false, length, map, string_bytes};
 ghost use Rattle.std.specs.Io.KnownBytes.{Consumes, IsAtEnd, Keeps};
 ghost use Rattle.pep_tool.specs.Device.{Device, IsFresh};
 ghost use Rattle.pep_tool.specs.Lists.{input_limit};
-ghost use Rattle.pep_tool.specs.Run.{MergesInput, PrintsMerge, Refuses, Tells, TellsRefusal, WritesLine, no_memory, read_fault};
+ghost use Rattle.pep_tool.specs.Run.{Answers, IsVersionLine, MergesInput, PrintsAnswer, Refuses, RefusesVersion, Tells, TellsRefusal, WritesLine, no_memory, read_fault};
 
 use crate::device::{Sink, Source};
 use crate::fault::{Cause, Fault, Place};
 use crate::input::{Input, Kind};
 use crate::merge::merge_bytes;
+use crate::plan::{Plan, plan_of};
 use crate::write::write_text;
+use pep_version::{Version, VersionFault};
 use std::alloc::Global;
 use std::rt::Files;
 
@@ -23,13 +25,16 @@ const READ_LIMIT: usize = 16_777_217;
 // What is told where no memory is left for the line of a fault.
 const NO_MEMORY_LINE: &str = "refused code 60\n";
 
-/// The program, but for its streams: merges the input as one list, and answers the exit status.
+/// The program, but for its streams: does what the words ask for, and answers the exit status.
 ///
-/// Without words it reads the whole input, at most 16,777,217 bytes of it, and then writes the text of the table to
-/// `output`, status 0. Any refusal is status 2, with the line of [`Fault::text`] on `faults` and nothing on `output`
-/// but where writing there failed: 61 for any word, 58 where reading failed, which lies in input 1 and comes before any
-/// fault of the bytes, 60 for want of memory, the refusals of [`merge_bytes`], and 63 where writing failed. A failure
-/// to write to `faults` changes nothing.
+/// Without words it reads the whole input as one list, at most 16,777,217 bytes of it, and then writes the text of the
+/// table to `output`, status 0. With the words `version TEXT` it reads nothing, and writes the normal text of the version
+/// (PEP 440, "Normalization") and a line feed, status 0.
+///
+/// Any refusal is status 2, with the line of [`Fault::text`] on `faults` and nothing on `output` but where writing there
+/// failed: 61 for other words, with the text of `clap`; 62 with 1 or 2 for a text that is no version; 58 where reading
+/// failed, which lies in input 1 and comes before any fault of the bytes; 60 for want of memory; the refusals of
+/// [`merge_bytes`]; and 63 where writing failed. A failure to write to `faults` changes nothing.
 pub fn run<R: Files + AllocGlobal, I: Source, O: Sink, F: Sink>(
     rt: &R,
     words: &[String],
@@ -41,23 +46,23 @@ pub fn run<R: Files + AllocGlobal, I: Source, O: Sink, F: Sink>(
     requires output { IsFresh (O.device output.old) }
     requires faults { IsFresh (F.device faults.old) }
     ensures status { (result ≡ 0) ⊎ (result ≡ 2) }
-    ensures words { 0 < length words.now → result ≡ 2 }
 
-    // At status 0 the table of the whole input was printed, and nothing was told.
+    // At status 0 what the words ask for was printed, and nothing was told.
     ensures printed { result ≡ 0
-        → PrintsMerge (I.left input.old) (I.left input.new) (O.written output.old) (O.written output.new) }
+        → PrintsAnswer (map string_bytes words.now) (I.left input.old) (I.left input.new) (O.written output.old)
+        (O.written output.new) }
     ensures no_failure { result ≡ 0
         → ((I.device input.new).failed ≡ false) × ((O.device output.new).failed ≡ false) }
     ensures quiet { result ≡ 0 → Keeps (F.written faults.old) (F.written faults.new) }
 
     // At status 2 a fault was told, and nothing was printed.
     ensures told { result ≡ 2
-        → TellsRefusal (length words.now) (I.left input.old) (I.left input.new) (I.device input.new)
+        → TellsRefusal (map string_bytes words.now) (I.left input.old) (I.left input.new) (I.device input.new)
         (O.device output.new) (F.written faults.old) (F.written faults.new) (F.device faults.new) }
     ensures silent { result ≡ 2 → (O.device output.new).failed ≡ false
         → Keeps (O.written output.old) (O.written output.new) }
 {
-    match print_merge(rt.alloc(), words, input, output) {
+    match print_answer(rt.alloc(), words, input, output) {
         Ok(()) => 0,
         Err(fault) => {
             tell(rt.alloc(), &fault, faults);
@@ -66,8 +71,8 @@ pub fn run<R: Files + AllocGlobal, I: Source, O: Sink, F: Sink>(
     }
 }
 
-// Writes the table of the input.
-fn print_merge<I: Source, O: Sink>(
+// Writes what the words ask for.
+fn print_answer<I: Source, O: Sink>(
     alloc: Global,
     words: &[String],
     input: &mut I,
@@ -75,25 +80,65 @@ fn print_merge<I: Source, O: Sink>(
 ) -> Result<(), Fault>
     requires input { IsFresh (I.device input.old) }
     requires output { IsFresh (O.device output.old) }
-    ensures words { OnOk result (length words.now ≡ 0) }
     ensures no_failure { OnOk result
         (((I.device input.new).failed ≡ false) × ((O.device output.new).failed ≡ false)) }
     ensures printed { OnOk result
-        (PrintsMerge (I.left input.old) (I.left input.new) (O.written output.old) (O.written output.new)) }
+        (PrintsAnswer (map string_bytes words.now) (I.left input.old) (I.left input.new) (O.written output.old)
+        (O.written output.new)) }
     ensures refused { IfErr result
-        (Refuses (length words.now) (I.left input.old) (I.left input.new) (I.device input.new)
+        (Refuses (map string_bytes words.now) (I.left input.old) (I.left input.new) (I.device input.new)
         (O.device output.new)) }
     ensures silent { OnErr result
         ((O.device output.new).failed ≡ false → Keeps (O.written output.old) (O.written output.new)) }
 {
-    if !words.is_empty() {
-        return Err(Fault {
-            place: Place::Nowhere,
-            cause: Cause::BadWords(String::new(alloc)),
-        });
-    }
-    let text = merge_input(alloc, input)?;
+    let text = answer(alloc, words, input)?;
     write_text(output, text.as_str())
+}
+
+// What the words ask for.
+fn answer<S: Source>(alloc: Global, words: &[String], source: &mut S) -> Result<String, Fault>
+    requires { IsFresh (S.device source.old) }
+    ensures answers { IfOk result
+        (λ text. Answers (map string_bytes words.now) (S.left source.old) (S.left source.new) (string_bytes text)) }
+    ensures no_failure { OnOk result ((S.device source.new).failed ≡ false) }
+    ensures refused { IfErr result (λ fault. (output : Device)
+        → Refuses (map string_bytes words.now) (S.left source.old) (S.left source.new) (S.device source.new) output fault) }
+{
+    match plan_of(alloc, words)? {
+        Plan::Standard => merge_input(alloc, source),
+        Plan::ShowVersion { text } => version_line(alloc, text.as_str()),
+    }
+}
+
+// The line of the version that a text spells.
+fn version_line(alloc: Global, argument: &str) -> Result<String, Fault>
+    ensures line { IfOk result (λ line. IsVersionLine argument.now (string_bytes line)) }
+    ensures refused { IfErr result (λ fault. (fault ≡ no_memory) ⊎ RefusesVersion argument.now fault) }
+{
+    let version = match Version::read(alloc, argument) {
+        Ok(version) => version,
+        Err(fault) => return Err(version_fault(fault)),
+    };
+    let Ok(mut line) = version.text(alloc) else {
+        return Err(Fault::no_memory());
+    };
+    line.push_str("\n")?;
+    Ok(line)
+}
+
+// A fault of a version on the command line.
+fn version_fault(fault: VersionFault) -> Fault
+    ensures memory { fault ≡ VersionFault.NoMemory → result ≡ no_memory }
+    ensures other { fault ≢ VersionFault.NoMemory
+        → result ≡ record { place = Place.Nowhere; cause = Cause.BadArgument fault } }
+{
+    if fault == VersionFault::NoMemory {
+        return Fault::no_memory();
+    }
+    Fault {
+        place: Place::Nowhere,
+        cause: Cause::BadArgument(fault),
+    }
 }
 
 // The text of the table of the input.
@@ -103,7 +148,7 @@ fn merge_input<S: Source>(alloc: Global, source: &mut S) -> Result<String, Fault
         (λ text. MergesInput (S.left source.old) (S.left source.new) (string_bytes text)) }
     ensures no_failure { OnOk result ((S.device source.new).failed ≡ false) }
     ensures refused { IfErr result (λ fault. (output : Device)
-        → Refuses 0 (S.left source.old) (S.left source.new) (S.device source.new) output fault) }
+        → Refuses [] (S.left source.old) (S.left source.new) (S.device source.new) output fault) }
 {
     let bytes = read_all(alloc, source)?;
     let inputs = [Input {
