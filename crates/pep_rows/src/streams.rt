@@ -241,8 +241,9 @@ fn writes_that_fail(rt: HostRuntime) -> Result<(), Fail> {
 #[test]
 fn faults_that_cannot_be_told(rt: HostRuntime) -> Result<(), Fail> {
     let words = [String::from_str(rt.alloc(), "merge")?];
-    // The line goes in three pieces.
-    for fails_at in 1..5u64 {
+    let told = "refused code 61\nerror: unrecognized subcommand 'merge'\n";
+    // The line goes in three pieces, and the text of clap behind it.
+    for fails_at in 1..8u64 {
         let mut input = Reader::new(LIST, 1);
         let mut output = Writer::new(rt.alloc(), NEVER);
         let mut faults = Writer::new(rt.alloc(), fails_at);
@@ -250,7 +251,7 @@ fn faults_that_cannot_be_told(rt: HostRuntime) -> Result<(), Fail> {
         assert_eq!(rt; status, 2, "at {fails_at}");
         assert_eq!(rt; input.calls(), 0, "at {fails_at}");
         assert_eq!(rt; output.calls(), 0, "at {fails_at}");
-        let line = front("refused code 61\n", (fails_at - 1) * 7);
+        let line = front(told, (fails_at - 1) * 7);
         assert_eq!(rt; faults.bytes.as_slice(), line, "at {fails_at}");
     }
     Ok(())

@@ -108,11 +108,11 @@ impl<D: Read> Source for Counted<D> {
     }
 
     fn calls(&self) -> u64 {
-        self.calls
+        self.calls // of `read`
     }
 
     fn failed(&self) -> bool {
-        self.failed
+        self.failed // in `read`
     }
 }
 
@@ -133,11 +133,11 @@ impl<D: Write> Sink for Counted<D> {
     }
 
     fn calls(&self) -> u64 {
-        self.calls
+        self.calls // of `write`
     }
 
     fn failed(&self) -> bool {
-        self.failed
+        self.failed // in `write`
     }
 }
 
@@ -185,10 +185,10 @@ impl<'a> Source for Bytes<'a> {
     }
 
     fn calls(&self) -> u64 {
-        self.calls
+        self.calls // of `pull`
     }
 
     fn failed(&self) -> bool {
-        false
+        false // never
     }
 }

@@ -32,6 +32,7 @@ fn program<'a>(alloc: Global) -> Result<Command<'a>, AllocError>
         .arg(text)?;
     Command::new(alloc, "tubrambutan")
         .about("Merges Python requirements; without words, the list on standard input")
+        .bin_name("tubrambutan")?
         .no_binary_name(true)
         .subcommand_required(true)
         .subcommand(version)

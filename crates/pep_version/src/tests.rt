@@ -65,10 +65,33 @@ fn reads_spellings(rt: HostRuntime) -> Result<(), Fail> {
 }
 
 #[test]
+fn reads_the_largest_numbers(rt: HostRuntime) -> Result<(), Fail> {
+    let all = "18446744073709551615!18446744073709551615.18446744073709551615rc18446744073709551615.post18446744073709551615.dev18446744073709551615+18446744073709551615";
+    let found = normal(rt.alloc(), all)?;
+    assert_eq!(rt; found.as_str(), all);
+    Ok(())
+}
+
+#[test]
+fn reads_a_long_text(rt: HostRuntime) -> Result<(), Fail> {
+    // Two characters a number, and then one more.
+    let mut text = String::from_str(rt.alloc(), "1")?;
+    for _ in 0..32_767 {
+        text.push_str(".0")?;
+    }
+    text.push_str("7")?;
+    assert_eq!(rt; text.len(), 65_536);
+    let version = Version::read(rt.alloc(), text.as_str())?;
+    assert_eq!(rt; version.release().len(), 32_768);
+    assert_eq!(rt; version.release().last(), Some(&7));
+    Ok(())
+}
+
+#[test]
 fn refuses_texts(rt: HostRuntime) {
     for text in [
-        "", " ", "1..0", "1.", ".1", "é", "1. 0", "1\u{a0}", "1.0+", "1.0-", "1.0a1a2", "!1.0",
-        "vv1", "1.0+a..b",
+        "", " ", "1..0", "1.", ".1", "é", "1. 0", "1.\t0", "1.\n0", "1.\r0", "1.\u{b}0", "1.\u{c}0", "1\u{a0}",
+        "1.0+é", "1.0α1", "１.0", "1.0+", "1.0-", "1.0a1a2", "!1.0", "vv1", "1.0+a..b",
     ] {
         assert_eq!(rt;
             Version::read(rt.alloc(), text).err(),
@@ -82,6 +105,7 @@ fn refuses_texts(rt: HostRuntime) {
         "100000000000000000000.1",
         "18446744073709551616!1",
         "1.0a18446744073709551616",
+        "1.0.post18446744073709551616",
         "1.0-18446744073709551616",
         "1.0.dev18446744073709551616",
         "1.0+18446744073709551616",
@@ -124,11 +148,16 @@ fn orders_versions(rt: HostRuntime) -> Result<(), Fail> {
         "1.1.dev0",
         "1!0.dev0",
     ];
-    for i in 0..texts.len() - 1 {
-        let (low, high) = (key(rt.alloc(), texts[i])?, key(rt.alloc(), texts[i + 1])?);
-        assert_eq!(rt; low.cmp(&high), Ordering::Less, "at {i}");
-        assert_eq!(rt; high.partial_cmp(&low), Some(Ordering::Greater), "at {i}");
-        assert!(rt; low != high);
+    let mut keys = Vec::new(rt.alloc());
+    for text in texts {
+        keys.push(key(rt.alloc(), text)?)?;
+    }
+    for (i, one) in keys.iter().enumerate() {
+        for (j, other) in keys.iter().enumerate() {
+            assert_eq!(rt; one.cmp(other), i.cmp(&j), "at {i} and {j}");
+            assert_eq!(rt; one.partial_cmp(other), Some(i.cmp(&j)), "at {i} and {j}");
+            assert_eq!(rt; one == other, i == j, "at {i} and {j}");
+        }
     }
     Ok(())
 }
@@ -138,6 +167,10 @@ fn joins_equal_versions(rt: HostRuntime) -> Result<(), Fail> {
     for (one, other) in [
         ("0", "0.0.0"),
         ("1.0", "1"),
+        ("1.0", "1.0.0"),
+        ("1.0", "v1"),
+        ("1.0", "0!1.0"),
+        ("1.0+1", "1.0+01"),
         ("1.0a.1", "1a1"),
         ("1.0+1.a", "1+01-A"),
     ] {
