@@ -24,12 +24,12 @@ fn set_of(alloc: Global, clause: &Clause) -> Result<VersionSet, Fault>
     }
 }
 
-fn both(alloc: Global, kept: &VersionSet, set: &VersionSet) -> Result<VersionSet, Fault>
-    ensures ok { IfOk result (Meets kept.now set.now) }
+fn narrow(alloc: Global, kept: &mut VersionSet, set: &VersionSet) -> Result<(), Fault>
+    ensures ok { OnOk result (Meets kept.old set.now kept.new) }
     ensures faults { IfErr result (λ fault. fault ≡ no_memory) }
 {
-    match kept.joined(alloc, set) {
-        Ok(both) => Ok(both),
+    match kept.narrow(alloc, set) {
+        Ok(()) => Ok(()),
         Err(_) => Err(Fault::no_memory()),
     }
 }
@@ -43,7 +43,7 @@ pub(crate) fn gather(alloc: Global, sets: &mut Sets, line: &Line) -> Result<(), 
     let set = set_of(alloc, &line.clause)?;
     let name = line.name.text();
     if let Some(kept) = sets.get_mut(name) {
-        *kept = both(alloc, kept, &set)?;
+        narrow(alloc, kept, &set)?;
         return Ok(());
     }
     sets.insert(String::from_str(alloc, name)?, set)?;

@@ -12,14 +12,14 @@ use Rattle.pep_tool.proofs.sets.gather.Goals as goal
 pub returns-in-Some-clause-ok : goal.returns-in-Some-clause-ok
 returns-in-Some-clause-ok c =
     let old : Sets = c.args.sets.now in
-    let new : Sets = c.get_mut.follows.lender c.in_ok-kept.field-0 in
+    let new : Sets = c.get_mut.follows.lender c.narrow.new.kept in
     let name = c.text-name.ensures.text in
     let found : get_by_text old c.args.line.now.name ≡ Some c.in-Some.kept.now = ap (get_by_text old) (sym name) ∙ sym c.get_mut.ensures.value ∙ ap option_copied_mut c.in-Some.is in
-    let changes = btree_map_updates_text c.text-name.result.now old new (Some c.in_ok-kept.field-0) ((c.get_mut.follows.holds c.in_ok-kept.field-0).3 (search rules)) in
-    gathers_one old new c.args.line.now.name c.args.line.now.clause c.in_ok-kept.field-0 c.text-name.ensures.normal c.requires
-    (λ q. changes q ∙ ap (λ n. update bytes_eq (get_by_text old) n (Some c.in_ok-kept.field-0) q) name)
-    (subst (λ (o : Option (List Range)). Folds o c.args.line.now.clause c.in_ok-kept.field-0) (sym found)
-    (folds_next c.in-Some.kept.now c.args.line.now.clause c.in_ok-set.set c.in_ok-kept.field-0 c.in_ok-set.ensures.ok c.in_ok-kept.ensures.ok))
+    let changes = btree_map_updates_text c.text-name.result.now old new (Some c.narrow.new.kept) ((c.get_mut.follows.holds c.narrow.new.kept).3 (search rules)) in
+    gathers_one old new c.args.line.now.name c.args.line.now.clause c.narrow.new.kept c.text-name.ensures.normal c.requires
+    (λ q. changes q ∙ ap (λ n. update bytes_eq (get_by_text old) n (Some c.narrow.new.kept) q) name)
+    (subst (λ (o : Option (List Range)). Folds o c.args.line.now.clause c.narrow.new.kept) (sym found)
+    (folds_next c.in-Some.kept.now c.args.line.now.clause c.in_ok-set.set c.narrow.new.kept c.in_ok-set.ensures.ok c.in_ok-narrow.ensures.ok))
 
 pub returns-clause-ok : goal.returns-clause-ok
 returns-clause-ok c =
