@@ -8,6 +8,7 @@ pub mod laws;
 mod line;
 mod list;
 mod merge;
+mod name_key;
 mod print;
 mod program;
 mod runs;
