@@ -1,6 +1,8 @@
 -- THE CODE'S WAY, and no definition of what two sets have in common: each range of the one list with each of the
 -- other.
-use Rattle.std.specs.Prelude.{List, [], ◌∷◌, ◌++◌}
+use Rattle.std.specs.Prelude.{◌&&◌, Bool, false, List, [], ◌∷◌, ◌++◌}
+use Rattle.std.specs.List.{list_all}
+use Rattle.std.specs.Ordering.{is_ge}
 use Rattle.pep_clause.specs.Between.{earlier, later}
 use Rattle.pep_clause.specs.Cut.{cut_cmp}
 use Rattle.pep_clause.specs.OperatorTable.{range}
@@ -19,3 +21,17 @@ meet_row r (s ∷ rest) = common r s ++ meet_row r rest
 abbrev pub meet : List Range → List Range → List Range
 meet [] others = []
 meet (r ∷ rest) others = meet_row r others ++ meet rest others
+
+-- the range begins and ends inside the other
+abbrev pub is_within : Range → Range → Bool
+is_within r s = is_ge (cut_cmp r.low s.low) && is_ge (cut_cmp s.high r.high)
+
+-- all the ranges lie in the other
+abbrev pub all_within : List Range → Range → Bool
+all_within ranges s = list_all (λ r. is_within r s) ranges
+
+-- all the ranges lie in the one range of the others
+abbrev pub are_within : List Range → List Range → Bool
+are_within ranges [] = false
+are_within ranges (s ∷ []) = all_within ranges s
+are_within ranges (s ∷ t ∷ rest) = false

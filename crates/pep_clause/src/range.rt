@@ -4,7 +4,7 @@ ghost use Rattle.std.specs.Prelude.{◌≡◌, ◌&&◌, not, option_to_list, If
 ghost use Rattle.std.specs.declared.cmp.Ordering.TheVariants.{Less};
 ghost use Rattle.pep_clause.specs.Between.{earlier, later};
 ghost use Rattle.pep_clause.specs.Cut.{IsCut, cut_cmp, is_under};
-ghost use Rattle.pep_clause.specs.Meeting.{common};
+ghost use Rattle.pep_clause.specs.Meeting.{common, is_within};
 ghost use Rattle.pep_clause.specs.OperatorTable.{range};
 
 use crate::cut::Cut;
@@ -73,6 +73,13 @@ impl Range {
         } else {
             Ok(None)
         }
+    }
+
+    /// Whether the range lies in the other.
+    pub(crate) fn is_within(&self, other: &Range) -> bool
+        ensures { result ≡ is_within self.now other.now }
+    {
+        self.low() >= other.low() && other.high() >= self.high()
     }
 
     /// Whether the version at this place is in the range.

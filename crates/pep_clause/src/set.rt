@@ -5,7 +5,7 @@ ghost use Rattle.pep_version.specs.Version.{Version};
 ghost use Rattle.pep_clause.specs.Admits.{admits};
 ghost use Rattle.pep_clause.specs.Cut.{Cut, IsCut};
 ghost use Rattle.pep_clause.specs.Inhabited.{BeginsAtVersion, HasVersionUnlessEmpty};
-ghost use Rattle.pep_clause.specs.Meeting.{meet, meet_row};
+ghost use Rattle.pep_clause.specs.Meeting.{all_within, are_within, meet, meet_row};
 ghost use Rattle.pep_clause.specs.OperatorTable.{range, set_of};
 ghost use Rattle.pep_clause.specs.VersionSet.{IsNormal, all_versions, is_in, is_point};
 
@@ -60,11 +60,29 @@ fn common_ranges(
     ensures ok { IfOk result (λ done. done.items ≡ meet ranges.now others.now) }
     ensures faults { IfErr result (λ e. e ≡ ClauseFault.NoMemory) }
 {
-    let mut done = Vec::with_capacity(alloc, ranges.len().saturating_add(others.len()))?;
+    // Between two ranges in common one of the lists goes on to its next.
+    let most = ranges.len().saturating_add(others.len().saturating_sub(1));
+    let mut done = Vec::with_capacity(alloc, most)?;
     for range in ranges {
         push_common(alloc, &mut done, range, others)?;
     }
     Ok(done)
+}
+
+fn all_within(ranges: &[Range], other: &Range) -> bool
+    ensures { result ≡ all_within ranges.now other.now }
+{
+    ranges.iter().all(|range| range.is_within(other))
+}
+
+/// Whether all the ranges lie in the one range of the others.
+fn are_within(ranges: &[Range], others: &[Range]) -> bool
+    ensures { result ≡ are_within ranges.now others.now }
+{
+    match others {
+        [other] => all_within(ranges, other),
+        _ => false,
+    }
 }
 
 fn ranges_copied(alloc: Global, ranges: &[Range]) -> Result<Vec<Range>, ClauseFault>
@@ -106,7 +124,7 @@ impl VersionSet {
         ensures inhabited { IfOk result (λ s. HasVersionUnlessEmpty s) }
         ensures faults { IfErr result (λ e. e ≡ ClauseFault.NoMemory) }
     {
-        let mut ranges = Vec::new(alloc);
+        let mut ranges = Vec::with_capacity(alloc, 1)?;
         if let Some(range) = Range::between(low, high) {
             ranges.push(range)?;
         }
@@ -144,6 +162,20 @@ impl VersionSet {
     {
         let ranges = common_ranges(alloc, self.ranges.as_slice(), other.ranges.as_slice())?;
         Ok(VersionSet { ranges })
+    }
+
+    /// Keeps the versions that are in the other set too. The only fault is `NoMemory`.
+    pub fn narrow(&mut self, alloc: Global, other: &VersionSet) -> Result<(), ClauseFault>
+        ensures points { OnOk result ((c : Cut) → is_point self.new c ≡ (is_point self.old c && is_point other.now c)) }
+        ensures versions { OnOk result ((v : Version) → is_in self.new v ≡ (is_in self.old v && is_in other.now v)) }
+        ensures normal { OnOk result (IsNormal self.new) }
+        ensures inhabited { OnOk result (HasVersionUnlessEmpty self.new) }
+        ensures faults { IfErr result (λ e. e ≡ ClauseFault.NoMemory) }
+    {
+        if !are_within(self.ranges.as_slice(), other.ranges.as_slice()) {
+            *self = self.joined(alloc, other)?;
+        }
+        Ok(())
     }
 
     /// Whether no version is in the set.

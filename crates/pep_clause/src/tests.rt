@@ -125,6 +125,21 @@ fn joins(rt: HostRuntime) -> Result<(), Fail> {
 }
 
 #[test]
+fn narrows(rt: HostRuntime) -> Result<(), Fail> {
+    let alloc = rt.alloc();
+    let mut set = at_least(alloc, &[1])?;
+    set.narrow(alloc, &at_least(alloc, &[0, 5])?)?;
+    expect_cuts(&rt, alloc, &set, &["before 1", "end"])?;
+    set.narrow(alloc, &less_than(alloc, &[2])?)?;
+    expect_cuts(&rt, alloc, &set, &["before 1", "before 2.dev0"])?;
+    set.narrow(alloc, &less_than(alloc, &[3])?)?;
+    expect_cuts(&rt, alloc, &set, &["before 1", "before 2.dev0"])?;
+    set.narrow(alloc, &at_least(alloc, &[2])?)?;
+    assert!(rt; set.is_empty());
+    Ok(())
+}
+
+#[test]
 fn orders_cuts(rt: HostRuntime) -> Result<(), Fail> {
     let alloc = rt.alloc();
     let least = Cut::least(alloc)?;

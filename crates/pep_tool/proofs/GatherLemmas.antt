@@ -1,18 +1,20 @@
 -- One clause more in the map of names.
 use Rattle.std.proofs.Common.{◌≡◌, ℕ, ◌&&◌, Bool, true, false, List, [], ◌∷◌, ◌++◌, Option, Some, None, refl, sym, ap, subst, ◌∙◌, append-nil}
 use Rattle.std.specs.Prelude.{bytes_eq, if◌then◌else◌}
-use Rattle.std.specs.BTreeMap.{get_by_text}
 use Rattle.std.specs.List.{AllByRecursion, list_all}
+use Rattle.std.specs.BTreeMap.{UpdatesBy}
 use Rattle.std.specs.Map.{update}
 use Rattle.std.proofs.Math.Bool.{and-true}
 use Rattle.std.proofs.lemmas.List.Folds.{list_all-append}
+use Rattle.std.proofs.lemmas.Map.Text.{is_eq-slice_cmp}
 use Rattle.std.proofs.lemmas.Slice.Eq.{bytes_eq-Decides}
 use Rattle.pep_clause.specs.Admits.{admits}
 use Rattle.pep_clause.specs.Clause.{Clause, demanded_text}
 use Rattle.pep_clause.specs.OperatorTable.{set_of}
 use Rattle.pep_clause.specs.VersionSet.{Range, is_in, is_point}
 use Rattle.pep_marker.specs.Name.{IsNormalName}
-use Rattle.pep_tool.specs.Sets.{Folds, Gathers, IsPlainPair, KeepsClauses, Meets, Pair, Sets, clauses_on}
+use Rattle.pep_tool.specs.NameKey.{name_cmp}
+use Rattle.pep_tool.specs.Sets.{Folds, Gathers, IsPlainPair, KeepsClauses, Meets, Pair, Sets, clauses_on, set_at}
 
 -- the test of one clause more
 one_more : {X : Type 0} (p : X → Bool) (xs : List X) (x : X) (b : Bool) → b ≡ list_all p xs && p x → b ≡ list_all p (xs ++ x ∷ [])
@@ -61,14 +63,18 @@ kept_at old new q n ps c s at false e is same kept f =
 
 -- the map after one clause more, by what it has at each name
 pub gathers_one : (old new : Sets) (n : List ℕ) (c : Clause) (s : List Range) → IsNormalName n → demanded_text c ≡ None →
-    ((q : List ℕ) → get_by_text new q ≡ update bytes_eq (get_by_text old) n (Some s) q) → Folds (get_by_text old n) c s → Gathers old ((n, c) ∷ []) new
+    ((q : List ℕ) → set_at new q ≡ update bytes_eq (set_at old) n (Some s) q) → Folds (set_at old n) c s → Gathers old ((n, c) ∷ []) new
 gathers_one old new n c s normal plain is f = λ ps g. record {
   plain = plain_more ps (n, c) g.plain (normal, plain);
-  kept = λ q. kept_at (get_by_text old q) (get_by_text new q) q n ps c s (get_by_text old n) (bytes_eq n q) refl (is q)
-      (λ e. ap (get_by_text old) ((bytes_eq-Decides n q).0 e)) (g.kept q) f;
+  kept = λ q. kept_at (set_at old q) (set_at new q) q n ps c s (set_at old n) (bytes_eq n q) refl (is q)
+      (λ e. ap (set_at old) ((bytes_eq-Decides n q).0 e)) (g.kept q) f;
 }
 
 -- what both hold, where one holds what the clause admits
 pub folds_next : (old : List Range) (c : Clause) (set s : List Range) → Folds None c set → Meets old set s → Folds (Some old) c s
 folds_next old c set s f m =
     (m.0, (λ cut. m.1 cut ∙ ap (λ b. is_point old cut && b) (f.1 cut)), (λ v. m.2 v ∙ ap (λ b. is_in old v && b) (f.2 v)), m.3)
+
+-- the map after a change at one name
+pub set_at-changed : (old new : Sets) (n : List ℕ) (w : Option (List Range)) → UpdatesBy name_cmp (name_cmp n) old new w → (q : List ℕ) → set_at new q ≡ update bytes_eq (set_at old) n w q
+set_at-changed old new n w h q = h.0 q ∙ (λ i. if is_eq-slice_cmp n q i then w else set_at old q)

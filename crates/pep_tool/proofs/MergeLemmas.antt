@@ -2,7 +2,7 @@
 use Rattle.std.proofs.Common.{◌≡◌, ℕ, zero, suc, ◌+◌, ◌<◌, List, [], ◌∷◌, ◌++◌, length, map, take, get_or, refl, sym, ap, subst, ◌∙◌, arith, append_assoc, append-nil, ◌≢◌, inl, inr}
 use Rattle.std.specs.Prelude.{All, slice_index_or}
 use Rattle.std.specs.BTreeMap.{IsOrdered}
-use Rattle.std.specs.String.{string_cmp}
+use Rattle.pep_tool.specs.NameKey.{name_cmp}
 use Rattle.std.proofs.lemmas.List.{take_more}
 use Rattle.pep_require.specs.Requirement.{RequirementParts}
 use Rattle.pep_table.specs.Demand.{HaveSameDemands}
@@ -78,7 +78,7 @@ all_accepted (i ∷ inputs) ps g = λ k d lt. by k d lt (all_accepted inputs g.1
     by (suc k) d lt rest = rest k d (omega arith)
 
 -- the text of the map that keeps what the inputs give is the merge of the inputs
-pub merges : (inputs : List Input) (sets : Sets) (text : List ℕ) → MergesInputs inputs sets → IsOrdered string_cmp sets → IsTableText (table_of sets) text → IsMerge inputs text
+pub merges : (inputs : List Input) (sets : Sets) (text : List ℕ) → MergesInputs inputs sets → IsOrdered name_cmp sets → IsTableText (table_of sets) text → IsMerge inputs text
 merges inputs sets text m o t =
     let same : HaveSameDemands (PairsDemand m.0) (Gathered inputs) = λ name d. ((gathered_pairs inputs m.0 name d m.1).1, (gathered_pairs inputs m.0 name d m.1).0) in
     record {

@@ -1,7 +1,5 @@
 -- The text that is printed is that of the table.
 use Rattle.std.proofs.Common.{◌≡◌, ℕ, List, [], ◌∷◌, ◌++◌, map, refl, sym, ap, subst, ◌∙◌, arith, inl, append-nil, codes}
-use Rattle.std.specs.Prelude.{String, string_bytes}
-use Rattle.std.specs.declared.alloc.Global.{Global}
 use Rattle.pep_clause.specs.VersionSet.{Range}
 use Rattle.pep_table.specs.TableText.{IsTableText, Shows, entry_text, kind_lines, line, range_text}
 use Rattle.pep_table.specs.Verdict.{verdict_word}
@@ -21,9 +19,9 @@ shows_plain : (ranges : List Range) → Shows (plain_entry ranges) (shown ranges
 shows_plain [] = (omega arith, inl refl)
 shows_plain (r ∷ rest) = (omega arith, (λ e. cc e), inl refl)
 
-text_of : (es : List (String Global × List Range)) → IsTableText (map named_entry es) (plain_text es)
+text_of : (es : List (List ℕ × List Range)) → IsTableText (map named_entry es) (plain_text es)
 text_of [] = refl
-text_of (e ∷ es) = (shown e.1, plain_text es, shows_plain e.1, text_of es, ap (λ (t : List ℕ). t ++ plain_text es) (entry-plain (string_bytes e.0) e.1))
+text_of (e ∷ es) = (shown e.1, plain_text es, shows_plain e.1, text_of es, ap (λ (t : List ℕ). t ++ plain_text es) (entry-plain e.0 e.1))
 
 -- what is printed is the text of the table
 pub printed_text : (sets : Sets) (text : List ℕ) → text ≡ plain_text sets.entries → IsTableText (table_of sets) text

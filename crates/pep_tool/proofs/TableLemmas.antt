@@ -1,15 +1,12 @@
 -- The table that the map stands for is the table of what the pairs demand.
 use Rattle.std.proofs.Common.{◌≡◌, ◌≢◌, ℕ, zero, suc, ◌<◌, Bool, true, false, List, [], ◌∷◌, length, map, refl, sym, ap, subst, ◌∙◌, arith, Option, Some, None}
-use Rattle.std.specs.Prelude.{Contains, IfSome, IsSome, String, bytes_eq, find, option_map, slice_get, slice_index_or, string_bytes, ◌↔◌}
+use Rattle.std.specs.Prelude.{Contains, IfSome, IsSome, bytes_eq, find, option_map, slice_get, slice_index_or, ◌↔◌}
 use Rattle.std.specs.Bool.{one_answer}
-use Rattle.std.specs.BTreeMap.{IsOrdered, get_by_text, is_at}
-use Rattle.std.specs.Cmp.Lexicographic.{slice_cmp}
+use Rattle.std.specs.BTreeMap.{IsOrdered, is_at}
+use Rattle.std.specs.Cmp.Lexicographic.{nat_list_cmp_total}
 use Rattle.std.specs.List.{All, AllByRecursion, list_all}
 use Rattle.std.specs.List.Sorted.{IsStrictlySortedBy}
 use Rattle.std.specs.Map.{keys_of, lookup}
-use Rattle.std.specs.Ordering.{nat_cmp}
-use Rattle.std.specs.String.{string_cmp, string_cmp_total}
-use Rattle.std.specs.declared.alloc.Global.{Global}
 use Rattle.std.proofs.lemmas.Map.Entries.{btree_map_get_place}
 use Rattle.std.proofs.lemmas.Map.Text.{is_eq-slice_cmp}
 use Rattle.std.proofs.lemmas.Slice.Eq.{bytes_eq-Decides}
@@ -24,7 +21,8 @@ use Rattle.pep_marker.specs.Name.{IsNormalName}
 use Rattle.pep_require.specs.Requirement.{IsAscending}
 use Rattle.pep_table.specs.Demand.{AdmitsBesideTexts, Demand, Demands, HaveSameDemands, RequirementDemands, presence, extra, url, clause, ranges}
 use Rattle.pep_table.specs.Table.{AdmitsPoint, EntryParts, HasExactPoints, IsEntry, IsTable, IsValidEntry, IsValidTable, TableParts, entry_at, names}
-use Rattle.pep_tool.specs.Sets.{HoldsClauses, IsGathered, IsPlainPair, KeepsClauses, Pair, Sets, clauses_on, named_entry, pair_requirement, plain_entry, table_of}
+use Rattle.pep_tool.specs.Sets.{HoldsClauses, IsGathered, IsPlainPair, KeepsClauses, Pair, Sets, clauses_on, named_entry, pair_requirement, plain_entry, set_at, table_of}
+use Rattle.pep_tool.specs.NameKey.{name_cmp}
 use Rattle.pep_tool.proofs.DemandLemmas.{Among, PairsDemand, all_from_pairs, all_told, plain_among, some_clause, some_pair}
 
 -- ---- the entry at a name
@@ -32,26 +30,26 @@ use Rattle.pep_tool.proofs.DemandLemmas.{Among, PairsDemand, all_from_pairs, all
 eq_turned : (x y : List ℕ) → bytes_eq x y ≡ bytes_eq y x
 eq_turned x y = one_answer (bytes_eq x y) (bytes_eq y x) (bytes_eq-Decides x y) ((λ e. sym ((bytes_eq-Decides y x).0 e)), λ e. (bytes_eq-Decides y x).1 (sym e))
 
-entry_lookup : (es : List (String Global × List Range)) (q : List ℕ) →
-    option_map (λ (p : List ℕ × EntryParts). p.1) (find (λ p. bytes_eq p.0 q) (map named_entry es)) ≡ option_map plain_entry (lookup (is_at (λ k. slice_cmp nat_cmp q (string_bytes k))) es)
+entry_lookup : (es : List (List ℕ × List Range)) (q : List ℕ) →
+    option_map (λ (p : List ℕ × EntryParts). p.1) (find (λ p. bytes_eq p.0 q) (map named_entry es)) ≡ option_map plain_entry (lookup (is_at (name_cmp q)) es)
 entry_lookup [] q = refl
-entry_lookup (e ∷ es) q = by (bytes_eq (string_bytes e.0) q) refl (entry_lookup es q)
+entry_lookup (e ∷ es) q = by (bytes_eq e.0 q) refl (entry_lookup es q)
   where
-    at : is_at (λ (k : String Global). slice_cmp nat_cmp q (string_bytes k)) e.0 ≡ bytes_eq (string_bytes e.0) q
-    at = is_eq-slice_cmp q (string_bytes e.0) ∙ eq_turned q (string_bytes e.0)
+    at : is_at (name_cmp q) e.0 ≡ bytes_eq e.0 q
+    at = is_eq-slice_cmp q e.0 ∙ eq_turned q e.0
 
-    by : (b : Bool) → bytes_eq (string_bytes e.0) q ≡ b →
-        option_map (λ (p : List ℕ × EntryParts). p.1) (find (λ p. bytes_eq p.0 q) (map named_entry es)) ≡ option_map plain_entry (lookup (is_at (λ k. slice_cmp nat_cmp q (string_bytes k))) es) →
-        option_map (λ (p : List ℕ × EntryParts). p.1) (find (λ p. bytes_eq p.0 q) (map named_entry (e ∷ es))) ≡ option_map plain_entry (lookup (is_at (λ k. slice_cmp nat_cmp q (string_bytes k))) (e ∷ es))
+    by : (b : Bool) → bytes_eq e.0 q ≡ b →
+        option_map (λ (p : List ℕ × EntryParts). p.1) (find (λ p. bytes_eq p.0 q) (map named_entry es)) ≡ option_map plain_entry (lookup (is_at (name_cmp q)) es) →
+        option_map (λ (p : List ℕ × EntryParts). p.1) (find (λ p. bytes_eq p.0 q) (map named_entry (e ∷ es))) ≡ option_map plain_entry (lookup (is_at (name_cmp q)) (e ∷ es))
     by true t rest = rw (t, at ∙ t) refl
     by false t rest = rw (t, at ∙ t) rest
 
-pub entry_at-table_of : (sets : Sets) (q : List ℕ) → entry_at (table_of sets) q ≡ option_map plain_entry (get_by_text sets q)
+pub entry_at-table_of : (sets : Sets) (q : List ℕ) → entry_at (table_of sets) q ≡ option_map plain_entry (set_at sets q)
 entry_at-table_of sets q = entry_lookup sets.entries q
 
 -- ---- the table is valid
 
-ascending_keys : (es : List (String Global × List Range)) → IsStrictlySortedBy string_cmp (keys_of es) → IsAscending (names (map named_entry es))
+ascending_keys : (es : List (List ℕ × List Range)) → IsStrictlySortedBy name_cmp (keys_of es) → IsAscending (names (map named_entry es))
 unfolding IsStrictlySortedBy
 ascending_keys [] h = tt
 ascending_keys (e ∷ []) h = tt
@@ -85,12 +83,12 @@ pair_of name ps some = by (clauses_on name ps) refl
     by (c ∷ cs) e = some_pair name ps c cs e
 
 -- at each place of the map: what is kept there, and a pair of its name
-place_kept : (ps : List Pair) (sets : Sets) → IsGathered ps sets → IsOrdered string_cmp sets → (i : ℕ) (e : String Global × List Range) → slice_get sets.entries i ≡ Some e →
-    IsNormalName (string_bytes e.0) × IsNormal e.1
+place_kept : (ps : List Pair) (sets : Sets) → IsGathered ps sets → IsOrdered name_cmp sets → (i : ℕ) (e : List ℕ × List Range) → slice_get sets.entries i ≡ Some e →
+    IsNormalName e.0 × IsNormal e.1
 place_kept ps sets g o i e at =
-    let found : get_by_text sets (string_bytes e.0) ≡ Some e.1 = btree_map_get_place string_cmp_total sets i e.0 e.1 o at in
-    let kept = kept_some (clauses_on (string_bytes e.0) ps) (get_by_text sets (string_bytes e.0)) e.1 (g.kept (string_bytes e.0)) found in
-    let pair = pair_of (string_bytes e.0) ps kept.1 in
+    let found : set_at sets e.0 ≡ Some e.1 = btree_map_get_place nat_list_cmp_total sets i e.0 e.1 o at in
+    let kept = kept_some (clauses_on e.0 ps) (set_at sets e.0) e.1 (g.kept e.0) found in
+    let pair = pair_of e.0 ps kept.1 in
     (subst IsNormalName (sym pair.2) (plain_among ps pair.0 g.plain pair.1).0, kept.0.normal)
 
 none_of : {X : Type 0} (P : X → Type 0) → All P []
@@ -99,15 +97,15 @@ none_of P = λ k d lt. absurd (omega (arith, lt))
 plain_valid : (s : List Range) → IsNormal s → IsValidEntry (plain_entry s)
 plain_valid s n = record { extras = (tt, none_of IsNormalName); urls = (tt, none_of _); texts = (tt, none_of _); versions = n }
 
-map_map : (es : List (String Global × List Range)) → names (map named_entry es) ≡ map (λ (e : String Global × List Range). string_bytes e.0) es
+map_map : (es : List (List ℕ × List Range)) → names (map named_entry es) ≡ map (λ (e : List ℕ × List Range). e.0) es
 map_map [] = refl
-map_map (e ∷ es) = ap (λ (l : List (List ℕ)). string_bytes e.0 ∷ l) (map_map es)
+map_map (e ∷ es) = ap (λ (l : List (List ℕ)). e.0 ∷ l) (map_map es)
 
-table_valid : (ps : List Pair) (sets : Sets) → IsGathered ps sets → IsOrdered string_cmp sets → IsValidTable (table_of sets)
+table_valid : (ps : List Pair) (sets : Sets) → IsGathered ps sets → IsOrdered name_cmp sets → IsValidTable (table_of sets)
 table_valid ps sets g o = record {
   names = (
     ascending_keys sets.entries o,
-    subst (All IsNormalName) (sym (map_map sets.entries)) (all_places (λ (e : String Global × List Range). string_bytes e.0) IsNormalName sets.entries (λ i e at. (place_kept ps sets g o i e at).0)),
+    subst (All IsNormalName) (sym (map_map sets.entries)) (all_places (λ (e : List ℕ × List Range). e.0) IsNormalName sets.entries (λ i e at. (place_kept ps sets g o i e at).0)),
   );
   entries = all_places named_entry (λ p. IsValidEntry p.1) sets.entries (λ i e at. plain_valid e.1 (place_kept ps sets g o i e at).1);
 }
@@ -212,21 +210,21 @@ some_value None h = cc h
 some_value (Some s) h = (s, refl)
 
 -- the map that keeps what the pairs demand stands for the table of these demands
-pub table_of_pairs : (ps : List Pair) (sets : Sets) → IsGathered ps sets → IsOrdered string_cmp sets → IsTable (PairsDemand ps) (table_of sets)
+pub table_of_pairs : (ps : List Pair) (sets : Sets) → IsGathered ps sets → IsOrdered name_cmp sets → IsTable (PairsDemand ps) (table_of sets)
 table_of_pairs ps sets g o = record {
   valid = table_valid ps sets g o;
   names = λ name. (
-    λ h. let found = some_value (get_by_text sets name) ((is_some_map (get_by_text sets name)).0 (subst IsSome (entry_at-table_of sets name) h)) in
-        let kept = kept_some (clauses_on name ps) (get_by_text sets name) found.0 (g.kept name) found.1 in
+    λ h. let found = some_value (set_at sets name) ((is_some_map (set_at sets name)).0 (subst IsSome (entry_at-table_of sets name) h)) in
+        let kept = kept_some (clauses_on name ps) (set_at sets name) found.0 (g.kept name) found.1 in
         let pair = pair_of name ps kept.1 in
         (presence, (pair.0, pair.1, pair.2)),
     λ h. let q = h.1 in
-        subst IsSome (sym (entry_at-table_of sets name)) ((is_some_map (get_by_text sets name)).1
-        (kept_none (clauses_on name ps) (get_by_text sets name) (g.kept name) (some_clause name ps q.0 q.1 (demand_name q.0 name h.0 q.2)))),
+        subst IsSome (sym (entry_at-table_of sets name)) ((is_some_map (set_at sets name)).1
+        (kept_none (clauses_on name ps) (set_at sets name) (g.kept name) (some_clause name ps q.0 q.1 (demand_name q.0 name h.0 q.2)))),
   );
   entries = λ name. subst (λ (e : Option EntryParts). IfSome e (IsEntry (PairsDemand ps name))) (sym (entry_at-table_of sets name))
-      (some_entry (get_by_text sets name) (IsEntry (PairsDemand ps name))
-      (λ s e. plain_is_entry ps name s g.plain (kept_some (clauses_on name ps) (get_by_text sets name) s (g.kept name) e).0));
+      (some_entry (set_at sets name) (IsEntry (PairsDemand ps name))
+      (λ s e. plain_is_entry ps name s g.plain (kept_some (clauses_on name ps) (set_at sets name) s (g.kept name) e).0));
 }
 
 -- and its ranges have just the points that all the demands have
@@ -234,8 +232,8 @@ pub points_of_pairs : (ps : List Pair) (sets : Sets) → IsGathered ps sets → 
 points_of_pairs ps sets g = λ name.
     subst (λ (e : Option EntryParts). IfSome e (λ e. (cut : Cut) → IsCut cut → IsPoint e.versions cut ↔ (IsPoint all_versions cut × ((d : Demand) → PairsDemand ps name d → AdmitsPoint d cut))))
     (sym (entry_at-table_of sets name))
-    (some_entry (get_by_text sets name) _ (λ s e.
-    let kept = kept_some (clauses_on name ps) (get_by_text sets name) s (g.kept name) e in
+    (some_entry (set_at sets name) _ (λ s e.
+    let kept = kept_some (clauses_on name ps) (set_at sets name) s (g.kept name) e in
     λ cut is. (
       λ m. (point-all_versions s cut m, point_demand name ps cut (sym (kept.0.points cut) ∙ m)),
       λ q. kept.0.points cut ∙ demands_point name ps cut q.1,

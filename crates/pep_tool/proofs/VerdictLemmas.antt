@@ -2,7 +2,6 @@
 use Rattle.std.proofs.Common.{◌≡◌, ℕ, List, [], sym, subst, ◌∙◌, arith, inl, inr, Option, Some, None, true}
 use Rattle.std.specs.Prelude.{IfSome, ◌↔◌}
 use Rattle.std.specs.List.{list_all}
-use Rattle.std.specs.BTreeMap.{get_by_text}
 use Rattle.pep_version.specs.Version.{Version}
 use Rattle.pep_clause.specs.Admits.{Admits, admits}
 use Rattle.pep_clause.specs.Clause.{Clause}
@@ -14,7 +13,7 @@ use Rattle.pep_table.specs.Table.{EntryParts, TableParts, entry_at}
 use Rattle.pep_table.specs.TableText.{Shows}
 use Rattle.pep_table.specs.Verdict.{HasConflict, IsVerdict, MeetsAll}
 use Rattle.pep_tool.specs.Merge.{ShowsVerdicts}
-use Rattle.pep_tool.specs.Sets.{HoldsClauses, IsGathered, Pair, Sets, clauses_on, plain_entry, table_of}
+use Rattle.pep_tool.specs.Sets.{HoldsClauses, IsGathered, Pair, Sets, clauses_on, plain_entry, set_at, table_of}
 use Rattle.pep_tool.proofs.DemandLemmas.{PairsDemand, all_from_pairs, all_told}
 use Rattle.pep_tool.proofs.TableLemmas.{entry_at-table_of, in_one, kept_some, one_in, some_entry}
 
@@ -47,8 +46,8 @@ verdict_of ps name s h Nothing shows = (no_conflict ps name, λ v is all. none v
 pub shows_verdicts : (ps : List Pair) (sets : Sets) → IsGathered ps sets → ShowsVerdicts (PairsDemand ps) (table_of sets)
 shows_verdicts ps sets g = λ name.
     subst (λ (o : Option EntryParts). IfSome o (λ e. (w : Verdict) → Shows e w → IsVerdict (PairsDemand ps name) w)) (sym (entry_at-table_of sets name))
-    (some_entry (get_by_text sets name) (λ e. (w : Verdict) → Shows e w → IsVerdict (PairsDemand ps name) w)
-    (λ s e. verdict_of ps name s (kept_some (clauses_on name ps) (get_by_text sets name) s (g.kept name) e).0))
+    (some_entry (set_at sets name) (λ e. (w : Verdict) → Shows e w → IsVerdict (PairsDemand ps name) w)
+    (λ s e. verdict_of ps name s (kept_some (clauses_on name ps) (set_at sets name) s (g.kept name) e).0))
 
 same_verdict : (Q W : Demand → Type 0) → ((d : Demand) → Q d ↔ W d) → (w : Verdict) → IsVerdict Q w → IsVerdict W w
 same_verdict Q W same Conflict h = conflict h

@@ -1,4 +1,5 @@
 pub mod Line
+pub mod NameKey
 pub mod Lists
 pub mod Gathered
 pub mod Merge

@@ -1,10 +1,9 @@
 -- THE CODE'S WAY, and no part of any meaning: how the code keeps what the lines read so far demand, as a map from
 -- each name to the versions that all clauses on it admit.
-use Rattle.std.specs.Prelude.{◌≡◌, ℕ, ◌&&◌, ◌⊎◌, ⊤, true, false, List, [], ◌∷◌, ◌++◌, bytes_eq, map, Option, Some, None, if◌then◌else◌, String, string_bytes, codes, ◌≤◌, length, IsUtf8}
+use Rattle.std.specs.Prelude.{◌≡◌, ℕ, ◌&&◌, ◌⊎◌, ⊤, true, false, List, [], ◌∷◌, ◌++◌, bytes_eq, map, Option, Some, None, if◌then◌else◌, codes, ◌≤◌, length, IsUtf8}
 use Rattle.std.specs.Borrow.{Bor}
-use Rattle.std.specs.BTreeMap.{BTreeMap, get_by_text}
+use Rattle.std.specs.BTreeMap.{BTreeMap, get}
 use Rattle.std.specs.List.{AllByRecursion, list_all}
-use Rattle.std.specs.declared.alloc.Global.{Global}
 use Rattle.pep_version.specs.Version.{Version}
 use Rattle.pep_clause.specs.Admits.{admits}
 use Rattle.pep_clause.specs.Clause.{Clause, demanded_text}
@@ -15,6 +14,7 @@ use Rattle.pep_clause.specs.VersionSet.{IsNormal, Range, is_in, is_point}
 use Rattle.pep_marker.specs.Name.{IsNormalName}
 use Rattle.pep_require.specs.Requirement.{RequirementParts}
 use Rattle.pep_tool.specs.Line.{ReadsLine, plain_requirement}
+use Rattle.pep_tool.specs.NameKey.{name_cmp}
 use Rattle.pep_require.specs.Reads.{line_limit}
 use Rattle.pep_require.specs.declared.fault.RequireFault.TheVariants as fault
 use Rattle.pep_tool.specs.Lists.{IsListOf, content, is_skipped, lines_of}
@@ -69,12 +69,16 @@ abbrev pub IsPlainPair : Pair → Type 0
 IsPlainPair p = IsNormalName p.0 × (demanded_text p.1 ≡ None)
 
 abbrev pub Sets : Type 0
-Sets = BTreeMap (String Global) (List Range)
+Sets = BTreeMap (List ℕ) (List Range)
+
+-- what is kept at a name
+abbrev pub set_at : Sets → List ℕ → Option (List Range)
+set_at = get name_cmp
 
 -- the map keeps what these pairs demand
 pub record IsGathered (ps : List Pair) (sets : Sets) : Type 0 where
   pub plain : AllByRecursion IsPlainPair ps
-  pub kept : (name : List ℕ) → KeepsClauses (clauses_on name ps) (get_by_text sets name)
+  pub kept : (name : List ℕ) → KeepsClauses (clauses_on name ps) (set_at sets name)
 
 -- the second map keeps these pairs beside what the first one keeps
 abbrev pub Gathers : Sets → List Pair → Sets → Type 0
@@ -127,8 +131,8 @@ RefusesList bytes f = (rs : List RequirementParts) → ¬ IsListOf bytes rs
 abbrev pub plain_entry : List Range → EntryParts
 plain_entry ranges = record { extras = []; urls = []; texts = []; versions = ranges }
 
-abbrev pub named_entry : String Global × List Range → List ℕ × EntryParts
-named_entry p = (string_bytes p.0, plain_entry p.1)
+abbrev pub named_entry : List ℕ × List Range → List ℕ × EntryParts
+named_entry p = (p.0, plain_entry p.1)
 
 abbrev pub table_of : Sets → TableParts
 table_of sets = map named_entry sets.entries
@@ -156,9 +160,9 @@ abbrev pub plain_entry_text : List ℕ → List Range → List ℕ
 plain_entry_text name ranges = line (name ++ codes " " ++ verdict_word (shown ranges)) ++ range_lines ranges
 
 -- the entries one after another
-abbrev pub plain_text : List (String Global × List Range) → List ℕ
+abbrev pub plain_text : List (List ℕ × List Range) → List ℕ
 plain_text [] = []
-plain_text (e ∷ es) = plain_entry_text (string_bytes e.0) e.1 ++ plain_text es
+plain_text (e ∷ es) = plain_entry_text e.0 e.1 ++ plain_text es
 
 -- ---- the inputs
 

@@ -66,7 +66,7 @@ fn merge_line(alloc: Global, sets: &mut Sets, line: &[u8]) -> Result<(), LineFau
         Ok(line) => line,
         Err(fault) => return Err(LineFault::Requirement(fault)),
     };
-    match gather(alloc, sets, &line) {
+    match gather(alloc, sets, line) {
         Ok(()) => Ok(()),
         Err(_) => Err(LineFault::Requirement(RequireFault::NoMemory)),
     }

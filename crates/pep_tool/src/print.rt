@@ -2,10 +2,10 @@
 
 ghost use Rattle.std.specs.Prelude.{◌≡◌, ◌++◌, codes, string_bytes, IfErr, IfOk, OnOk};
 ghost use Rattle.std.specs.BTreeMap.{IsOrdered};
-ghost use Rattle.std.specs.String.{string_cmp};
 ghost use Rattle.pep_clause.specs.Cut.{cut_text};
 ghost use Rattle.pep_table.specs.TableText.{IsTableText};
 ghost use Rattle.pep_table.specs.Verdict.{verdict_word};
+ghost use Rattle.pep_tool.specs.NameKey.{name_cmp};
 ghost use Rattle.pep_tool.specs.Run.{no_memory};
 ghost use Rattle.pep_tool.specs.Sets.{plain_entry_text, range_line, range_lines, shown, table_of};
 
@@ -66,12 +66,12 @@ fn push_entry(alloc: Global, text: &mut String, name: &str, set: &VersionSet) ->
 /// The text of the table: for each name a line with its verdict, then a line for each of its ranges.
 pub(crate) fn table_text(alloc: Global, sets: &Sets) -> Result<String, Fault>
     ensures ok { IfOk result (λ text. IsTableText (table_of sets.now) (string_bytes text)) }
-    ensures ordered { OnOk result (IsOrdered string_cmp sets.now) }
+    ensures ordered { OnOk result (IsOrdered name_cmp sets.now) }
     ensures faults { IfErr result (λ fault. fault ≡ no_memory) }
 {
     let mut text = String::new(alloc);
     for (name, set) in sets.iter() {
-        push_entry(alloc, &mut text, name.as_str(), set)?;
+        push_entry(alloc, &mut text, name.text(), set)?;
     }
     Ok(text)
 }

@@ -1,7 +1,7 @@
 use Rattle.std.proofs.Common.{string_bytes, Result, Ok, Err, IfOk, String}
 use Rattle.std.specs.Prelude.{OnOk}
 use Rattle.std.specs.BTreeMap.{IsOrdered}
-use Rattle.std.specs.String.{string_cmp}
+use Rattle.pep_tool.specs.NameKey.{name_cmp}
 use Rattle.std.specs.declared.alloc.Global.{Global}
 use Rattle.std.proofs.Common.{List}
 use Rattle.pep_table.specs.TableText.{IsTableText}
@@ -13,7 +13,7 @@ use Rattle.pep_tool.proofs.MergeLemmas.{merges}
 use Rattle.pep_tool.proofs.merge.merge_bytes.Goals as goal
 
 merged : (r : Result (String Global) Fault) (inputs : List Input) (sets : Sets) → MergesInputs inputs sets →
-    IfOk r (λ text. IsTableText (table_of sets) (string_bytes text)) → OnOk r (IsOrdered string_cmp sets) → IfOk r (λ text. IsMerge inputs (string_bytes text))
+    IfOk r (λ text. IsTableText (table_of sets) (string_bytes text)) → OnOk r (IsOrdered name_cmp sets) → IfOk r (λ text. IsMerge inputs (string_bytes text))
 merged (Ok text) inputs sets m t o = merges inputs sets (string_bytes text) m o t
 merged (Err fault) inputs sets m t o = tt
 

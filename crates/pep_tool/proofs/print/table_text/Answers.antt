@@ -1,6 +1,5 @@
-use Rattle.std.proofs.Common.{◌≡◌, [], List, ◌++◌, append-nil, string_bytes, String, sym, ap, ◌∙◌}
+use Rattle.std.proofs.Common.{◌≡◌, [], List, ◌++◌, append-nil, string_bytes, ℕ, sym, ap, ◌∙◌}
 use Rattle.std.specs.Map.Iter.{deref_pair}
-use Rattle.std.specs.declared.alloc.Global.{Global}
 use Rattle.std.proofs.lemmas.Map.Iter.{rest_all}
 use Rattle.pep_clause.specs.VersionSet.{Range}
 use Rattle.pep_tool.specs.Sets.{plain_text}
@@ -12,4 +11,4 @@ returns-clause-ok c =
     let over : c.loop-name.name-iterator ≡ [] = rest_all deref_pair c.loop-name.name-iterator c.next.new.self c.next.result c.in-None.is c.next.ensures.steps in
     let bytes = string_bytes c.loop-name.text in
     printed_text c.args.sets.now bytes
-    (sym (append-nil bytes) ∙ ap (λ (es : List (String Global × List Range)). bytes ++ plain_text es) (sym over) ∙ c.loop-name.invariant)
+    (sym (append-nil bytes) ∙ ap (λ (es : List (List ℕ × List Range)). bytes ++ plain_text es) (sym over) ∙ c.loop-name.invariant)
