@@ -2,3 +2,5 @@ mod MeetingPoints
 mod NormalMeeting
 mod Rows
 mod SetLemmas
+pub mod RangeRows
+pub mod PrefixPlace
