@@ -4,3 +4,4 @@ mod Rows
 mod SetLemmas
 pub mod RangeRows
 pub mod PrefixPlace
+pub mod PrefixRows

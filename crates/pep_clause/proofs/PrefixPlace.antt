@@ -1,15 +1,14 @@
 -- The versions with a prefix are those from the developmental release 0 of the prefix up to its end ("Version
 -- matching"), for numbers of 64 bits.
-use Rattle.std.proofs.Common.{◌≡◌, ℕ, zero, suc, ◌+◌, ◌-◌, ◌<◌, ◌≤◌, ◌^◌, ◌&&◌, ◌||◌, ◌==◌, Bool, true, false, not, List, [], ◌∷◌, length, Option, Some, None, nat_lt, refl, sym, ap, inl, inr, ◌∙◌, arith}
+use Rattle.std.proofs.Common.{◌≡◌, ℕ, ◌+◌, ◌<◌, ◌≤◌, ◌&&◌, ◌==◌, Bool, true, false, not, List, [], ◌∷◌, Option, Some, None, nat_lt, refl, sym, ap, inl, inr, ◌∙◌, arith}
 use Rattle.std.proofs.lemmas.Bool.{cases_order}
 use Rattle.std.proofs.lemmas.Bool.Decides.{nat_tests}
-use Rattle.std.specs.Cmp.{nat_cmp_is}
 use Rattle.std.specs.List.{AllByRecursion}
 use Rattle.std.specs.Ordering.{is_eq, is_le, is_lt, nat_cmp, ordering_then}
 use Rattle.std.specs.Prelude.{if◌then◌else◌}
 use Rattle.std.specs.declared.cmp.Ordering.{Ordering}
 use Rattle.std.specs.declared.cmp.Ordering.TheVariants.{Less, Equal, Greater}
-use Rattle.pep_version.specs.Order.{place_cmp, release_cmp, suffix_cmp}
+use Rattle.pep_version.specs.Order.{release_cmp, suffix_cmp}
 use Rattle.pep_version.specs.Version.{Fits, IsVersion, Version}
 use Rattle.pep_clause.specs.Admits.{begins_padded, has_prefix}
 use Rattle.pep_clause.specs.Between.{by_answer}
@@ -102,6 +101,7 @@ raised_by m n None rest more h e = (λ i. same_test m n i && begins_padded rest 
         next_by (nat_cmp n m) (release_cmp more rest) (begins_padded rest more) e
         ∙ (λ i. sym (then_not_below (nat_cmp n (m + 1)) (release_cmp more []) (none-below_zeros more) ∙ next_test m n) i
         && not (is_lt (ordering_then (nat_cmp n m) (release_cmp more rest)))))
+
     cannot_raise : nat_lt m last ≡ false
         → (is_eq (nat_cmp n m) && begins_padded rest more)
         ≡ (is_below_raised (raised_first m None) (n ∷ more) && not (is_lt (ordering_then (nat_cmp n m) (release_cmp more rest))))
@@ -167,6 +167,7 @@ end_by epoch prefix None v h e = by_answer (nat_lt epoch last) can_raise cannot_
         ∙ (λ i. sym (under-before_dev (epoch + 1) (0 ∷ []) v
         ∙ then_not_below (nat_cmp v.epoch (epoch + 1)) (release_cmp v.release (0 ∷ [])) (none-below_first_release v.release) ∙ next_test epoch v.epoch) i
         && not (is_lt (ordering_then (nat_cmp v.epoch epoch) (release_cmp v.release prefix)))))
+
     cannot_raise : nat_lt epoch last ≡ false
         → (is_eq (nat_cmp v.epoch epoch) && begins_padded prefix v.release)
         ≡ (is_under (prefix_end_at epoch None) v && not (is_lt (ordering_then (nat_cmp v.epoch epoch) (release_cmp v.release prefix))))
