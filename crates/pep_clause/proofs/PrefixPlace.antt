@@ -23,8 +23,17 @@ use Rattle.pep_clause.proofs.Rows.{is_below-place_of}
 by_order : {G : Type 0} (n m : ℕ) → (n < m → G) → (n ≡ m → G) → (m < n → G) → G
 by_order n m f g h = elim (cases_order n m) [ inl e ↦ g e | inr d ↦ elim d [ inl e ↦ f e | inr e ↦ h e ] ]
 
+-- a test on two numbers, and their comparison
 same_test : (m n : ℕ) → (m == n) ≡ is_eq (nat_cmp n m)
 same_test m n =
+    by_order n m
+    (λ (e : n < m). grind (arith, nat_tests))
+    (λ (e : n ≡ m). grind (arith, nat_tests))
+    (λ (e : m < n). grind (arith, nat_tests))
+
+-- the same test, the other way round
+epoch_test : (m n : ℕ) → (n == m) ≡ is_eq (nat_cmp n m)
+epoch_test m n =
     by_order n m
     (λ (e : n < m). grind (arith, nat_tests))
     (λ (e : n ≡ m). grind (arith, nat_tests))
@@ -131,7 +140,7 @@ begins-raised (m ∷ rest) (n ∷ more) h = raised_by m n (raised rest) rest mor
 none-below_first : (v : Version) → is_lt (suffix_cmp v (with_dev 0 (final_version (record { epoch = 0; release = [] })))) ≡ false
 none-below_first v = none-under_least (record v { epoch = 0; release = 0 ∷ [] })
 
--- under the developmental release 0 of a release is what has its epoch and release below that one's
+-- under the developmental release 0 of a release is what is below it by epoch and release
 pub under-before_dev : (epoch : ℕ) (release : List ℕ) (v : Version)
     → is_under (before_dev epoch release) v ≡ is_lt (ordering_then (nat_cmp v.epoch epoch) (release_cmp v.release release))
 under-before_dev epoch release v =
@@ -141,13 +150,6 @@ under-before_dev epoch release v =
 none-below_first_release : (release : List ℕ) → is_lt (release_cmp release (0 ∷ [])) ≡ false
 none-below_first_release [] = refl
 none-below_first_release (n ∷ rest) = none-below_zeros (n ∷ rest)
-
-epoch_test : (m n : ℕ) → (n == m) ≡ is_eq (nat_cmp n m)
-epoch_test m n =
-    by_order n m
-    (λ (e : n < m). grind (arith, nat_tests))
-    (λ (e : n ≡ m). grind (arith, nat_tests))
-    (λ (e : m < n). grind (arith, nat_tests))
 
 -- by the end of the release
 end_by : (epoch : ℕ) (prefix : List ℕ) (high : Option (List ℕ)) (v : Version) → Fits v.epoch

@@ -81,7 +81,7 @@ same_number n = grind (arith, nat_tests)
 own_first : (n : ℕ) (b : Bool) → b ≡ true → ((n == n) && b) ≡ true
 own_first n b e = rw (same_number n) e
 
--- a release begins with the numbers of one that has more zeros at its end
+-- without the zeros at its end, a release begins with the same numbers once it is padded
 begins_without_zeros : (xs : List ℕ) → begins_padded xs (without_end_zeros xs) ≡ true
 begins_without_zeros [] = refl
 begins_without_zeros (n ∷ rest) = step n (without_end_zeros rest) (begins_without_zeros rest)
