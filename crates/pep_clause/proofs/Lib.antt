@@ -1,4 +1,6 @@
 mod MeetingPoints
 mod NormalMeeting
 mod Rows
+pub mod OrderRows
+pub mod NextPlace
 mod SetLemmas
