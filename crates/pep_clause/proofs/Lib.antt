@@ -3,4 +3,5 @@ mod NormalMeeting
 mod Rows
 pub mod OrderRows
 pub mod NextPlace
+pub mod PlaceCuts
 mod SetLemmas
