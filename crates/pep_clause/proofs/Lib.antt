@@ -4,4 +4,5 @@ mod Rows
 pub mod OrderRows
 pub mod NextPlace
 pub mod PlaceCuts
+pub mod StrictPlaces
 mod SetLemmas

@@ -125,7 +125,7 @@ next_post p n pre post dev label =
 -- ---- behind the last post-release
 
 -- what has this post-release number or a smaller one, and the parts before it alike, is not above
-last_post_not_below : (n : ℕ) (post dev : Option ℕ) → nat_lt n last ≡ false → IfSome post Fits
+pub last_post_not_below : (n : ℕ) (post dev : Option ℕ) → nat_lt n last ≡ false → IfSome post Fits
     → is_lt (ordering_then (option_cmp nat_cmp (Some n) post) (ordering_then (dev_cmp None dev) Equal)) ≡ false
 last_post_not_below n post dev e h =
     then_neither (option_cmp nat_cmp (Some n) post) _ (post-not_above_last n post e h)
@@ -248,7 +248,7 @@ post_by : (b : Bool) (e : ℕ) (r : List ℕ) (p : Option (Phase × ℕ)) (n : �
 post_by true e r p n v b h = above_by e r p (Some n) None p (Some (n + 1)) (Some 0) v (next_post p n v.pre v.post v.dev v.label)
 post_by false e r p n v b h = done-under e r p n v b h
 
-next_by : (e : ℕ) (r : List ℕ) (p : Option (Phase × ℕ)) (q d : Option ℕ) (v : Version) → NumbersFit v
+pub next_by : (e : ℕ) (r : List ℕ) (p : Option (Phase × ℕ)) (q d : Option ℕ) (v : Version) → NumbersFit v
     → is_under (next (parts e r p q d)) v ≡ not (is_below (parts e r p q d) (public_version v))
 next_by e r p None None v h = above_by e r p None None p (Some 0) (Some 0) v (first_post p v.pre v.post v.dev v.label)
 next_by e r p (Some n) None v h = post_by (nat_lt n last) e r p n v refl h
