@@ -5,4 +5,5 @@ pub mod OrderRows
 pub mod NextPlace
 pub mod PlaceCuts
 pub mod StrictPlaces
+pub mod ClauseRows
 mod SetLemmas

@@ -1,22 +1,21 @@
 -- The place directly after a version and all its local version labels: under it are the versions that are not
 -- above that version ("Inclusive ordered comparison"), where their numbers fit.
-use Rattle.std.proofs.Common.{◌≡◌, ℕ, zero, suc, ◌+◌, ◌<◌, Bool, true, false, not, List, [], ◌∷◌, Option, Some, None, IfSome, nat_lt, refl, sym, ap, subst, ◌∙◌}
+use Rattle.std.proofs.Common.{◌≡◌, ℕ, ◌+◌, Bool, true, false, not, List, [], Option, Some, None, IfSome, nat_lt, refl, sym, ap, subst, ◌∙◌}
 use Rattle.std.specs.Cmp.Lexicographic.{slice_cmp}
 use Rattle.std.specs.Option.{option_cmp}
-use Rattle.std.specs.Ordering.{is_lt, nat_cmp, ordering_reverse, ordering_then}
+use Rattle.std.specs.Ordering.{is_lt, nat_cmp, ordering_then}
 use Rattle.std.specs.Prelude.{if◌then◌else◌}
 use Rattle.std.specs.declared.cmp.Ordering.{Ordering}
-use Rattle.std.specs.declared.cmp.Ordering.TheVariants.{Less, Equal, Greater}
+use Rattle.std.specs.declared.cmp.Ordering.TheVariants.{Less, Equal}
 use Rattle.pep_version.specs.declared.parts.Phase.{Phase}
 use Rattle.pep_version.specs.declared.parts.Phase.TheVariants.{Alpha, Beta, Rc}
 use Rattle.pep_version.specs.Laws.{place_total}
-use Rattle.pep_version.specs.Order.{dev_cmp, is_below, phase_rank, place_cmp, pre_number_of, public_version, release_cmp, segment_cmp, short_release, stage_of, suffix_cmp}
+use Rattle.pep_version.specs.Order.{dev_cmp, is_below, phase_rank, place_cmp, pre_number_of, public_version, release_cmp, segment_cmp, stage_of}
 use Rattle.pep_version.specs.Version.{Fits, IsVersion, NumbersFit, Segment, Version}
-use Rattle.pep_clause.specs.Clause.{Prefix}
-use Rattle.pep_clause.specs.Cut.{Cut, before, is_under, past}
+use Rattle.pep_clause.specs.Cut.{is_under}
 use Rattle.pep_clause.specs.Laws.{is_under-cut_cmp}
-use Rattle.pep_clause.specs.OperatorTable.{after_last_dev, before_place, done, done_at, last, next, next_at, next_phase, past_release, with_dev, with_post, with_pre}
-use Rattle.pep_clause.proofs.OrderRows.{Turned, dev-not_below_first, joined_turned, label-not_below, nat_turned, next_number, no_dev-not_below, none-above_last, option_turned, post-not_above_last, post-not_below, stage_turned, then_assoc, then_neither, then_not_below, then_turned, zero-above_none}
+use Rattle.pep_clause.specs.OperatorTable.{after_last_dev, before_place, done, done_at, last, next, next_phase, past_release, with_dev, with_post, with_pre}
+use Rattle.pep_clause.proofs.OrderRows.{Turned, dev-not_below_first, joined_turned, label-not_below, nat_turned, next_number, no_dev-not_below, none-above_last, option_turned, post-not_above_last, post-not_below, stage_turned, then_assoc, then_neither, then_turned, zero-above_none}
 use Rattle.pep_clause.proofs.Rows.{is_below-place_of, release_cmp-short}
 
 -- what is behind the place, of two versions with these parts

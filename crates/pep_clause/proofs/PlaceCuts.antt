@@ -5,8 +5,8 @@ use Rattle.std.specs.Prelude.{if◌then◌else◌}
 use Rattle.pep_version.specs.declared.parts.Phase.{Phase}
 use Rattle.pep_version.specs.declared.parts.Phase.TheVariants.{Alpha, Beta, Rc}
 use Rattle.pep_version.specs.Order.{place_of, without_dev, without_post}
-use Rattle.pep_version.specs.Version.{Fits, IsVersion, NumbersFit, Version, is_empty, is_pre_release}
-use Rattle.pep_clause.specs.Cut.{Cut, IsCut, after, before, least}
+use Rattle.pep_version.specs.Version.{Fits, IsVersion, Version, is_empty, is_pre_release}
+use Rattle.pep_clause.specs.Cut.{IsCut, after, least}
 use Rattle.pep_clause.specs.LeastCut.{IsNormal-all_versions}
 use Rattle.pep_clause.specs.OperatorTable.{after_last_dev, before_place, done, done_at, greater_at, greater_from, last, less_to, matching_to, next, next_at, next_phase, past_release, with_dev, with_post, with_pre}
 use Rattle.pep_clause.proofs.OrderRows.{next_fits}
@@ -34,8 +34,7 @@ IsCut-least = IsNormal-all_versions.spelled.0
 
 pub IsCut-past_release : (w : Version) → IsVersion w → IsCut (past_release w)
 IsCut-past_release w h =
-    let place = IsVersion-place_of w h in
-    (
+    let place = IsVersion-place_of w h in (
       record {
         release = place.release;
         label = tt;

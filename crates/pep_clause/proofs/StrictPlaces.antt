@@ -1,5 +1,5 @@
 -- Where `>` begins and where `<` ends ("Exclusive ordered comparison"), for any version without label.
-use Rattle.std.proofs.Common.{◌≡◌, ℕ, ◌&&◌, ◌||◌, Bool, true, false, not, List, [], ◌∷◌, Option, Some, None, IfSome, is_some, refl, sym, ap, ◌∙◌}
+use Rattle.std.proofs.Common.{◌≡◌, ℕ, ◌&&◌, ◌||◌, Bool, true, false, not, List, [], Option, Some, None, IfSome, is_some, refl, sym, ap, ◌∙◌}
 use Rattle.std.specs.Cmp.{nat_cmp_total}
 use Rattle.std.specs.Cmp.Lexicographic.{slice_cmp}
 use Rattle.std.specs.Option.{option_cmp}
@@ -9,14 +9,13 @@ use Rattle.std.specs.declared.cmp.Ordering.TheVariants.{Less, Equal, Greater}
 use Rattle.pep_version.specs.declared.parts.Phase.{Phase}
 use Rattle.pep_version.specs.declared.parts.Phase.TheVariants.{Alpha, Beta, Rc}
 use Rattle.pep_version.specs.Laws.{place_total}
-use Rattle.pep_version.specs.Order.{dev_cmp, is_below, is_same, phase_rank, place_cmp, public_version, segment_cmp, suffix_cmp, without_dev, without_post}
+use Rattle.pep_version.specs.Order.{dev_cmp, is_below, is_same, phase_rank, place_cmp, public_version, segment_cmp, without_dev, without_post}
 use Rattle.pep_version.specs.Version.{Fits, IsVersion, NumbersFit, Segment, Version, is_pre_release}
 use Rattle.pep_clause.specs.Admits.{is_post_release_of, is_pre_release_of}
-use Rattle.pep_clause.specs.Clause.{Prefix}
-use Rattle.pep_clause.specs.Cut.{Cut, final_version, is_under}
-use Rattle.pep_clause.specs.OperatorTable.{before_place, greater_from, last, less_to, next, with_dev}
+use Rattle.pep_clause.specs.Cut.{is_under}
+use Rattle.pep_clause.specs.OperatorTable.{before_place, greater_from, last, less_to, with_dev}
 use Rattle.pep_clause.proofs.NextPlace.{behind, done-under, last_post_not_below, next_by, parts, without_label}
-use Rattle.pep_clause.proofs.OrderRows.{dev-not_below_first, label-not_below, no_dev-not_below, then_neither, then_not_below}
+use Rattle.pep_clause.proofs.OrderRows.{dev-not_below_first, label-not_below, then_neither}
 use Rattle.pep_clause.proofs.Rows.{is_below-place_of, is_below-public, is_in-from_least, less_than-row}
 
 and_true : (b : Bool) → (b && true) ≡ b
