@@ -19,69 +19,9 @@ use Rattle.pep_clause.specs.VersionSet.{IsNormal, Range, is_in}
 use Rattle.pep_clause.proofs.NextPlace.{next-under}
 use Rattle.pep_clause.proofs.NormalMeeting.{Apart-range, IsNormal-range, Spelled-range}
 use Rattle.pep_clause.proofs.PlaceCuts.{IsCut-greater_from, IsCut-least, IsCut-less_to, IsCut-matching_to, IsCut-next}
+use Rattle.pep_clause.proofs.RangeRows.{IsNormal-outside, outside-row, range-row}
 use Rattle.pep_clause.proofs.Rows.{IsCut-before_place, IsVersion-place_of, is_below-place_of, is_below-public, is_in-from_least, release_cmp-short}
 use Rattle.pep_clause.proofs.StrictPlaces.{greater-under, less-under}
-
--- ---- a range, and what is outside it
-
-or_none : (p : Bool) → (p || false) ≡ p
-or_none true = refl
-or_none false = refl
-
-range_by : (b : Bool) (low high : Cut) (v : Version) → is_lt (cut_cmp low high) ≡ b
-    → is_in (if b then record { low = low; high = high } ∷ [] else []) v ≡ (is_under high v && not (is_under low v))
-range_by true low high v e = or_none (is_under high v && not (is_under low v))
-range_by false low high v e =
-    let told : (is_under high v && not (is_under low v)) ≡ (is_lt (cut_cmp (before v) high) && not (is_lt (cut_cmp (before v) low))) =
-    λ i. is_under-cut_cmp high v i && not (is_under-cut_cmp low v i) in
-    sym (told ∙ none_between cut_total low high (before v) e)
-
--- a range holds what is under its high cut and not under its low one
-pub range-row : (low high : Cut) (v : Version) → is_in (range low high) v ≡ (is_under high v && not (is_under low v))
-range-row low high v = range_by (is_lt (cut_cmp low high)) low high v refl
-
-is_in-append : (xs ys : List Range) (v : Version) → is_in (xs ++ ys) v ≡ (is_in xs v || is_in ys v)
-is_in-append [] ys v = refl
-is_in-append (r ∷ xs) ys v =
-    ap (λ b. (is_under r.high v && not (is_under r.low v)) || b) (is_in-append xs ys v)
-    ∙ or_assoc (is_under r.high v && not (is_under r.low v)) (is_in xs v) (is_in ys v)
-  where
-    or_assoc : (p q t : Bool) → (p || (q || t)) ≡ ((p || q) || t)
-    or_assoc true q t = refl
-    or_assoc false q t = refl
-
--- what is outside a range is what is not in it
-pub outside-row : (low high : Cut) (v : Version) → is_in (outside low high) v ≡ not (is_in (range low high) v)
-outside-row low high v =
-    is_in-append (range least low) (range high end) v
-    ∙ (λ i. is_in-from_least low v i || range-row high end v i)
-    ∙ none_of (is_under low v) (is_under high v)
-    ∙ ap not (sym (range-row low high v))
-  where
-    none_of : (p q : Bool) → (p || not q) ≡ not (q && not p)
-    none_of true true = refl
-    none_of true false = refl
-    none_of false true = refl
-    none_of false false = refl
-
-above_by : (b : Bool) (c low high : Cut) → Under c low → AllAbove c (if b then record { low = low; high = high } ∷ [] else [])
-above_by true c low high e = (e, tt)
-above_by false c low high e = tt
-
-beyond_by : (b : Bool) (c low high : Cut) → is_lt (cut_cmp c high) ≡ false → NoneBeyond c (if b then record { low = low; high = high } ∷ [] else [])
-beyond_by true c low high e = (e, tt)
-beyond_by false c low high e = tt
-
--- the two ranges outside cuts in their one spelling, the low one below the high one, are a normal list
-pub IsNormal-outside : (low high : Cut) → IsCut low → IsCut high → cut_cmp low high ≡ Less → IsNormal (outside low high)
-IsNormal-outside low high f g e =
-    IsNormal-from (outside low high)
-    (
-    Apart-append low (range least low) (range high end) (Apart-range least low) (Apart-range high end)
-    (beyond_by (is_lt (cut_cmp least low)) low least low (not_below_itself cut_total low))
-    (above_by (is_lt (cut_cmp high end)) low high end e)
-    )
-    (Spelled-append (range least low) (range high end) (Spelled-range least low IsCut-least f) (Spelled-range high end g tt))
 
 -- ---- at most, more than and less than a version
 
