@@ -1,4 +1,12 @@
 mod MeetingPoints
 mod NormalMeeting
 mod Rows
+pub mod OrderRows
+pub mod NextPlace
+pub mod PlaceCuts
+pub mod StrictPlaces
+pub mod ClauseRows
 mod SetLemmas
+pub mod RangeRows
+pub mod PrefixPlace
+pub mod PrefixRows

@@ -6,14 +6,23 @@ use pep_version::Version;
 use std::alloc::Global;
 use std::marker::Model;
 
+/// A prefix is kept as the version that is its epoch and release.
 #[derive(Drop)]
 pub(crate) enum Kind {
+    Compatible(Version),
+    Matching(Version),
+    MatchingPrefix(Version),
+    Excluding(Version),
+    ExcludingPrefix(Version),
+    AtMost(Version),
     AtLeast(Version),
     LessThan(Version),
+    GreaterThan(Version),
+    Arbitrary(String),
 }
 
-/// A version specifier clause (PEP 440, "Version specifiers"): an operator and what stands behind it. For now it
-/// is `>=` or `<` and a release with no epoch.
+/// A version specifier clause (PEP 440, "Version specifiers"): an operator, and the version, the prefix or the text
+/// that stands behind it.
 #[derive(Drop)]
 pub struct Clause {
     kind: Kind,
@@ -21,26 +30,25 @@ pub struct Clause {
 
 impl Model for Clause {
     ghost use Rattle.pep_clause.specs.Clause.{Clause};
-    ghost use Rattle.pep_clause.specs.ClauseView.{clause_of};
-    ghost use Rattle.pep_clause.specs.Released.{IsReleaseClause};
+    ghost use Rattle.pep_clause.specs.ClauseView.{IsStored, clause_of};
 
     ghost Value = { Clause };
 
     ghost view = { λ a. clause_of a.kind };
 
-    ghost invariant = { λ a. IsReleaseClause (clause_of a.kind) };
+    ghost invariant = { λ a. IsStored a.kind };
 }
 
 impl Clause {
     ghost use Rattle.std.specs.Prelude.{◌≡◌, IfErr, IfOk};
     ghost use Rattle.pep_clause.specs.Clause.{at_least, less_than};
-    ghost use Rattle.pep_clause.specs.ClauseView.{clause_of};
+    ghost use Rattle.pep_clause.specs.ClauseView.{IsStored, clause_of};
     ghost use Rattle.pep_clause.specs.Operator.{operator};
-    ghost use Rattle.pep_clause.specs.Released.{IsRelease, IsReleaseClause};
+    ghost use Rattle.pep_clause.specs.Valid.{IsPublic, IsValidClause};
 
-    /// `>=` of a release with no epoch and no other part (PEP 440, "Inclusive ordered comparison").
+    /// `>=` of a version without a label (PEP 440, "Inclusive ordered comparison").
     pub fn at_least(version: Version) -> Clause
-        requires { IsRelease version }
+        requires { IsPublic version }
         ensures { result ≡ at_least version }
     {
         Clause {
@@ -48,9 +56,9 @@ impl Clause {
         }
     }
 
-    /// `<` of a release with no epoch and no other part (PEP 440, "Exclusive ordered comparison").
+    /// `<` of a version without a label (PEP 440, "Exclusive ordered comparison").
     pub fn less_than(version: Version) -> Clause
-        requires { IsRelease version }
+        requires { IsPublic version }
         ensures { result ≡ less_than version }
     {
         Clause {
@@ -63,15 +71,21 @@ impl Clause {
         ensures { result ≡ operator self.now }
     {
         match &self.kind {
+            Kind::Compatible(_) => Op::Compatible,
+            Kind::Matching(_) | Kind::MatchingPrefix(_) => Op::Equal,
+            Kind::Excluding(_) | Kind::ExcludingPrefix(_) => Op::NotEqual,
+            Kind::AtMost(_) => Op::AtMost,
             Kind::AtLeast(_) => Op::AtLeast,
             Kind::LessThan(_) => Op::Less,
+            Kind::GreaterThan(_) => Op::More,
+            Kind::Arbitrary(_) => Op::Exact,
         }
     }
 
-    /// The kind, whose version is a release.
+    /// The kind, with what it keeps.
     pub(crate) fn kind(&self) -> &Kind
         ensures kind { clause_of result.now ≡ self.now }
-        ensures release { IsReleaseClause self.now }
+        ensures stored { IsStored result.now }
     {
         &self.kind
     }
@@ -82,8 +96,16 @@ impl Clause {
         ensures faults { IfErr result (λ e. e ≡ ClauseFault.NoMemory) }
     {
         let kind = match &self.kind {
+            Kind::Compatible(version) => Kind::Compatible(version.copied(alloc)?),
+            Kind::Matching(version) => Kind::Matching(version.copied(alloc)?),
+            Kind::MatchingPrefix(version) => Kind::MatchingPrefix(version.copied(alloc)?),
+            Kind::Excluding(version) => Kind::Excluding(version.copied(alloc)?),
+            Kind::ExcludingPrefix(version) => Kind::ExcludingPrefix(version.copied(alloc)?),
+            Kind::AtMost(version) => Kind::AtMost(version.copied(alloc)?),
             Kind::AtLeast(version) => Kind::AtLeast(version.copied(alloc)?),
             Kind::LessThan(version) => Kind::LessThan(version.copied(alloc)?),
+            Kind::GreaterThan(version) => Kind::GreaterThan(version.copied(alloc)?),
+            Kind::Arbitrary(text) => Kind::Arbitrary(String::from_str(alloc, text.as_str())?),
         };
         Ok(Clause { kind })
     }

@@ -149,6 +149,7 @@ impl VersionSet {
                 let high = Cut::before_first_dev(alloc, version.release())?;
                 VersionSet::between(alloc, low, high)
             }
+            _ => VersionSet::all(alloc),
         }
     }
 
