@@ -7,6 +7,7 @@ mod fault;
 mod laws;
 mod op;
 mod range;
+mod reading;
 mod set;
 #[cfg(test)]
 mod tests;

@@ -1,9 +1,9 @@
 // How a clause is read.
 
-ghost use Rattle.std.specs.Prelude.{◌≡◌, IfOk};
-ghost use Rattle.pep_version.specs.Version.{IsVersion};
-ghost use Rattle.pep_clause.specs.Clause.{ClauseOf, ReadsClause, arbitrary_of, is_clause_byte, is_final, prefix_answer, version_answer};
-ghost use Rattle.pep_clause.specs.Valid.{IsValidClause};
+ghost use Rattle.std.specs.Prelude.{◌≡◌, ◌&&◌, not, Ok};
+ghost use Rattle.std.specs.List.{list_all};
+ghost use Rattle.pep_version.specs.Version.{IsVersion, is_empty};
+ghost use Rattle.pep_clause.specs.Clause.{TargetAnswers, is_clause_byte, is_final, prefix_answer, version_answer};
 
 use crate::clause::{Clause, Kind};
 use crate::fault::ClauseFault;
@@ -17,7 +17,20 @@ fn is_clause_byte(b: u8) -> bool
     b.is_ascii_alphanumeric() || matches!(b, b'-' | b'_' | b'.' | b'*' | b'+' | b'!')
 }
 
-/// Whether the version is an epoch and a release, and nothing more.
+fn has_clause_bytes(text: &[u8]) -> bool
+    ensures { result ≡ list_all is_clause_byte text.now }
+{
+    text.iter().all(|b| is_clause_byte(*b))
+}
+
+// Whether the text may stand behind `===`.
+fn is_clause_text(text: &[u8]) -> bool
+    ensures { result ≡ (not (is_empty text.now) && list_all is_clause_byte text.now) }
+{
+    !text.is_empty() && has_clause_bytes(text)
+}
+
+// Whether the version is an epoch and a release, and nothing more.
 fn is_final(version: &Version) -> bool
     ensures { result ≡ is_final version.now }
 {
@@ -29,18 +42,17 @@ fn is_final(version: &Version) -> bool
 
 // `===` and the text behind it.
 fn arbitrary_clause(alloc: Global, text: &str) -> Result<Clause, ClauseFault>
-    ensures { Answers (arbitrary_of text.now) result }
+    ensures { TargetAnswers Op.Exact text.now result }
 {
-    if text.is_empty() || !text.as_bytes().iter().all(|b| is_clause_byte(*b)) {
+    if !is_clause_text(text.as_bytes()) {
         return Err(ClauseFault::BadVersion);
     }
-    let mut text = String::from_str(alloc, text)?;
-    text.make_ascii_lowercase();
-    Ok(Clause::of_kind(Kind::Arbitrary(text)))
+    Ok(Clause::of_kind(Kind::Arbitrary(text.to_ascii_lowercase(alloc)?)))
 }
 
 // The clause of an operator and the version that stands before `.*`.
 fn prefix_clause(operator: Op, version: Version) -> Result<Clause, ClauseFault>
+    requires { IsVersion version }
     ensures { result ≡ prefix_answer operator (Ok version) }
 {
     match operator {
@@ -53,7 +65,8 @@ fn prefix_clause(operator: Op, version: Version) -> Result<Clause, ClauseFault>
 
 // The clause of an operator and a version.
 fn version_clause(operator: Op, version: Version) -> Result<Clause, ClauseFault>
-    ensures { result ≡ version_clause operator version }
+    requires { IsVersion version }
+    ensures { result ≡ version_answer operator (Ok version) }
 {
     let numbers = version.release().len();
     let is_public = version.label().is_empty();
