@@ -1,7 +1,8 @@
 -- Reading a clause: what the answers of its steps say of the text, and what is read is a clause.
-use Rattle.std.proofs.Common.{◌≡◌, ◌≢◌, ◌<◌, ◌≤◌, ◌&&◌, ◌||◌, ◌==◌, ◌-◌, ◌+◌, ℕ, Bool, true, false, not, List, [], ◌∷◌, Bor, Option, None, Result, Ok, Err, length, map, take, refl, sym, ap, subst, ◌∙◌, inl, inr, arith}
+use Rattle.std.proofs.Common.{◌≡◌, ◌≢◌, ◌<◌, ◌≤◌, ◌&&◌, ◌||◌, ◌==◌, ◌-◌, ◌+◌, ℕ, Bool, true, false, not, List, [], ◌∷◌, ◌++◌, Bor, Option, Some, None, Result, Ok, Err, length, map, take, drop, refl, sym, ap, subst, ◌∙◌, inl, inr, arith}
 use denote.Enum.Bare.{sameb}
 use Rattle.std.proofs.lemmas.Bool.{cases_Bool}
+use Rattle.std.proofs.lemmas.Str.{IsCharBoundary-after_ascii}
 use Rattle.std.proofs.lemmas.Str.Pattern.{ends_text}
 use Rattle.std.specs.Char.{is_ascii_uppercase, to_ascii_lowercase}
 use Rattle.std.specs.Int.{is_in_range}
@@ -9,7 +10,7 @@ use Rattle.std.specs.List.{ends_with, list_all}
 use Rattle.std.specs.Option.{MatchOption}
 use Rattle.std.specs.Prelude.{codes, nat_eq}
 use Rattle.std.specs.Result.{IsErr, IsErrAnd}
-use Rattle.std.specs.Str.{str_to_ascii_lowercase}
+use Rattle.std.specs.Str.{IsCharBoundary, IsUtf8, str_to_ascii_lowercase}
 use Rattle.std.specs.Str.Pattern.{FindsTextSuffix, StripsSuffix}
 use Rattle.pep_version.specs.declared.fault.VersionFault.{VersionFault}
 use Rattle.pep_version.specs.Spelling.{Reads, is_white_space, without_trailing_space}
@@ -19,7 +20,8 @@ use Rattle.pep_clause.specs.declared.fault.ClauseFault.{ClauseFault}
 use Rattle.pep_clause.specs.declared.fault.ClauseFault.TheVariants as fault
 use Rattle.pep_clause.specs.declared.op.Op.{Op}
 use Rattle.pep_clause.specs.declared.op.Op.TheVariants as op
-use Rattle.pep_clause.specs.Clause.{Clause, TargetAnswers, VersionAnswers, ends_in_space, is_clause_byte, is_demanded_text, prefix_answer, version_answer}
+use Rattle.pep_clause.specs.Clause.{Clause, TargetAnswers, VersionAnswers, ends_in_space, is_clause_byte, is_demanded_text, operator_of, operator_text, prefix_answer, version_answer}
+use Rattle.pep_clause.specs.OperatorLaws.{operator_shape}
 
 and-first : (a b : Bool) → (a && b) ≡ true → a ≡ true
 and-first true b h = refl
@@ -135,3 +137,21 @@ error-is (Err f) e h = ap Err h.1
 -- the operator that a test tells from `===`
 pub not-exact : (o : Op) → sameb the_type o op.Exact ≡ false → o ≢ op.Exact
 not-exact o h e = let apart : sameb the_type op.Exact op.Exact ≡ false = subst (λ x. sameb the_type x op.Exact ≡ false) e h in cc apart
+
+-- ---- what stands behind the operator
+
+past-operator : (o : Op) (rest : List ℕ) → IsUtf8 (operator_text o ++ rest) → IsCharBoundary (operator_text o ++ rest) (length (operator_text o))
+past-operator op.Compatible rest u = IsCharBoundary-after_ascii (126 ∷ 61 ∷ rest) 1 u (omega arith) (omega arith)
+past-operator op.Equal rest u = IsCharBoundary-after_ascii (61 ∷ 61 ∷ rest) 1 u (omega arith) (omega arith)
+past-operator op.NotEqual rest u = IsCharBoundary-after_ascii (33 ∷ 61 ∷ rest) 1 u (omega arith) (omega arith)
+past-operator op.AtMost rest u = IsCharBoundary-after_ascii (60 ∷ 61 ∷ rest) 1 u (omega arith) (omega arith)
+past-operator op.AtLeast rest u = IsCharBoundary-after_ascii (62 ∷ 61 ∷ rest) 1 u (omega arith) (omega arith)
+past-operator op.Less rest u = IsCharBoundary-after_ascii (60 ∷ rest) 0 u (omega arith) (omega arith)
+past-operator op.More rest u = IsCharBoundary-after_ascii (62 ∷ rest) 0 u (omega arith) (omega arith)
+past-operator op.Exact rest u = IsCharBoundary-after_ascii (61 ∷ 61 ∷ 61 ∷ rest) 2 u (omega arith) (omega arith)
+
+-- a text may be cut behind its operator
+pub behind-operator : (o : Op) (text : List ℕ) → operator_of text ≡ Some o → IsUtf8 text → IsCharBoundary text (length (operator_text o))
+behind-operator o text found u =
+    let shape = operator_shape text o found in
+    subst (λ t. IsCharBoundary t (length (operator_text o))) (sym shape) (past-operator o (drop (length (operator_text o)) text) (subst IsUtf8 shape u))
