@@ -1,6 +1,7 @@
 //! Version specifier clauses, cuts and version sets, by PEP 440.
 #![tactic(auto)]
 
+mod admission;
 mod clause;
 mod cut;
 mod fault;
