@@ -3,6 +3,7 @@
 
 mod admission;
 mod clause;
+mod clause_text;
 mod cut;
 mod fault;
 mod laws;
