@@ -7,6 +7,7 @@ pub mod PlaceCuts
 pub mod StrictPlaces
 pub mod ClauseRows
 mod SetLemmas
+pub mod ReadLemmas
 pub mod RangeRows
 pub mod PrefixPlace
 pub mod PrefixRows

@@ -46,6 +46,15 @@ impl Clause {
     ghost use Rattle.pep_clause.specs.Operator.{operator};
     ghost use Rattle.pep_clause.specs.Valid.{IsPublic, IsValidClause};
 
+    /// The clause that is kept so.
+    pub(crate) fn of_kind(kind: Kind) -> Clause
+        requires { IsStored kind }
+        ensures clause { result ≡ clause_of kind }
+        ensures valid { IsValidClause result }
+    {
+        Clause { kind }
+    }
+
     /// `>=` of a version without a label (PEP 440, "Inclusive ordered comparison").
     pub fn at_least(version: Version) -> Clause
         requires { IsPublic version }
@@ -68,7 +77,8 @@ impl Clause {
 
     /// The operator (PEP 440, "Version specifiers").
     pub fn op(&self) -> Op
-        ensures { result ≡ operator self.now }
+        ensures operator { result ≡ operator self.now }
+        ensures valid { IsValidClause self.now }
     {
         match &self.kind {
             Kind::Compatible(_) => Op::Compatible,

@@ -1,12 +1,15 @@
 //! Version specifier clauses, cuts and version sets, by PEP 440.
 #![tactic(auto)]
 
+mod admission;
 mod clause;
+mod clause_text;
 mod cut;
 mod fault;
 mod laws;
 mod op;
 mod range;
+mod reading;
 mod set;
 #[cfg(test)]
 mod tests;

@@ -1,17 +1,10 @@
--- Parts of texts, and parts that make a version.
-use Rattle.std.proofs.Common.{◌<◌, List, [], ◌∷◌, length, map, ℕ, arith}
+-- Parts that make a version.
+use Rattle.std.proofs.Common.{List, [], ◌∷◌, map}
 use Rattle.std.proofs.lemmas.List.Elements.{All-from_recursion}
 use Rattle.std.specs.List.{All, AllByRecursion}
-use Rattle.std.specs.Str.Parse.{digits_value}
 use Rattle.pep_version.specs.declared.parts.Label.{Label}
 use Rattle.pep_version.specs.View.{segment_of}
-use Rattle.pep_version.specs.Spelling.{dotted_parts}
 use Rattle.pep_version.specs.Version.{IsSegment}
-
--- a text has a part
-pub some-part : (text : List ℕ) → 0 < length (map (digits_value 10) (dotted_parts text))
-some-part [] = omega arith
-some-part (b ∷ rest) = grind (arith)
 
 -- the segments of a label, one by one
 pub segments-from-all : (label : List Label) → AllByRecursion IsSegment (map segment_of label) → All (λ s. IsSegment (segment_of s)) label

@@ -16,6 +16,7 @@ mod writing;
 pub use crate::fault::VersionFault;
 pub use crate::key::Key;
 pub use crate::parts::{Label, Phase};
+pub use crate::space::{trimmed, without_trailing_space};
 pub use crate::version::Version;
 
 #[cfg(test)]

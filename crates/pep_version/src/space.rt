@@ -9,34 +9,35 @@ fn is_white_space(b: u8) -> bool
     matches!(b, b' ' | b'\t'..=b'\r')
 }
 
-fn without_leading_space(text: &[u8]) -> &[u8]
+fn without_leading_space(text: &str) -> &str
     ensures { result.now ≡ without_leading_space text.now }
 {
     let mut rest = text;
-    while let [first, others @ ..] = rest {
+    while let [first, ..] = rest.as_bytes() {
         if !is_white_space(*first) {
             break;
         }
-        rest = others;
+        rest = &rest[1..];
     }
     rest
 }
 
-fn without_trailing_space(text: &[u8]) -> &[u8]
+/// The text without white space at its end (PEP 440, "Leading and Trailing Whitespace").
+pub fn without_trailing_space(text: &str) -> &str
     ensures { result.now ≡ without_trailing_space text.now }
 {
     let mut rest = text;
-    while let [others @ .., last] = rest {
+    while let [others @ .., last] = rest.as_bytes() {
         if !is_white_space(*last) {
             break;
         }
-        rest = others;
+        rest = &rest[..others.len()];
     }
     rest
 }
 
-/// The text without white space at both ends.
-pub(crate) fn trimmed(text: &[u8]) -> &[u8]
+/// The text without white space at both ends (PEP 440, "Leading and Trailing Whitespace").
+pub fn trimmed(text: &str) -> &str
     ensures { result.now ≡ trimmed text.now }
 {
     without_trailing_space(without_leading_space(text))

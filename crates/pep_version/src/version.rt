@@ -126,7 +126,7 @@ impl Version {
     pub fn read(alloc: Global, text: &str) -> Result<Version, VersionFault>
         ensures { Reads text.now result }
     {
-        let Some(cut) = cut_version(trimmed(text.as_bytes())) else {
+        let Some(cut) = cut_version(trimmed(text).as_bytes()) else {
             return Err(VersionFault::NotAVersion);
         };
         Version::of_cut(alloc, cut)

@@ -1,9 +1,11 @@
 use Rattle.std.proofs.Common.{◌≡◌, length}
+use denote.Text.{Utf8}
+use denote.Shadow.{shadow}
 use Rattle.pep_version.specs.Spelling.{without_leading_space}
 use Rattle.pep_version.proofs.space.without_leading_space.Given as goal
 
-abbrev pub invariant-loop-rest : goal.invariant-loop-rest
-invariant-loop-rest l = without_leading_space l.rest ≡ without_leading_space l.text
+abbrev pub invariant-loop-first : goal.invariant-loop-first
+invariant-loop-first l = shadow (Utf8 l.rest) × (without_leading_space l.rest ≡ without_leading_space l.text)
 
-abbrev pub decreases-loop-rest : goal.decreases-loop-rest
-decreases-loop-rest l = length l.rest
+abbrev pub decreases-loop-first : goal.decreases-loop-first
+decreases-loop-first l = length l.rest
