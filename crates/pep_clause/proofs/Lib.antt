@@ -6,7 +6,6 @@ pub mod NextPlace
 pub mod PlaceCuts
 pub mod StrictPlaces
 pub mod ClauseRows
-mod SetLemmas
 pub mod ReadLemmas
 pub mod RangeRows
 pub mod PrefixPlace

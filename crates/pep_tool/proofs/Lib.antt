@@ -11,3 +11,4 @@ pub mod PrintLemmas
 pub mod VerdictLemmas
 pub mod MergeLemmas
 pub mod PlanLemmas
+pub mod BoundsLemmas

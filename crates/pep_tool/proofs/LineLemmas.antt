@@ -1,31 +1,29 @@
 -- How a line is cut: the pieces of a line that is read are what a reader from left to right finds.
-use Rattle.std.proofs.Common.{◌≡◌, ◌≢◌, ℕ, ◌<◌, ◌≤◌, ◌⊎◌, ◌==◌, Bool, true, false, not, List, [], ◌∷◌, ◌++◌, length, length-drop, take, drop, ◌-◌, Option, Some, None, Err, Ok, refl, sym, ap, subst, ◌∙◌, arith, inl, inr}
+use Rattle.std.proofs.Common.{◌≡◌, ◌≢◌, ℕ, ◌<◌, ◌≤◌, ◌⊎◌, ◌==◌, Bool, true, false, not, List, [], ◌∷◌, ◌++◌, length, length-append, take, drop, ◌-◌, Option, Some, None, Result, Err, Ok, refl, sym, ap, subst, ◌∙◌, arith, inl, inr}
 use Rattle.std.specs.Prelude.{if◌then◌else◌, nat_eq, nat_lt}
-use Rattle.std.specs.List.{list_all, prefix_len, starts_with}
-use Rattle.std.specs.Str.{IsUtf8, str_to_ascii_lowercase}
+use Rattle.std.specs.List.{AllZip, list_all, onto_first, prefix_len, slice_split, starts_with}
+use Rattle.std.specs.Str.{IsUtf8}
 use Rattle.std.proofs.Math.Seq.{drop-append_seam}
-use Rattle.std.proofs.lemmas.Bool.Decides.{Decides-eqb, nat_tests}
-use Rattle.std.proofs.lemmas.List.{take-append-drop, take_all}
+use Rattle.std.proofs.lemmas.Bool.Decides.{nat_tests}
+use Rattle.std.proofs.lemmas.List.{take-append-drop}
 use Rattle.std.proofs.lemmas.List.Folds.{length-prefix_len}
-use Rattle.std.proofs.lemmas.Slice.Eq.{starts_is}
+use Rattle.std.proofs.lemmas.List.Splits.{length-slice_split, slice_split-cons_no, slice_split-cons_yes}
 use Rattle.std.proofs.lemmas.Str.{IsUtf8-from_ascii}
-use Rattle.pep_version.specs.Spelling.{Reads, SpellsAny, dotted_parts, is_number, trimmed}
-use Rattle.pep_version.specs.Version.{Version}
-use Rattle.pep_version.specs.declared.fault.VersionFault.{VersionFault}
-use Rattle.pep_version.specs.declared.fault.VersionFault.TheVariants as version_fault
-use Rattle.pep_clause.specs.Clause.{Clause, begins_with, is_clause_byte, operator_of, operator_text}
-use Rattle.pep_clause.specs.Released.{IsRelease}
+use Rattle.pep_clause.specs.Clause.{Clause, ClauseOf, arbitrary, demanded_text, is_clause_byte, operator_of, operator_text}
+use Rattle.pep_clause.specs.OneAnswer.{clause_told, no-clause-of-nothing, one-answer}
+use Rattle.pep_clause.specs.OperatorLaws.{operator_shape}
+use Rattle.pep_clause.specs.declared.fault.ClauseFault.{ClauseFault}
 use Rattle.pep_clause.specs.declared.fault.ClauseFault.TheVariants as clause_fault
 use Rattle.pep_clause.specs.declared.op.Op.{Op}
 use Rattle.pep_clause.specs.declared.op.Op.TheVariants as op
 use Rattle.pep_marker.specs.Marker.{begins, is_blank_byte}
 use Rattle.pep_marker.specs.Name.{is_letter_or_digit, is_name, is_name_byte, is_separator, name_of, normalized}
-use Rattle.pep_require.specs.Faults.{after_name, beginning_fault, name_run, without_leading_blanks}
+use Rattle.pep_require.specs.Faults.{beginning_fault, name_run, without_leading_blanks}
 use Rattle.pep_require.specs.Reads.{line_limit}
 use Rattle.pep_require.specs.Requirement.{RequirementParts}
 use Rattle.pep_require.specs.declared.fault.RequireFault.{RequireFault}
 use Rattle.pep_require.specs.declared.fault.RequireFault.TheVariants as fault
-use Rattle.pep_tool.specs.Line.{IsOperand, ReadsBound, ReadsLine, ReadsVersion, RefusesBound, RefusesBoundAs, RefusesLine, RefusesLineAs, RefusesVersion, after_operator, after_version, clause_run, line_clause, plain_requirement, release_fault_of}
+use Rattle.pep_tool.specs.Line.{IsOperand, ReadsBound, ReadsBounds, ReadsLine, RefusesBound, RefusesBounds, RefusesFound, RefusesLine, RefusesLineAs, RefusesOperand, RefusesPieces, after_operator, after_run, behind_name, clause_run, pieces_of, plain_requirement}
 use Rattle.pep_tool.proofs.RunLemmas.{and_first, and_second, all-rest, all-run, ascii-class, rest-all, rest-span, run-span}
 
 -- ---- classes of bytes
@@ -68,40 +66,30 @@ clause_text_utf8 x h = IsUtf8-from_ascii x (ascii-class is_clause_byte clause_by
 pub name_text_utf8 : (x : List ℕ) → list_all is_name_byte x ≡ true → IsUtf8 x
 name_text_utf8 x h = IsUtf8-from_ascii x (ascii-class is_name_byte name_byte_small x h)
 
--- ---- operators
+-- ---- pieces between commas
 
-pick : (x : List ℕ) (b : Bool) (o p : Op) (rest : Option Op) → begins_with o x ≡ b → (rest ≡ Some p → begins_with p x ≡ true) →
-    (if b then Some o else rest) ≡ Some p → begins_with p x ≡ true
-pick x true o p rest e k h = let same : o ≡ p = cc h in subst (λ t. begins_with t x ≡ true) same e
-pick x false o p rest e k h = k h
+no_pieces : (x : List ℕ) → pieces_of x ≡ [] → ⊥
+no_pieces x e = let count : length (pieces_of x) ≡ 0 = ap length e in omega (arith, count, length-slice_split (λ b. b == 44) x)
 
-none_picked : (x : List ℕ) (p : Op) → None ≡ Some p → begins_with p x ≡ true
-none_picked x p h = cc h
+-- a part that is no nothing is the front of the text that is cut
+begins_part : (p : ℕ → Bool) (byte : ℕ) (x part : List ℕ) (parts : List (List ℕ)) → slice_split (λ b. b == byte) x ≡ part ∷ parts → part ≢ [] → begins p x ≡ begins p part
+begins_part p byte [] part parts e some = absurd (some (cc e))
+begins_part p byte (b ∷ x) part parts e some = by (b == byte) refl
+  where
+    onto : (list : List (List ℕ)) → onto_first b list ≡ part ∷ parts → p b ≡ begins p part
+    onto [] f = let same : b ∷ [] ≡ part = cc f in ap (begins p) same
+    onto (first ∷ rest) f = let same : b ∷ first ≡ part = cc f in ap (begins p) same
 
--- the operator that is found stands in front
-operator_begins : (x : List ℕ) (p : Op) → operator_of x ≡ Some p → begins_with p x ≡ true
-operator_begins x p =
-    pick x _ op.Exact p _ refl (pick x _ op.Compatible p _ refl (pick x _ op.Equal p _ refl (pick x _ op.NotEqual p _ refl
-    (pick x _ op.AtMost p _ refl (pick x _ op.AtLeast p _ refl (pick x _ op.Less p _ refl (pick x _ op.More p _ refl (none_picked x p))))))))
-
-pub operator_shape : (x : List ℕ) (p : Op) → operator_of x ≡ Some p → x ≡ operator_text p ++ drop (length (operator_text p)) x
-operator_shape x p h = (starts_is Decides-eqb x (operator_text p) (begins_with p x) refl).0 (operator_begins x p h)
+    by : (t : Bool) → (b == byte) ≡ t → p b ≡ begins p part
+    by true at =
+        let same : [] ≡ part = cc (sym (slice_split-cons_yes (λ c. c == byte) b x at) ∙ e) in
+        absurd (some (sym same))
+    by false at = onto (slice_split (λ c. c == byte) x) (sym (slice_split-cons_no (λ c. c == byte) b x at) ∙ e)
 
 -- ---- what stands behind the operator
 
--- a version is written with a byte at least
-some_run : (run : List ℕ) (v : Version) → SpellsAny run v → run ≡ [] → ⊥
-some_run run v s e =
-    let pieces : [] ≡ s.preceding_v ++ (s.epoch ++ (s.release ++ (s.pre ++ (s.post ++ (s.dev ++ (s.label ++ [])))))) = ap (λ (x : List ℕ). str_to_ascii_lowercase (trimmed x)) (sym e) ∙ s.pieces in
-    none s.release _ (behind_none s.epoch _ (behind_none s.preceding_v _ (sym pieces))) s.release_is.0
-  where
-    behind_none : (x y : List ℕ) → x ++ y ≡ [] → y ≡ []
-    behind_none [] y h = h
-    behind_none (b ∷ x) y h = cc h
-
-    none : (release rest : List ℕ) → release ++ rest ≡ [] → list_all is_number (dotted_parts release) ≡ true → ⊥
-    none [] rest h g = cc g
-    none (b ∷ release) rest h g = cc h
+some_run : (o : Op) (run : List ℕ) (c : Clause) → ClauseOf o run (Ok c) → run ≡ [] → ⊥
+some_run o run c s e = no-clause-of-nothing o c (subst (λ (x : List ℕ). ClauseOf o x (Ok c)) e s)
 
 begins_run : (p : ℕ → Bool) → ((b : ℕ) → is_clause_byte b ≡ true → p b ≡ false) → (run rest : List ℕ) → (run ≡ [] → ⊥) → list_all is_clause_byte run ≡ true → begins p (run ++ rest) ≡ false
 begins_run p off [] rest some h = absurd (some refl)
@@ -115,164 +103,215 @@ begins_after : (p : ℕ → Bool) → ((b : ℕ) → is_blank_byte b ≡ true �
 begins_after p off [] rest h g = g
 begins_after p off (b ∷ space) rest h g = off b (and_first (is_blank_byte b) (list_all is_blank_byte space) h)
 
-less_tail : (tail : List ℕ) → begins (λ b. 61 == b) tail ≡ false → operator_of (60 ∷ tail) ≡ Some op.Less
-less_tail [] h = refl
-less_tail (b ∷ tail) h = rw h refl
+-- an operator is found where no `=` follows it
+found_operator : (o : Op) (tail : List ℕ) → begins (λ b. 61 == b) tail ≡ false → operator_of (operator_text o ++ tail) ≡ Some o
+found_operator op.Compatible tail h = refl
+found_operator op.NotEqual tail h = refl
+found_operator op.AtMost tail h = refl
+found_operator op.AtLeast tail h = refl
+found_operator op.Exact tail h = refl
+found_operator op.Equal [] h = refl
+found_operator op.Equal (b ∷ tail) h = rw h refl
+found_operator op.Less [] h = refl
+found_operator op.Less (b ∷ tail) h = rw h refl
+found_operator op.More [] h = refl
+found_operator op.More (b ∷ tail) h = rw h refl
 
 -- behind the operator and its white space a reader finds the run, and nothing behind it
-cut_behind : (run rest : List ℕ) (v : Version) → SpellsAny run v → list_all is_clause_byte run ≡ true → list_all is_blank_byte rest ≡ true →
-    (clause_run (run ++ rest) ≡ run) × (after_version (run ++ rest) ≡ [])
-cut_behind run rest v s b r =
-    let found : clause_run (run ++ rest) ≡ run = run-span is_clause_byte run rest b (begins_blank is_clause_byte blank_no_clause rest r) in
-    let left : drop (length (clause_run (run ++ rest))) (run ++ rest) ≡ rest = ap (λ (l : List ℕ). drop (length l) (run ++ rest)) found ∙ drop-append_seam run rest in
-    (found, ap without_leading_blanks left ∙ rest-all is_blank_byte rest r)
+cut_behind : (run after : List ℕ) → list_all is_clause_byte run ≡ true → list_all is_blank_byte after ≡ true →
+    (clause_run (run ++ after) ≡ run) × (after_run (run ++ after) ≡ [])
+cut_behind run after b r =
+    let found : clause_run (run ++ after) ≡ run = run-span is_clause_byte run after b (begins_blank is_clause_byte blank_no_clause after r) in
+    let left : drop (length (clause_run (run ++ after))) (run ++ after) ≡ after = ap (λ (l : List ℕ). drop (length l) (run ++ after)) found ∙ drop-append_seam run after in
+    (found, ap without_leading_blanks left ∙ rest-all is_blank_byte after r)
 
-after_space : (space run rest : List ℕ) (v : Version) → SpellsAny run v → list_all is_clause_byte run ≡ true → list_all is_blank_byte space ≡ true →
-    without_leading_blanks (space ++ (run ++ rest)) ≡ run ++ rest
-after_space space run rest v s b h = rest-span is_blank_byte space (run ++ rest) h (begins_run is_blank_byte clause_no_blank run rest (some_run run v s) b)
+-- an operator begins with no byte of a class that has none of `~ = ! < >`
+abbrev pub OffOperators : (ℕ → Bool) → Type 0
+OffOperators p = (p 126 ≡ false) × (p 61 ≡ false) × (p 33 ≡ false) × (p 60 ≡ false) × (p 62 ≡ false)
+
+begins_operator : (p : ℕ → Bool) → OffOperators p → (o : Op) (tail : List ℕ) → begins p (operator_text o ++ tail) ≡ false
+begins_operator p off op.Compatible tail = off.0
+begins_operator p off op.Equal tail = off.1
+begins_operator p off op.Exact tail = off.1
+begins_operator p off op.NotEqual tail = off.2
+begins_operator p off op.AtMost tail = off.3
+begins_operator p off op.Less tail = off.3
+begins_operator p off op.AtLeast tail = off.4
+begins_operator p off op.More tail = off.4
 
 -- what a reader finds of the pieces of a bound
 abbrev CutsBound : List ℕ → Op → List ℕ → Type 0
-CutsBound x o run = (operator_of x ≡ Some o) × (clause_run (after_operator o x) ≡ run) × (after_version (after_operator o x) ≡ [])
+CutsBound x o run = (operator_of x ≡ Some o) × (clause_run (after_operator o x) ≡ run) × (after_run (after_operator o x) ≡ [])
 
-cut_tail : (space run rest : List ℕ) (v : Version) → SpellsAny run v → list_all is_clause_byte run ≡ true → list_all is_blank_byte space ≡ true →
-    list_all is_blank_byte rest ≡ true →
-    (clause_run (without_leading_blanks (space ++ (run ++ rest))) ≡ run) × (after_version (without_leading_blanks (space ++ (run ++ rest))) ≡ [])
-cut_tail space run rest v s b h r =
-    let gone = after_space space run rest v s b h in
-    let found = cut_behind run rest v s b r in
-    (ap clause_run gone ∙ found.0, ap after_version gone ∙ found.1)
+cut_pieces : (o : Op) (space run after : List ℕ) (c : Clause) → ClauseOf o run (Ok c) → list_all is_clause_byte run ≡ true →
+    list_all is_blank_byte space ≡ true → list_all is_blank_byte after ≡ true → CutsBound (operator_text o ++ (space ++ (run ++ after))) o run
+cut_pieces o space run after c s b h r =
+    let tail = space ++ (run ++ after) in
+    let apart : begins (λ b. 61 == b) tail ≡ false =
+    begins_after (λ b. 61 == b) blank_no_equal space (run ++ after) h (begins_run (λ b. 61 == b) clause_no_equal run after (some_run o run c s) b) in
+    let gone : without_leading_blanks tail ≡ run ++ after =
+    rest-span is_blank_byte space (run ++ after) h (begins_run is_blank_byte clause_no_blank run after (some_run o run c s) b) in
+    let behind : after_operator o (operator_text o ++ tail) ≡ run ++ after = ap without_leading_blanks (drop-append_seam (operator_text o) tail) ∙ gone in
+    let found = cut_behind run after b r in
+    (found_operator o tail apart, ap clause_run behind ∙ found.0, ap after_run behind ∙ found.1)
 
-cut_pieces : (o : Op) (space run rest : List ℕ) (v : Version) (c : Clause) → line_clause o v ≡ Some c → SpellsAny run v →
-    list_all is_clause_byte run ≡ true → list_all is_blank_byte space ≡ true → list_all is_blank_byte rest ≡ true →
-    CutsBound (operator_text o ++ (space ++ (run ++ rest))) o run
-cut_pieces op.AtLeast space run rest v c e s b h r = let found = cut_tail space run rest v s b h r in (refl, found.0, found.1)
-cut_pieces op.Less space run rest v c e s b h r =
-    let found = cut_tail space run rest v s b h r in
-    (less_tail (space ++ (run ++ rest)) (begins_after (λ b. 61 == b) blank_no_equal space (run ++ rest) h (begins_run (λ b. 61 == b) clause_no_equal run rest (some_run run v s) b)), found.0, found.1)
-cut_pieces op.Compatible space run rest v c e s b h r = cc e
-cut_pieces op.Equal space run rest v c e s b h r = cc e
-cut_pieces op.NotEqual space run rest v c e s b h r = cc e
-cut_pieces op.AtMost space run rest v c e s b h r = cc e
-cut_pieces op.More space run rest v c e s b h r = cc e
-cut_pieces op.Exact space run rest v c e s b h r = cc e
+blank_off : OffOperators is_blank_byte
+blank_off = (refl, refl, refl, refl, refl)
 
-cut_bound : (x : List ℕ) (c : Clause) (s : ReadsBound x c) → CutsBound x s.operator s.run
-cut_bound x c s = subst (λ (t : List ℕ). CutsBound t s.operator s.run) (sym s.whole)
-    (cut_pieces s.operator s.space s.run s.rest s.version c s.reads_clause s.reads_version.0.0 s.bytes s.blank.0 s.blank.1)
+cut_bound : (x : List ℕ) (c : Clause) (s : ReadsBound x c) → CutsBound (without_leading_blanks x) s.operator s.run
+cut_bound x c s =
+    let behind = operator_text s.operator ++ (s.space ++ (s.run ++ s.after)) in
+    let gone : without_leading_blanks x ≡ behind =
+    ap without_leading_blanks s.whole ∙ rest-span is_blank_byte s.before behind s.blank.0 (begins_operator is_blank_byte blank_off s.operator _) in
+    subst (λ (t : List ℕ). CutsBound t s.operator s.run) (sym gone)
+    (cut_pieces s.operator s.space s.run s.after c s.clause s.bytes s.blank.1 s.blank.2)
 
--- a bound that is read begins with `>` or `<`
-begins_bound : (p : ℕ → Bool) → p 62 ≡ false → p 60 ≡ false → (x : List ℕ) (c : Clause) → ReadsBound x c → begins p x ≡ false
-begins_bound p more less x c s = ap (begins p) s.whole ∙ by s.operator (s.space ++ (s.run ++ s.rest)) s.version s.reads_clause
+no_operator_text : (o : Op) (tail : List ℕ) → operator_text o ++ tail ≢ []
+no_operator_text op.Compatible tail e = cc e
+no_operator_text op.Equal tail e = cc e
+no_operator_text op.NotEqual tail e = cc e
+no_operator_text op.AtMost tail e = cc e
+no_operator_text op.AtLeast tail e = cc e
+no_operator_text op.Less tail e = cc e
+no_operator_text op.More tail e = cc e
+no_operator_text op.Exact tail e = cc e
+
+not_nothing : (before tail : List ℕ) → tail ≢ [] → before ++ tail ≢ []
+not_nothing [] tail some e = some e
+not_nothing (b ∷ before) tail some e = cc e
+
+bound_some : (x : List ℕ) (c : Clause) → ReadsBound x c → x ≢ []
+bound_some x c s e = not_nothing s.before _ (no_operator_text s.operator (s.space ++ (s.run ++ s.after))) (sym s.whole ∙ e)
+
+begins_bound : (p : ℕ → Bool) → OffOperators p → ((b : ℕ) → is_blank_byte b ≡ true → p b ≡ false) → (x : List ℕ) (c : Clause) → ReadsBound x c → begins p x ≡ false
+begins_bound p off blank x c s =
+    ap (begins p) s.whole
+    ∙ begins_after p blank s.before (operator_text s.operator ++ (s.space ++ (s.run ++ s.after))) s.blank.0 (begins_operator p off s.operator _)
+
+-- clauses begin with no byte of such a class
+begins_bounds : (p : ℕ → Bool) → OffOperators p → ((b : ℕ) → is_blank_byte b ≡ true → p b ≡ false) → (x : List ℕ) (cs : List Clause) → ReadsBounds x cs → begins p x ≡ false
+begins_bounds p off blank [] cs z = refl
+begins_bounds p off blank (b ∷ x) cs z = by (pieces_of (b ∷ x)) refl cs z
   where
-    by : (o : Op) (tail : List ℕ) (v : Version) → line_clause o v ≡ Some c → begins p (operator_text o ++ tail) ≡ false
-    by op.AtLeast tail v e = more
-    by op.Less tail v e = less
-    by op.Compatible tail v e = cc e
-    by op.Equal tail v e = cc e
-    by op.NotEqual tail v e = cc e
-    by op.AtMost tail v e = less
-    by op.More tail v e = more
-    by op.Exact tail v e = cc e
+    by : (pieces : List (List ℕ)) → pieces_of (b ∷ x) ≡ pieces → (cs : List Clause) → AllZip ReadsBound pieces cs → p b ≡ false
+    by [] e cs z = absurd (no_pieces (b ∷ x) e)
+    by (piece ∷ pieces) e [] z = absurd z
+    by (piece ∷ pieces) e (c ∷ cs) z = begins_part p 44 (b ∷ x) piece pieces e (bound_some piece c z.0) ∙ begins_bound p off blank piece c z.0
 
 -- ---- a bound that is refused is none
 
-version_refused : (y : List ℕ) (f : RequireFault) (v : Version) → Reads (clause_run y) (Ok v) → IsRelease v → after_version y ≡ [] → RefusesVersion y f → ⊥
-version_refused y (fault.BadClause clause_fault.BadVersion) v s n e h = elim h [
-  | inl never ↦ never v s.0.0
-  | inr other ↦ other.2 (subst IsRelease (sym (s.1 other.0 other.1.0.0)) n)
-]
-version_refused y (fault.BadClause clause_fault.NumberTooLarge) v s n e h = h.1 v s.0
-version_refused y (fault.BadClause clause_fault.NoOperator) v s n e h = absurd h
-version_refused y (fault.BadClause clause_fault.StarNotAllowed) v s n e h = absurd h
-version_refused y (fault.BadClause clause_fault.LocalNotAllowed) v s n e h = absurd h
-version_refused y (fault.BadClause clause_fault.OneNumber) v s n e h = absurd h
-version_refused y (fault.BadClause clause_fault.NoMemory) v s n e h = absurd h
-version_refused y fault.Trailing v s n e h = let none : length (after_version y) ≡ 0 = ap length e in omega (arith, none, h.1)
-version_refused y fault.BadName v s n e h = absurd h
-version_refused y fault.BadExtras v s n e h = absurd h
-version_refused y fault.BadUrl v s n e h = absurd h
-version_refused y (fault.BadMarker m) v s n e h = absurd h
-version_refused y fault.OptionLine v s n e h = absurd h
-version_refused y fault.LineTooLong v s n e h = absurd h
-version_refused y fault.UrlOverflow v s n e h = absurd h
-version_refused y fault.NoMemory v s n e h = absurd h
+is_told : (o : Op) (run : List ℕ) (c : Clause) → ClauseOf o run (Ok c) → demanded_text c ≡ None → o ≢ op.Exact
+is_told o run c s told e = by (subst (λ (p : Op). ClauseOf p run (Ok c)) e s)
+  where
+    text_in : Result Clause ClauseFault → Option (List ℕ)
+    text_in (Ok d) = demanded_text d
+    text_in (Err f) = None
 
-refuses_as : (x : List ℕ) (f : RequireFault) → f ≢ fault.NoMemory → RefusesBound x f → RefusesBoundAs (operator_of x) x f
-refuses_as x (fault.BadClause g) m h = h
-refuses_as x fault.Trailing m h = h
-refuses_as x fault.BadName m h = h
-refuses_as x fault.BadExtras m h = h
-refuses_as x fault.BadUrl m h = h
-refuses_as x (fault.BadMarker g) m h = h
-refuses_as x fault.OptionLine m h = h
-refuses_as x fault.LineTooLong m h = h
-refuses_as x fault.UrlOverflow m h = h
-refuses_as x fault.NoMemory m h = absurd (m refl)
+    exact : (t : Bool) (text : List ℕ) → Ok c ≡ (if t then Ok (arbitrary text) else Err clause_fault.BadVersion) → ⊥
+    exact true text h = cc (sym told ∙ ap text_in h)
+    exact false text h = cc h
 
-bound_refused_at : (o : Op) (x : List ℕ) (f : RequireFault) (c : Clause) (v : Version) → line_clause o v ≡ Some c → Reads (clause_run (after_operator o x)) (Ok v) →
-    IsRelease v → after_version (after_operator o x) ≡ [] → RefusesBoundAs (Some o) x f → ⊥
-bound_refused_at op.AtLeast x f c v e s n r h = version_refused (after_operator op.AtLeast x) f v s n r h
-bound_refused_at op.Less x f c v e s n r h = version_refused (after_operator op.Less x) f v s n r h
-bound_refused_at op.Compatible x f c v e s n r h = cc e
-bound_refused_at op.Equal x f c v e s n r h = cc e
-bound_refused_at op.NotEqual x f c v e s n r h = cc e
-bound_refused_at op.AtMost x f c v e s n r h = cc e
-bound_refused_at op.More x f c v e s n r h = cc e
-bound_refused_at op.Exact x f c v e s n r h = cc e
+    by : ClauseOf op.Exact run (Ok c) → ⊥
+    by h = exact _ _ h
 
-pub bound_refused : (x : List ℕ) (f : RequireFault) (c : Clause) → f ≢ fault.NoMemory → RefusesBound x f → ReadsBound x c → ⊥
-bound_refused x f c m h s =
+abbrev answer_ok : Clause → Result Clause ClauseFault
+answer_ok c = Ok c
+
+abbrev answer_err : ClauseFault → Result Clause ClauseFault
+answer_err e = Err e
+
+err_told : (e f : ClauseFault) → answer_err e ≡ answer_err f → e ≡ f
+err_told e f h = cc h
+
+ok_told : (c d : Clause) → answer_ok c ≡ answer_ok d → c ≡ d
+ok_told c d h = cc h
+
+apart : (c : Clause) (e : ClauseFault) → answer_ok c ≡ answer_err e → ⊥
+apart c e h = cc h
+
+operand_refused : (o : Op) (x : List ℕ) (f : RequireFault) (c : Clause) → o ≢ op.Exact → IsOperand o x c → RefusesOperand o x f → ⊥
+operand_refused op.Exact x f c other s h = other refl
+operand_refused o x (fault.BadClause e) c other s h =
+    apart c e (one-answer o (clause_run x) (Ok c) (Err e) s.0 h.1 (λ q. cc q) (λ q. h.0 (err_told e clause_fault.NoMemory q)))
+operand_refused o x fault.Trailing c other s h = let none : length (after_run x) ≡ 0 = ap length s.1 in omega (arith, none, h.1)
+operand_refused o x fault.BadName c other s h = absurd h
+operand_refused o x fault.BadExtras c other s h = absurd h
+operand_refused o x fault.BadUrl c other s h = absurd h
+operand_refused o x (fault.BadMarker m) c other s h = absurd h
+operand_refused o x fault.OptionLine c other s h = absurd h
+operand_refused o x fault.LineTooLong c other s h = absurd h
+operand_refused o x fault.UrlOverflow c other s h = absurd h
+operand_refused o x fault.NoMemory c other s h = absurd h
+
+bound_refused : (x : List ℕ) (f : RequireFault) (c : Clause) → RefusesBound x f → ReadsBound x c → ⊥
+bound_refused x f c h s =
     let cut = cut_bound x c s in
-    bound_refused_at s.operator x f c s.version s.reads_clause (subst (λ (t : List ℕ). Reads t (Ok s.version)) (sym cut.1) s.reads_version) s.release cut.2
-    (subst (λ (t : Option Op). RefusesBoundAs t x f) cut.0 (refuses_as x f m h))
+    operand_refused s.operator (after_operator s.operator (without_leading_blanks x)) f c (is_told s.operator s.run c s.clause s.told)
+    (subst (λ (t : List ℕ). ClauseOf s.operator t (Ok c)) (sym cut.1) s.clause, cut.2)
+    (subst (λ (t : Option Op). RefusesFound t (without_leading_blanks x) f) cut.0 h)
 
--- ---- a text is one bound at most
+pieces_refused : (pieces : List (List ℕ)) (f : RequireFault) (cs : List Clause) → RefusesPieces pieces f → AllZip ReadsBound pieces cs → ⊥
+pieces_refused [] f cs h z = absurd h
+pieces_refused (x ∷ pieces) f [] h z = absurd z
+pieces_refused (x ∷ pieces) f (c ∷ cs) (inl here) z = bound_refused x f c here z.0
+pieces_refused (x ∷ pieces) f (c ∷ cs) (inr later) z = pieces_refused pieces f cs later.1 z.1
 
-one_release : (x : List ℕ) (v w : Version) → Reads x (Ok v) → Reads x (Ok w) → v ≡ w
-one_release x v w s t = sym (s.1 w t.0.0)
+-- ---- a text is one list of clauses at most
 
-pub one_bound : (x : List ℕ) (c d : Clause) → ReadsBound x c → ReadsBound x d → c ≡ d
+one_bound : (x : List ℕ) (c d : Clause) → ReadsBound x c → ReadsBound x d → c ≡ d
 one_bound x c d s t =
+    let y = without_leading_blanks x in
     let first = cut_bound x c s in
     let second = cut_bound x d t in
     let operators : s.operator ≡ t.operator = cc (first.0, second.0) in
-    let runs : s.run ≡ t.run = sym first.1 ∙ ap (λ (o : Op). clause_run (after_operator o x)) operators ∙ second.1 in
-    let versions : s.version ≡ t.version = one_release t.run s.version t.version (subst (λ (r : List ℕ). Reads r (Ok s.version)) runs s.reads_version) t.reads_version in
-    let clauses : line_clause s.operator s.version ≡ line_clause t.operator t.version = λ i. line_clause (operators i) (versions i) in
-    let same : Some c ≡ Some d = sym s.reads_clause ∙ clauses ∙ t.reads_clause in
-    cc same
+    let runs : s.run ≡ t.run = sym first.1 ∙ ap (λ (o : Op). clause_run (after_operator o y)) operators ∙ second.1 in
+    let own : ClauseOf t.operator t.run (Ok c) = subst (λ (l : List ℕ). ClauseOf t.operator l (Ok c)) runs (subst (λ (o : Op). ClauseOf o s.run (Ok c)) operators s.clause) in
+    ok_told c d (one-answer t.operator t.run (Ok c) (Ok d) own t.clause (λ q. cc q) (λ q. cc q))
+
+one_zip_bounds : (pieces : List (List ℕ)) (cs ds : List Clause) → AllZip ReadsBound pieces cs → AllZip ReadsBound pieces ds → cs ≡ ds
+one_zip_bounds [] [] [] z w = refl
+one_zip_bounds [] [] (d ∷ ds) z w = absurd w
+one_zip_bounds [] (c ∷ cs) ds z w = absurd z
+one_zip_bounds (x ∷ pieces) [] ds z w = absurd z
+one_zip_bounds (x ∷ pieces) (c ∷ cs) [] z w = absurd w
+one_zip_bounds (x ∷ pieces) (c ∷ cs) (d ∷ ds) z w = λ i. one_bound x c d z.0 w.0 i ∷ one_zip_bounds pieces cs ds z.1 w.1 i
 
 -- ---- what is found is read
 
-bound_split : (x : List ℕ) (o : Op) → operator_of x ≡ Some o →
-    x ≡ operator_text o ++ (take (prefix_len is_blank_byte (drop (length (operator_text o)) x)) (drop (length (operator_text o)) x)
-    ++ (clause_run (after_operator o x) ++ drop (length (clause_run (after_operator o x))) (after_operator o x)))
-bound_split x o h =
-    let y = after_operator o x in
-    let tail = drop (length (operator_text o)) x in
-    let behind : clause_run y ++ drop (length (clause_run y)) y ≡ y = ap (λ n. clause_run y ++ drop n y) (length-prefix_len is_clause_byte y) ∙ take-append-drop (prefix_len is_clause_byte y) y in
-    operator_shape x o h
-    ∙ ap (λ (l : List ℕ). operator_text o ++ l) (sym (take-append-drop (prefix_len is_blank_byte tail) tail))
-    ∙ ap (λ (l : List ℕ). operator_text o ++ (take (prefix_len is_blank_byte tail) tail ++ l)) (sym behind)
+blank_split : (x : List ℕ) → x ≡ take (prefix_len is_blank_byte x) x ++ without_leading_blanks x
+blank_split x = sym (take-append-drop (prefix_len is_blank_byte x) x)
 
-pub bound_read : (x : List ℕ) (o : Op) (v : Version) (c : Clause) → operator_of x ≡ Some o → line_clause o v ≡ Some c →
-    Reads (clause_run (after_operator o x)) (Ok v) → IsRelease v → after_version (after_operator o x) ≡ [] → ReadsBound x c
-bound_read x o v c h e s n r =
-    let tail = drop (length (operator_text o)) x in
-    let y = after_operator o x in
+bound_split : (x : List ℕ) (o : Op) → operator_of (without_leading_blanks x) ≡ Some o →
+    let text = without_leading_blanks x in
+    let tail = drop (length (operator_text o)) text in
+    let y = after_operator o text in
+    x ≡ take (prefix_len is_blank_byte x) x ++ (operator_text o ++ (take (prefix_len is_blank_byte tail) tail ++ (clause_run y ++ drop (length (clause_run y)) y)))
+bound_split x o h =
+    let text = without_leading_blanks x in
+    let tail = drop (length (operator_text o)) text in
+    let y = after_operator o text in
+    let behind : y ≡ clause_run y ++ drop (length (clause_run y)) y =
+    sym (ap (λ n. clause_run y ++ drop n y) (length-prefix_len is_clause_byte y) ∙ take-append-drop (prefix_len is_clause_byte y) y) in
+    blank_split x ∙ ap (λ (l : List ℕ). take (prefix_len is_blank_byte x) x ++ l)
+    (operator_shape text o h ∙ ap (λ (l : List ℕ). operator_text o ++ l) (blank_split tail ∙ ap (λ (l : List ℕ). take (prefix_len is_blank_byte tail) tail ++ l) behind))
+
+pub bound_read : (x : List ℕ) (o : Op) (c : Clause) → operator_of (without_leading_blanks x) ≡ Some o → o ≢ op.Exact →
+    IsOperand o (after_operator o (without_leading_blanks x)) c → ReadsBound x c
+bound_read x o c h other s =
+    let text = without_leading_blanks x in
+    let tail = drop (length (operator_text o)) text in
+    let y = after_operator o text in
     record {
+      before = take (prefix_len is_blank_byte x) x;
       operator = o;
       space = take (prefix_len is_blank_byte tail) tail;
       run = clause_run y;
-      rest = drop (length (clause_run y)) y;
+      after = drop (length (clause_run y)) y;
       whole = bound_split x o h;
-      blank = (all-run is_blank_byte tail, all-rest is_blank_byte (drop (length (clause_run y)) y) r);
+      blank = (all-run is_blank_byte x, all-run is_blank_byte tail, all-rest is_blank_byte (drop (length (clause_run y)) y) s.1);
       bytes = all-run is_clause_byte y;
-      version = v;
-      reads_version = s;
-      release = n;
-      reads_clause = e;
+      clause = s.0;
+      told = clause_told o (clause_run y) c other s.0;
     }
 
 -- ---- names
@@ -301,31 +340,28 @@ begins_name : (p : ℕ → Bool) → ((b : ℕ) → is_letter_or_digit b ≡ tru
 begins_name p off [] rest h = cc h
 begins_name p off (b ∷ x) rest h = off b (and_second _ _ (and_first _ _ h))
 
-operator_no_name : (is_name_byte 62 ≡ false) × (is_name_byte 60 ≡ false)
+name_off : OffOperators is_name_byte
 unfolding is_letter_or_digit is_separator
-operator_no_name = (refl, refl)
+name_off = (refl, refl, refl, refl, refl)
 
 -- ---- the line
 
 -- what a reader finds of the pieces of a line
 abbrev CutsLine : List ℕ → List ℕ → List ℕ → Type 0
-CutsLine x name bound = (begins (λ b. b == 45) (without_leading_blanks x) ≡ false) × (name_run x ≡ name) × (after_name x ≡ bound)
+CutsLine x name bound = (begins (λ b. b == 45) (without_leading_blanks x) ≡ false) × (name_run x ≡ name) × (behind_name x ≡ bound)
 
-cut_name : (first name second bound : List ℕ) (c : Clause) → list_all is_blank_byte first ≡ true → is_name name ≡ true → list_all is_blank_byte second ≡ true →
-    ReadsBound bound c → CutsLine (first ++ (name ++ (second ++ bound))) name bound
-cut_name first name second bound c f n s r =
-    let tail = second ++ bound in
-    let gone : without_leading_blanks (first ++ (name ++ tail)) ≡ name ++ tail = rest-span is_blank_byte first (name ++ tail) f (begins_name is_blank_byte letter_no_blank name tail n) in
-    let stops : begins is_name_byte tail ≡ false = begins_after is_name_byte blank_no_name second bound s (begins_bound is_name_byte operator_no_name.0 operator_no_name.1 bound c r) in
-    let found : name_run (first ++ (name ++ tail)) ≡ name = ap (λ (l : List ℕ). take (prefix_len is_name_byte l) l) gone ∙ run-span is_name_byte name tail (name_bytes name n) stops in
-    let left : drop (length (name_run (first ++ (name ++ tail)))) (without_leading_blanks (first ++ (name ++ tail))) ≡ tail =
-    (λ i. drop (length (found i)) (gone i)) ∙ drop-append_seam name tail in
-    let behind : without_leading_blanks tail ≡ bound = rest-span is_blank_byte second bound s (begins_bound is_blank_byte refl refl bound c r) in
-    (ap (begins (λ b. b == 45)) gone ∙ begins_name (λ b. b == 45) letter_no_dash name tail n, found, ap without_leading_blanks left ∙ behind)
+cut_name : (first name bound : List ℕ) (cs : List Clause) → list_all is_blank_byte first ≡ true → is_name name ≡ true →
+    ReadsBounds bound cs → CutsLine (first ++ (name ++ bound)) name bound
+cut_name first name bound cs f n r =
+    let gone : without_leading_blanks (first ++ (name ++ bound)) ≡ name ++ bound = rest-span is_blank_byte first (name ++ bound) f (begins_name is_blank_byte letter_no_blank name bound n) in
+    let stops : begins is_name_byte bound ≡ false = begins_bounds is_name_byte name_off blank_no_name bound cs r in
+    let found : name_run (first ++ (name ++ bound)) ≡ name = ap (λ (l : List ℕ). take (prefix_len is_name_byte l) l) gone ∙ run-span is_name_byte name bound (name_bytes name n) stops in
+    let left : behind_name (first ++ (name ++ bound)) ≡ bound = (λ i. drop (length (found i)) (gone i)) ∙ drop-append_seam name bound in
+    (ap (begins (λ b. b == 45)) gone ∙ begins_name (λ b. b == 45) letter_no_dash name bound n, found, left)
 
 cut_line : (x : List ℕ) (r : RequirementParts) (s : ReadsLine x r) → CutsLine x s.name s.bound
 cut_line x r s = subst (λ (t : List ℕ). CutsLine t s.name s.bound) (sym s.whole)
-    (cut_name s.first s.name s.second s.bound s.clause s.blank.0 (named s.name s.normal s.reads_name) s.blank.1 s.reads_bound)
+    (cut_name s.first s.name s.bound s.clauses s.blank (named s.name s.normal s.reads_name) s.reads_bounds)
 
 not_long : (n : ℕ) → n ≤ 65536 → nat_lt 65536 n ≡ false
 not_long n h = grind (arith, nat_tests)
@@ -355,8 +391,8 @@ refuses_line_as x fault.NoMemory m h = absurd (m refl)
 pub line_refused : (x : List ℕ) (f : RequireFault) (r : RequirementParts) → f ≢ fault.NoMemory → RefusesLine x f → ReadsLine x r → ⊥
 line_refused x f r m h s =
     let cut = cut_line x r s in
-    let behind : RefusesBound (after_name x) f = subst (λ (g : Option RequireFault). RefusesLineAs g x f) (no_beginning_fault x r s) (refuses_line_as x f m h) in
-    bound_refused s.bound f s.clause m (subst (λ (t : List ℕ). RefusesBound t f) cut.2 behind) s.reads_bound
+    let behind : RefusesBounds (behind_name x) f = subst (λ (g : Option RequireFault). RefusesLineAs g x f) (no_beginning_fault x r s) (refuses_line_as x f m h) in
+    pieces_refused (pieces_of s.bound) f s.clauses (subst (λ (t : List ℕ). RefusesBounds t f) cut.2 behind) s.reads_bounds
 
 -- a line is one requirement at most
 pub one_line : (x : List ℕ) (r q : RequirementParts) → ReadsLine x r → ReadsLine x q → r ≡ q
@@ -367,28 +403,26 @@ one_line x r q s t =
     let bounds : s.bound ≡ t.bound = sym first.2 ∙ second.2 in
     let normals : Some s.normal ≡ Some t.normal = sym s.reads_name ∙ ap name_of names ∙ t.reads_name in
     let same : s.normal ≡ t.normal = cc normals in
-    let clauses : s.clause ≡ t.clause = one_bound t.bound s.clause t.clause (subst (λ (l : List ℕ). ReadsBound l s.clause) bounds s.reads_bound) t.reads_bound in
+    let clauses : s.clauses ≡ t.clauses =
+    one_zip_bounds (pieces_of t.bound) s.clauses t.clauses (subst (λ (l : List ℕ). ReadsBounds l s.clauses) bounds s.reads_bounds) t.reads_bounds in
     s.reads ∙ (λ i. plain_requirement (same i) (clauses i)) ∙ sym t.reads
 
-pub line_read : (x n : List ℕ) (c : Clause) → length x ≤ line_limit → name_of (name_run x) ≡ Some n → ReadsBound (after_name x) c → ReadsLine x (plain_requirement n c)
-line_read x n c fits e s =
+pub line_read : (x n : List ℕ) (cs : List Clause) → length x ≤ line_limit → name_of (name_run x) ≡ Some n → ReadsBounds (behind_name x) cs → ReadsLine x (plain_requirement n cs)
+line_read x n cs fits e s =
     let text = without_leading_blanks x in
-    let tail = drop (length (name_run x)) text in
-    let behind : name_run x ++ tail ≡ text = ap (λ k. name_run x ++ drop k text) (length-prefix_len is_name_byte text) ∙ take-append-drop (prefix_len is_name_byte text) text in
+    let behind : text ≡ name_run x ++ behind_name x =
+    sym (ap (λ k. name_run x ++ drop k text) (length-prefix_len is_name_byte text) ∙ take-append-drop (prefix_len is_name_byte text) text) in
     record {
       fits = fits;
       first = take (prefix_len is_blank_byte x) x;
       name = name_run x;
-      second = take (prefix_len is_blank_byte tail) tail;
-      bound = after_name x;
-      whole = sym (take-append-drop (prefix_len is_blank_byte x) x)
-          ∙ ap (λ (l : List ℕ). take (prefix_len is_blank_byte x) x ++ l) (sym behind)
-          ∙ ap (λ (l : List ℕ). take (prefix_len is_blank_byte x) x ++ (name_run x ++ l)) (sym (take-append-drop (prefix_len is_blank_byte tail) tail));
-      blank = (all-run is_blank_byte x, all-run is_blank_byte tail);
+      bound = behind_name x;
+      whole = blank_split x ∙ ap (λ (l : List ℕ). take (prefix_len is_blank_byte x) x ++ l) behind;
+      blank = all-run is_blank_byte x;
       normal = n;
-      clause = c;
+      clauses = cs;
       reads_name = e;
-      reads_bound = s;
+      reads_bounds = s;
       reads = refl;
     }
 
@@ -397,7 +431,7 @@ line_read x n c fits e s =
 pub beginning_passes : (x n : List ℕ) → length x ≤ line_limit → begins (λ b. b == 45) (without_leading_blanks x) ≡ false → name_of (name_run x) ≡ Some n → beginning_fault x ≡ None
 beginning_passes x n fits dash e = beginning_none _ _ _ _ _ _ (not_long (length x) fits) dash (ap not (named (name_run x) n e))
 
-pub refuses_behind : (x : List ℕ) (f : RequireFault) → beginning_fault x ≡ None → RefusesBound (after_name x) f → RefusesLine x f
+pub refuses_behind : (x : List ℕ) (f : RequireFault) → beginning_fault x ≡ None → RefusesBounds (behind_name x) f → RefusesLine x f
 refuses_behind x f e h = by f (subst (λ (g : Option RequireFault). RefusesLineAs g x f) (sym e) h)
   where
     by : (g : RequireFault) → RefusesLineAs (beginning_fault x) x g → RefusesLine x g
@@ -416,64 +450,56 @@ pub begins-starts_with : (x : List ℕ) → starts_with nat_eq x (45 ∷ []) ≡
 begins-starts_with [] = refl
 begins-starts_with (b ∷ x) = grind arith
 
--- what refuses the run refuses what is behind the operator
-pub operand_refused : (x run : List ℕ) (e : RequireFault) → run ≡ clause_run x → ReadsVersion run (Err e) → (e ≡ fault.NoMemory) ⊎ RefusesVersion x e
-operand_refused x run (fault.BadClause clause_fault.BadVersion) same h = inr (subst (λ (t : List ℕ). ReadsVersion t (Err (fault.BadClause clause_fault.BadVersion))) same h)
-operand_refused x run (fault.BadClause clause_fault.NumberTooLarge) same h = inr (subst (λ (t : List ℕ). ReadsVersion t (Err (fault.BadClause clause_fault.NumberTooLarge))) same h)
-operand_refused x run (fault.BadClause clause_fault.NoOperator) same h = absurd h
-operand_refused x run (fault.BadClause clause_fault.StarNotAllowed) same h = absurd h
-operand_refused x run (fault.BadClause clause_fault.LocalNotAllowed) same h = absurd h
-operand_refused x run (fault.BadClause clause_fault.OneNumber) same h = absurd h
-operand_refused x run (fault.BadClause clause_fault.NoMemory) same h = absurd h
-operand_refused x run fault.Trailing same h = absurd h
-operand_refused x run fault.BadName same h = absurd h
-operand_refused x run fault.BadExtras same h = absurd h
-operand_refused x run fault.BadUrl same h = absurd h
-operand_refused x run (fault.BadMarker g) same h = absurd h
-operand_refused x run fault.OptionLine same h = absurd h
-operand_refused x run fault.LineTooLong same h = absurd h
-operand_refused x run fault.UrlOverflow same h = absurd h
-operand_refused x run fault.NoMemory same h = inl refl
+-- ---- one clause
 
-pub operand_read : (x y : List ℕ) (o : Op) (v : Version) (c : Clause) → operator_of x ≡ Some o → line_clause o v ≡ Some c → y ≡ after_operator o x → IsOperand y v → ReadsBound x c
-operand_read x y o v c h e same s = let t = subst (λ (l : List ℕ). IsOperand l v) same s in bound_read x o v c h e t.0.0 t.0.1 t.1
-
--- the rest of a text from an index on, as a range of it
-pub behind-range : (n : ℕ) (x y : List ℕ) → y ≡ without_leading_blanks (take (length x - n) (drop n x)) → y ≡ without_leading_blanks (drop n x)
-behind-range n x y e = e ∙ ap without_leading_blanks (take_all (length x - n) (drop n x) (omega (arith, length-drop n x)))
-
--- ---- what reading a run as a release answers
-
-pub release_fault : (x : List ℕ) (f : VersionFault) → Reads x (Err f) → ReadsVersion x (Err (release_fault_of f))
-release_fault x version_fault.NotAVersion h = inl h
-release_fault x version_fault.NumberTooLarge h = h
-release_fault x version_fault.NoMemory h = tt
-
-pub refuses_operand : (x y : List ℕ) (o : Op) (f : RequireFault) → (o ≡ op.AtLeast) ⊎ (o ≡ op.Less) → operator_of x ≡ Some o → y ≡ after_operator o x →
-    (f ≡ fault.NoMemory) ⊎ RefusesVersion y f → RefusesBound x f
-refuses_operand x y o f plain found same (inl e) = subst (RefusesBound x) (sym e) tt
-refuses_operand x y o f plain found same (inr h) = by f (subst (λ (t : Option Op). RefusesBoundAs t x f) (sym found) (at o plain same))
+-- what is refused behind an operator, by the run
+pub operand_fault : (o : Op) (x run : List ℕ) (e : RequireFault) → o ≢ op.Exact → run ≡ clause_run x →
+    (e ≡ fault.NoMemory) ⊎ ((f : ClauseFault) × (e ≡ fault.BadClause f) × (f ≢ clause_fault.NoMemory) × ClauseOf o run (Err f)) →
+    (e ≡ fault.NoMemory) ⊎ RefusesOperand o x e
+operand_fault o x run e other same (inl memory) = inl memory
+operand_fault o x run e other same (inr h) =
+    inr (subst (RefusesOperand o x) (sym h.1) (bad o other (subst (λ (t : List ℕ). ClauseOf o t (Err h.0)) same h.3)))
   where
-    at : (p : Op) → (p ≡ op.AtLeast) ⊎ (p ≡ op.Less) → y ≡ after_operator p x → RefusesBoundAs (Some p) x f
-    at p (inl e) s = subst (λ (q : Op). y ≡ after_operator q x → RefusesBoundAs (Some q) x f) (sym e) (λ t. subst (λ (l : List ℕ). RefusesVersion l f) t h) s
-    at p (inr e) s = subst (λ (q : Op). y ≡ after_operator q x → RefusesBoundAs (Some q) x f) (sym e) (λ t. subst (λ (l : List ℕ). RefusesVersion l f) t h) s
+    bad : (p : Op) → p ≢ op.Exact → ClauseOf p (clause_run x) (Err h.0) → RefusesOperand p x (fault.BadClause h.0)
+    bad op.Exact q g = absurd (q refl)
+    bad p q g = (h.2, g)
 
-    by : (g : RequireFault) → RefusesBoundAs (operator_of x) x g → RefusesBound x g
-    by (fault.BadClause c) k = k
-    by fault.Trailing k = k
-    by fault.BadName k = k
-    by fault.BadExtras k = k
-    by fault.BadUrl k = k
-    by (fault.BadMarker c) k = k
-    by fault.OptionLine k = k
-    by fault.LineTooLong k = k
-    by fault.UrlOverflow k = k
-    by fault.NoMemory k = tt
+pub operand_trailing : (o : Op) (x run : List ℕ) (c : Clause) → o ≢ op.Exact → run ≡ clause_run x → ClauseOf o run (Ok c) → 0 < length (after_run x) →
+    RefusesOperand o x fault.Trailing
+operand_trailing op.Exact x run c other same s h = absurd (other refl)
+operand_trailing o x run c other same s h = ((c, subst (λ (t : List ℕ). ClauseOf o t (Ok c)) same s), h)
 
--- ---- behind the version
+pub bound_none : (x text : List ℕ) → text ≡ without_leading_blanks x → operator_of text ≡ None → RefusesBound x (fault.BadClause clause_fault.NoOperator)
+bound_none x text same none =
+    subst (λ (t : Option Op). RefusesFound t (without_leading_blanks x) (fault.BadClause clause_fault.NoOperator)) (sym (ap operator_of (sym same) ∙ none)) refl
 
-pub behind_version : (n : ℕ) (x back y : List ℕ) → n ≡ prefix_len is_clause_byte x → back ≡ drop n x → y ≡ without_leading_blanks back → y ≡ after_version x
-behind_version n x back y count b e =
+pub bound_exact : (x text : List ℕ) → text ≡ without_leading_blanks x → operator_of text ≡ Some op.Exact → RefusesBound x (fault.BadClause clause_fault.BadVersion)
+bound_exact x text same found =
+    subst (λ (t : Option Op). RefusesFound t (without_leading_blanks x) (fault.BadClause clause_fault.BadVersion)) (sym (ap operator_of (sym same) ∙ found)) refl
+
+pub bound_refuses : (x text y : List ℕ) (o : Op) (f : RequireFault) → text ≡ without_leading_blanks x → operator_of text ≡ Some o → y ≡ after_operator o text →
+    (f ≡ fault.NoMemory) ⊎ RefusesOperand o y f → (f ≡ fault.NoMemory) ⊎ RefusesBound x f
+bound_refuses x text y o f same found behind (inl e) = inl e
+bound_refuses x text y o f same found behind (inr h) =
+    inr (subst (λ (t : Option Op). RefusesFound t (without_leading_blanks x) f) (sym (ap operator_of (sym same) ∙ found))
+    (subst (λ (l : List ℕ). RefusesOperand o l f) (behind ∙ ap (after_operator o) same) h))
+
+pub bound_reads : (x text y : List ℕ) (o : Op) (c : Clause) → text ≡ without_leading_blanks x → operator_of text ≡ Some o → y ≡ after_operator o text →
+    o ≢ op.Exact → IsOperand o y c → ReadsBound x c
+bound_reads x text y o c same found behind other s =
+    bound_read x o c (ap operator_of (sym same) ∙ found) other (subst (λ (l : List ℕ). IsOperand o l c) (behind ∙ ap (after_operator o) same) s)
+
+-- an operator is no longer than the text that begins with it
+pub operator_within : (text : List ℕ) (o : Op) → operator_of text ≡ Some o → length (operator_text o) ≤ length text
+operator_within text o found = by (operator_text o) (drop (length (operator_text o)) text) (operator_shape text o found)
+  where
+    by : (front tail : List ℕ) → text ≡ front ++ tail → length front ≤ length text
+    by front tail e = rw (e, length-append front tail) (omega arith)
+
+-- ---- behind the run
+
+pub behind_run : (n : ℕ) (x back y : List ℕ) → n ≡ prefix_len is_clause_byte x → back ≡ drop n x → y ≡ without_leading_blanks back → y ≡ after_run x
+behind_run n x back y count b e =
     let same : n ≡ length (clause_run x) = count ∙ sym (length-prefix_len is_clause_byte x) in
     e ∙ ap without_leading_blanks (b ∙ ap (λ k. drop k x) same)
 

@@ -5,36 +5,18 @@ use Rattle.std.specs.Prelude.{IfSome, slice_index_or, filter, IsUtf8}
 use Rattle.std.specs.List.{All, AllByRecursion, AllZip}
 use Rattle.std.proofs.lemmas.List.{drop_more, take-append-drop, map-append}
 use Rattle.std.proofs.lemmas.List.Elements.{filter-append}
-use Rattle.std.proofs.lemmas.List.Splits.{slice_split_at, slice_split_none}
-use Rattle.pep_clause.specs.Clause.{Clause, demanded_text}
-use Rattle.pep_clause.specs.declared.op.Op.{Op}
-use Rattle.pep_clause.specs.declared.op.Op.TheVariants as op
-use Rattle.pep_version.specs.Version.{Version}
 use Rattle.pep_require.specs.Reads.{line_limit}
-use Rattle.pep_require.specs.Requirement.{RequirementParts, bounds}
+use Rattle.pep_require.specs.Requirement.{RequirementParts}
 use Rattle.pep_require.specs.declared.fault.RequireFault.{RequireFault}
 use Rattle.pep_require.specs.declared.fault.RequireFault.TheVariants as fault
 use Rattle.pep_tool.specs.declared.fault.Cause.{Cause}
 use Rattle.pep_tool.specs.declared.fault.Cause.TheVariants as cause
 use Rattle.pep_tool.specs.declared.fault.LineFault.{LineFault}
 use Rattle.pep_tool.specs.declared.fault.LineFault.TheVariants as line_fault
-use Rattle.pep_tool.specs.Line.{ReadsLine, RefusesLine, line_clause, plain_requirement}
+use Rattle.pep_tool.specs.Line.{ReadsLine, RefusesLine}
 use Rattle.pep_tool.specs.Lists.{IsListOf, content, input_limit, is_skipped, lines_of, requirement_lines}
-use Rattle.pep_tool.specs.Sets.{Gathers, IsGathered, IsGoodLine, LineGives, LinesGive, ListGives, MergesLine, MergesList, Pair, RefusesList, Sets, SpoilsLine, pair_requirement}
+use Rattle.pep_tool.specs.Sets.{Gathers, HasClause, IsGathered, IsGoodLine, LineGives, LineParts, LinesGive, ListGives, MergesLine, MergesList, Pair, RefusesList, Sets, SpoilsLine, line_requirement, pairs_of}
 use Rattle.pep_tool.proofs.LineLemmas.{line_refused}
-
--- ---- lines
-
--- the first line of a text
-pub lines-at : (xs : List ℕ) (i : ℕ) → i < length xs → All (λ b. (b == 10) ≡ false) (take i xs) → get_or xs i 0 ≡ 10
-    → lines_of xs ≡ take i xs ∷ lines_of (drop (i + 1) xs)
-lines-at xs i lt none feed =
-    let shape : xs ≡ take i xs ++ get_or xs i 0 ∷ drop (i + 1) xs = sym (take-append-drop i xs) ∙ ap (λ (t : List ℕ). take i xs ++ t) (drop_more xs i 0 lt) in
-    let is_feed : (get_or xs i 0 == 10) ≡ true = grind arith in
-    ap lines_of shape ∙ slice_split_at (λ b. b == 10) (take i xs) (get_or xs i 0) (drop (i + 1) xs) none is_feed
-
-pub lines-whole : (xs : List ℕ) → All (λ b. (b == 10) ≡ false) xs → lines_of xs ≡ xs ∷ []
-lines-whole xs none = slice_split_none (λ b. b == 10) xs none
 
 -- ---- one line
 
@@ -68,32 +50,6 @@ spoiled line (line_fault.Requirement fault.LineTooLong) other h = h
 spoiled line (line_fault.Requirement fault.UrlOverflow) other h = h
 spoiled line line_fault.NotUtf8 other h = h
 
-clause_plain : (o : Op) (v : Version) (c : Clause) → line_clause o v ≡ Some c → demanded_text c ≡ None
-clause_plain op.AtLeast v c e = ap demanded_text_of (sym e)
-  where
-    demanded_text_of : Option Clause → Option (List ℕ)
-    demanded_text_of (Some d) = demanded_text d
-    demanded_text_of None = None
-clause_plain op.Less v c e = ap demanded_text_of (sym e)
-  where
-    demanded_text_of : Option Clause → Option (List ℕ)
-    demanded_text_of (Some d) = demanded_text d
-    demanded_text_of None = None
-clause_plain op.Compatible v c e = cc e
-clause_plain op.Equal v c e = cc e
-clause_plain op.NotEqual v c e = cc e
-clause_plain op.AtMost v c e = cc e
-clause_plain op.More v c e = cc e
-clause_plain op.Exact v c e = cc e
-
--- the clause of a line that is read is told by ranges alone
-pub line_plain : (x : List ℕ) (p : Pair) → ReadsLine x (pair_requirement p) → demanded_text p.1 ≡ None
-line_plain x p s =
-    let same : plain_requirement p.0 p.1 ≡ plain_requirement s.normal s.clause = s.reads in
-    let targets : bounds (p.1 ∷ []) ≡ bounds (s.clause ∷ []) = ap (λ (r : RequirementParts). r.target) same in
-    let clauses : p.1 ≡ s.clause = cc targets in
-    ap demanded_text clauses ∙ clause_plain s.reads_bound.operator s.reads_bound.version s.clause s.reads_bound.reads_clause
-
 -- ---- lines in turn
 
 pub gives_append : (done : List (List ℕ)) (ps : List Pair) (line : List ℕ) (more : List Pair) → LinesGive done ps → LineGives line more → LinesGive (done ++ line ∷ []) (ps ++ more)
@@ -109,16 +65,18 @@ good_append (d ∷ done) line g h = (g.0, good_append done line g.1 h)
 abbrev pub requirements_among : List (List ℕ) → List (List ℕ)
 requirements_among lines = filter (λ x. not (is_skipped x)) (map content lines)
 
-gives_zip : (lines : List (List ℕ)) (ps : List Pair) → LinesGive lines ps → AllZip ReadsLine (requirements_among lines) (map pair_requirement ps)
-gives_zip [] ps g = subst (λ (l : List Pair). AllZip ReadsLine [] (map pair_requirement l)) (sym g) tt
-gives_zip (line ∷ lines) ps g =
-    subst (λ (l : List Pair). AllZip ReadsLine (requirements_among (line ∷ lines)) (map pair_requirement l)) (sym g.4)
-    (by g.0 g.2 (gives_zip lines g.1 g.3))
+-- what lines give in turn: lines of parts, whose pairs these are
+abbrev GivesParts : List (List ℕ) → List Pair → Type 0
+GivesParts lines ps = (ls : List LineParts) × AllZip ReadsLine (requirements_among lines) (map line_requirement ls) × AllByRecursion HasClause ls × (ps ≡ pairs_of ls)
+
+gives_parts : (lines : List (List ℕ)) (ps : List Pair) → LinesGive lines ps → GivesParts lines ps
+gives_parts [] ps g = ([], tt, tt, g)
+gives_parts (line ∷ lines) ps g = by g.0 g.2 (gives_parts lines g.1 g.3) g.4
   where
-    by : (first : List Pair) → LineGives line first → AllZip ReadsLine (requirements_among lines) (map pair_requirement g.1) →
-        AllZip ReadsLine (requirements_among (line ∷ lines)) (map pair_requirement (first ++ g.1))
-    by first (inl h) rest = rw (h.0, h.1) rest
-    by first (inr h) rest = rw (h.0, h.1.2) (h.1.1, rest)
+    by : (first : List Pair) → LineGives line first → GivesParts lines g.1 → (ps ≡ first ++ g.1) → GivesParts (line ∷ lines) ps
+    by first (inl h) (ls, z, some, are) e = (ls, rw h.0 z, some, e ∙ rw h.1 are)
+    by first (inr h) (ls, z, some, are) e =
+        (h.1.0 ∷ ls, rw h.0 (h.1.1, z), (h.1.2, some), e ∙ (λ i. h.1.3 i ++ are i))
 
 all_from : (P : List ℕ → Type 0) (lines : List (List ℕ)) → AllByRecursion IsGoodLine lines → ((line : List ℕ) → IsGoodLine line → P line) → All P lines
 all_from P [] g f = λ k d lt. absurd (omega (arith, lt))
@@ -130,12 +88,18 @@ all_from P (line ∷ lines) g f = λ k d lt. by k d lt (all_from P lines g.1 f)
 
 -- good lines that give pairs are a list of them
 pub list_gives : (bytes : List ℕ) (ps : List Pair) → length bytes ≤ input_limit → AllByRecursion IsGoodLine (lines_of bytes) → LinesGive (lines_of bytes) ps → ListGives bytes ps
-list_gives bytes ps size good gives = record {
-  size = size;
-  short = all_from (λ line. length line ≤ line_limit) (lines_of bytes) good (λ line g. g.short);
-  texts = all_from IsUtf8 (lines_of bytes) good (λ line g. g.text);
-  requirements = gives_zip (lines_of bytes) ps gives;
-}
+list_gives bytes ps size good gives =
+    let parts = gives_parts (lines_of bytes) ps gives in (
+      parts.0,
+      record {
+        size = size;
+        short = all_from (λ line. length line ≤ line_limit) (lines_of bytes) good (λ line g. g.short);
+        texts = all_from IsUtf8 (lines_of bytes) good (λ line g. g.text);
+        requirements = parts.1;
+      },
+      parts.2,
+      parts.3,
+    )
 
 -- ---- a line of a list
 

@@ -17,7 +17,7 @@ use Rattle.pep_tool.specs.declared.input.Kind.TheVariants as kind
 use Rattle.pep_tool.specs.Gathered.{AcceptsBytes, Gathered, IsAccepted}
 use Rattle.pep_tool.specs.Lists.{IsListOf}
 use Rattle.pep_tool.specs.Merge.{BlamesInput, IsMerge, MeansRefused}
-use Rattle.pep_tool.specs.Sets.{InputsGive, ListGives, MergesInputs, MergesList, Pair, RefusesList, Sets, pair_requirement, table_of}
+use Rattle.pep_tool.specs.Sets.{InputsGive, ListGives, MergesInputs, MergesList, Pair, RefusesList, Sets, line_requirement, table_of}
 use Rattle.pep_tool.proofs.DemandLemmas.{PairsDemand, gathered_pairs}
 use Rattle.pep_tool.proofs.TableLemmas.{points_of_pairs, same_exact_points, same_table, table_of_pairs}
 use Rattle.pep_tool.proofs.VerdictLemmas.{same_verdicts, shows_verdicts}
@@ -67,7 +67,7 @@ input_blamed inputs k i cause.WriteFault f lt is h memory at = blames_at inputs 
 -- ---- the whole
 
 accepts : (k : Kind) (bytes : List ℕ) (ps : List Pair) → ListGives bytes ps → AcceptsBytes k bytes
-accepts kind.List bytes ps g = (map pair_requirement ps, g)
+accepts kind.List bytes ps g = (map line_requirement g.0, g.1)
 
 all_accepted : (inputs : List Input) (ps : List Pair) → InputsGive inputs ps → All IsAccepted inputs
 all_accepted [] ps g = λ k d lt. absurd (omega (arith, lt))

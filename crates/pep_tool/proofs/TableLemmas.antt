@@ -23,7 +23,7 @@ use Rattle.pep_table.specs.Demand.{AdmitsBesideTexts, Demand, Demands, HaveSameD
 use Rattle.pep_table.specs.Table.{AdmitsPoint, EntryParts, HasExactPoints, IsEntry, IsTable, IsValidEntry, IsValidTable, TableParts, entry_at, names}
 use Rattle.pep_tool.specs.Sets.{HoldsClauses, IsGathered, IsPlainPair, KeepsClauses, Pair, Sets, clauses_on, named_entry, pair_requirement, plain_entry, set_at, table_of}
 use Rattle.pep_tool.specs.NameKey.{name_cmp}
-use Rattle.pep_tool.proofs.DemandLemmas.{Among, PairsDemand, all_from_pairs, all_told, plain_among, some_clause, some_pair}
+use Rattle.pep_tool.proofs.DemandLemmas.{Among, PairsDemand, in_none, in_one, one_in, all_from_pairs, all_told, plain_among, some_clause, some_pair}
 
 -- ---- the entry at a name
 
@@ -119,19 +119,6 @@ demand_name p name (url u) h = h.0
 demand_name p name (clause c) h = h.0
 demand_name p name (ranges l) h = h.0
 
-in_none : {X : Type 0} (x : X) → Contains [] x → ⊥
-in_none x h = omega (arith, h.1)
-
-pub in_one : {X : Type 0} (y x : X) → Contains (y ∷ []) x → y ≡ x
-in_one y x h = at h.0 h.1 h.2
-  where
-    at : (k : ℕ) → k < length (y ∷ []) → slice_index_or (y ∷ []) k x ≡ x → y ≡ x
-    at zero lt e = e
-    at (suc k) lt e = absurd (omega arith)
-
-pub one_in : {X : Type 0} (y : X) → Contains (y ∷ []) y
-one_in y = (0, omega arith, refl)
-
 -- a clause that is told by ranges alone admits the same beside the texts
 beside : (c : Clause) (v : Version) → Admits c v → AdmitsBesideTexts (clause c) v
 beside (arbitrary t) v h = tt
@@ -194,7 +181,7 @@ plain_is_entry ps name s plain h = record {
   extras = λ x. ((λ m. absurd (in_none x m)), λ q. absurd (in_none x q.2.1));
   urls = λ u. ((λ m. absurd (in_none u m)), λ q. absurd q.2.1);
   texts = λ t. ((λ m. absurd (in_none t m)), λ q. absurd (no_text ps name t plain q));
-  versions = λ v is. ((λ m. admits_demand name ps v (sym (h.versions v) ∙ m)), λ q. h.versions v ∙ demands_admit name ps v plain q);
+  versions = λ v is. ((λ m. admits_demand name ps v (sym (h.versions v is) ∙ m)), λ q. h.versions v is ∙ demands_admit name ps v plain q);
 }
 
 pub some_entry : (o : Option (List Range)) (P : EntryParts → Type 0) → ((s : List Range) → o ≡ Some s → P (plain_entry s)) → IfSome (option_map plain_entry o) P

@@ -2,7 +2,7 @@
 use Rattle.std.proofs.Common.{◌≡◌, ℕ, List, [], sym, subst, ◌∙◌, arith, inl, inr, Option, Some, None, true}
 use Rattle.std.specs.Prelude.{IfSome, ◌↔◌}
 use Rattle.std.specs.List.{list_all}
-use Rattle.pep_version.specs.Version.{Version}
+use Rattle.pep_version.specs.Version.{IsVersion, Version}
 use Rattle.pep_clause.specs.Admits.{Admits, admits}
 use Rattle.pep_clause.specs.Clause.{Clause}
 use Rattle.pep_clause.specs.VersionSet.{Range, is_in}
@@ -14,8 +14,8 @@ use Rattle.pep_table.specs.TableText.{Shows}
 use Rattle.pep_table.specs.Verdict.{HasConflict, IsVerdict, MeetsAll}
 use Rattle.pep_tool.specs.Merge.{ShowsVerdicts}
 use Rattle.pep_tool.specs.Sets.{HoldsClauses, IsGathered, Pair, Sets, clauses_on, plain_entry, set_at, table_of}
-use Rattle.pep_tool.proofs.DemandLemmas.{PairsDemand, all_from_pairs, all_told}
-use Rattle.pep_tool.proofs.TableLemmas.{entry_at-table_of, in_one, kept_some, one_in, some_entry}
+use Rattle.pep_tool.proofs.DemandLemmas.{PairsDemand, all_from_pairs, all_told, in_one, one_in}
+use Rattle.pep_tool.proofs.TableLemmas.{entry_at-table_of, kept_some, some_entry}
 
 no_conflict : (ps : List Pair) (name : List ℕ) → ¬ HasConflict (PairsDemand ps name)
 no_conflict ps name h = absurd h.2.2.1
@@ -34,12 +34,12 @@ verdict_of : (ps : List Pair) (name : List ℕ) (s : List Range) → HoldsClause
 verdict_of ps name s h Conflict shows = absurd (omega (arith, shows))
 verdict_of ps name s h Possible shows =
     let found = h.inhabited shows.1 in
-    (no_conflict ps name, (found.0, found.1, meets ps name found.0 (sym (h.versions found.0) ∙ found.2)))
-verdict_of ps name s h Nothing shows = (no_conflict ps name, λ v is all. none v all (elim shows.1 [ inl e ↦ e | inr b ↦ absurd (omega (arith, b.0)) ]))
+    (no_conflict ps name, (found.0, found.1, meets ps name found.0 (sym (h.versions found.0 found.1) ∙ found.2)))
+verdict_of ps name s h Nothing shows = (no_conflict ps name, λ v is all. none v is all (elim shows.1 [ inl e ↦ e | inr b ↦ absurd (omega (arith, b.0)) ]))
   where
-    none : (v : Version) → MeetsAll (PairsDemand ps name) v → s ≡ [] → ⊥
-    none v all e =
-        let inside : is_in s v ≡ true = h.versions v ∙ met ps name v all in
+    none : (v : Version) → IsVersion v → MeetsAll (PairsDemand ps name) v → s ≡ [] → ⊥
+    none v is all e =
+        let inside : is_in s v ≡ true = h.versions v is ∙ met ps name v all in
         cc (subst (λ (l : List Range). is_in l v ≡ true) e inside)
 
 -- the table that the map stands for shows the verdicts on what the pairs demand

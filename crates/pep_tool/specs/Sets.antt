@@ -1,10 +1,10 @@
 -- THE CODE'S WAY, and no part of any meaning: how the code keeps what the lines read so far demand, as a map from
 -- each name to the versions that all clauses on it admit.
-use Rattle.std.specs.Prelude.{◌≡◌, ℕ, ◌&&◌, ◌⊎◌, ⊤, true, false, List, [], ◌∷◌, ◌++◌, bytes_eq, map, Option, Some, None, if◌then◌else◌, codes, ◌≤◌, length, IsUtf8}
+use Rattle.std.specs.Prelude.{◌≡◌, ◌≢◌, ◌==◌, ℕ, ◌&&◌, ◌⊎◌, ⊤, true, false, List, [], ◌∷◌, ◌++◌, bytes_eq, map, Option, Some, None, if◌then◌else◌, codes, ◌≤◌, length, IsUtf8}
 use Rattle.std.specs.Borrow.{Bor}
 use Rattle.std.specs.BTreeMap.{BTreeMap, get}
-use Rattle.std.specs.List.{AllByRecursion, list_all}
-use Rattle.pep_version.specs.Version.{Version}
+use Rattle.std.specs.List.{AllByRecursion, list_all, slice_split}
+use Rattle.pep_version.specs.Version.{IsVersion, Version}
 use Rattle.pep_clause.specs.Admits.{admits}
 use Rattle.pep_clause.specs.Clause.{Clause, demanded_text}
 use Rattle.pep_clause.specs.Cut.{Cut}
@@ -13,7 +13,7 @@ use Rattle.pep_clause.specs.OperatorTable.{set_of}
 use Rattle.pep_clause.specs.VersionSet.{IsNormal, Range, is_in, is_point}
 use Rattle.pep_marker.specs.Name.{IsNormalName}
 use Rattle.pep_require.specs.Requirement.{RequirementParts}
-use Rattle.pep_tool.specs.Line.{ReadsLine, plain_requirement}
+use Rattle.pep_tool.specs.Line.{ReadsBound, ReadsBounds, ReadsLine, plain_requirement}
 use Rattle.pep_tool.specs.NameKey.{name_cmp}
 use Rattle.pep_require.specs.Reads.{line_limit}
 use Rattle.pep_require.specs.declared.fault.RequireFault.TheVariants as fault
@@ -29,12 +29,31 @@ use Rattle.pep_tool.specs.declared.fault.Cause.TheVariants.{NoMemory}
 use Rattle.pep_tool.specs.declared.fault.LineFault.{LineFault}
 use Rattle.pep_tool.specs.declared.fault.LineFault.TheVariants as line_fault
 
--- what a line demands: a clause on a name
+-- a clause on a name, and the requirement that has no other clause
 abbrev pub Pair : Type 0
 Pair = List ℕ × Clause
 
 abbrev pub pair_requirement : Pair → RequirementParts
-pair_requirement p = plain_requirement p.0 p.1
+pair_requirement p = plain_requirement p.0 (p.1 ∷ [])
+
+-- what a line demands: clauses on a name
+abbrev pub LineParts : Type 0
+LineParts = List ℕ × List Clause
+
+abbrev pub line_requirement : LineParts → RequirementParts
+line_requirement l = plain_requirement l.0 l.1
+
+-- its clauses, each with the name
+abbrev pub with_name : List ℕ → List Clause → List Pair
+with_name name cs = map (λ c. (name, c)) cs
+
+abbrev pub pairs_of : List LineParts → List Pair
+pairs_of [] = []
+pairs_of (l ∷ ls) = with_name l.0 l.1 ++ pairs_of ls
+
+-- the line has a clause
+abbrev pub HasClause : LineParts → Type 0
+HasClause l = l.1 ≢ []
 
 -- the clauses on a name
 abbrev pub clauses_on : List ℕ → List Pair → List Clause
@@ -45,17 +64,17 @@ clauses_on name (p ∷ ps) = if bytes_eq p.0 name then p.1 ∷ clauses_on name p
 pub record HoldsClauses (cs : List Clause) (ranges : List Range) : Type 0 where
   pub normal : IsNormal ranges
   pub points : (cut : Cut) → is_point ranges cut ≡ list_all (λ c. is_point (set_of c) cut) cs
-  pub versions : (v : Version) → is_in ranges v ≡ list_all (λ c. admits c v) cs
+  pub versions : (v : Version) → IsVersion v → is_in ranges v ≡ list_all (λ c. admits c v) cs
   pub inhabited : HasVersionUnlessEmpty ranges
 
 -- the ranges hold what both hold
 abbrev pub Meets : List Range → List Range → List Range → Type 0
 Meets a b s = IsNormal s × ((cut : Cut) → is_point s cut ≡ is_point a cut && is_point b cut) × ((v : Version) → is_in s v ≡ is_in a v && is_in b v) × HasVersionUnlessEmpty s
 
--- the ranges hold what the clause admits, and what was kept before
-abbrev pub Folds : Option (List Range) → Clause → List Range → Type 0
-Folds None c s = IsNormal s × ((cut : Cut) → is_point s cut ≡ is_point (set_of c) cut) × ((v : Version) → is_in s v ≡ admits c v) × HasVersionUnlessEmpty s
-Folds (Some e) c s = IsNormal s × ((cut : Cut) → is_point s cut ≡ is_point e cut && is_point (set_of c) cut) × ((v : Version) → is_in s v ≡ is_in e v && admits c v) × HasVersionUnlessEmpty s
+-- the ranges hold what these clauses admit, and what was kept before
+abbrev pub Folds : Option (List Range) → List Clause → List Range → Type 0
+Folds None cs s = HoldsClauses cs s
+Folds (Some e) cs s = (ds : List Clause) → HoldsClauses ds e → HoldsClauses (ds ++ cs) s
 
 -- what is kept for a name with these clauses: nothing, where there is none
 abbrev pub KeepsClauses : List Clause → Option (List Range) → Type 0
@@ -63,6 +82,10 @@ KeepsClauses [] None = ⊤
 KeepsClauses [] (Some ranges) = ⊥
 KeepsClauses (c ∷ cs) None = ⊥
 KeepsClauses (c ∷ cs) (Some ranges) = HoldsClauses (c ∷ cs) ranges
+
+-- clauses that are told by ranges alone, one at least
+abbrev pub ArePlain : List Clause → Type 0
+ArePlain cs = (cs ≢ []) × AllByRecursion (λ c. demanded_text c ≡ None) cs
 
 -- a name in its normalized form, and a clause that is told by ranges alone
 abbrev pub IsPlainPair : Pair → Type 0
@@ -84,10 +107,10 @@ pub record IsGathered (ps : List Pair) (sets : Sets) : Type 0 where
 abbrev pub Gathers : Sets → List Pair → Sets → Type 0
 Gathers old more new = (ps : List Pair) → IsGathered ps old → IsGathered (ps ++ more) new
 
--- a line gives no pair where it is skipped, and else one
+-- a line gives no pair where it is skipped, and else its clauses with its name
 abbrev pub LineGives : List ℕ → List Pair → Type 0
 LineGives line more = ((is_skipped (content line) ≡ true) × (more ≡ []))
-    ⊎ ((is_skipped (content line) ≡ false) × ((p : Pair) × ReadsLine (content line) (pair_requirement p) × (more ≡ p ∷ [])))
+    ⊎ ((is_skipped (content line) ≡ false) × ((l : LineParts) × ReadsLine (content line) (line_requirement l) × HasClause l × (more ≡ with_name l.0 l.1)))
 
 -- lines give pairs in turn
 abbrev pub LinesGive : List (List ℕ) → List Pair → Type 0
@@ -96,12 +119,24 @@ LinesGive (line ∷ lines) ps = (first : List Pair) × (rest : List Pair) × Lin
 
 -- the bytes are a list with these pairs
 abbrev pub ListGives : List ℕ → List Pair → Type 0
-ListGives bytes ps = IsListOf bytes (map pair_requirement ps)
+ListGives bytes ps = (ls : List LineParts) × IsListOf bytes (map line_requirement ls) × AllByRecursion HasClause ls × (ps ≡ pairs_of ls)
 
--- the lines of the text that is left, if any
-abbrev pub left_lines : Option (Bor (List ℕ)) → List (List ℕ)
-left_lines None = []
-left_lines (Some rest) = lines_of rest.now
+-- the parts at a byte of the text that is left, if any
+abbrev pub left_parts : ℕ → Option (Bor (List ℕ)) → List (List ℕ)
+left_parts byte None = []
+left_parts byte (Some rest) = slice_split (λ b. b == byte) rest.now
+
+-- the ranges hold what the clauses that the text is read as admit
+abbrev pub MeansBounds : List ℕ → List Range → Type 0
+MeansBounds x s = (cs : List Clause) × ReadsBounds x cs × ArePlain cs × HoldsClauses cs s
+
+-- .. of one piece between commas
+abbrev pub MeansBound : List ℕ → List Range → Type 0
+MeansBound x s = (c : Clause) × ReadsBound x c × HoldsClauses (c ∷ []) s
+
+-- .. of a whole line with this name
+abbrev pub MeansLine : List ℕ → List ℕ → List Range → Type 0
+MeansLine x name s = (cs : List Clause) × ReadsLine x (plain_requirement name cs) × ArePlain cs × HoldsClauses cs s
 
 -- a line that a list may have
 pub record IsGoodLine (line : List ℕ) : Type 0 where

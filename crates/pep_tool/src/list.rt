@@ -1,32 +1,19 @@
 //! A list: a requirement on each line.
 
-ghost use Rattle.std.specs.Prelude.{◌≡◌, ◌≢◌, ◌<◌, ◌≤◌, ◌∷◌, length, IfErr, IfSome, IsTrue, OnOk};
+ghost use Rattle.std.specs.Prelude.{◌≡◌, ◌≢◌, ◌<◌, ◌≤◌, length, IfErr, IsTrue, OnOk};
 ghost use Rattle.pep_require.specs.Reads.{line_limit};
-ghost use Rattle.pep_tool.specs.Lists.{content, input_limit, is_skipped, lines_of};
-ghost use Rattle.pep_tool.specs.Sets.{MergesLine, MergesList, RefusesList, SpoilsLine, left_lines};
+ghost use Rattle.pep_tool.specs.Lists.{content, input_limit, is_skipped};
+ghost use Rattle.pep_tool.specs.Sets.{MergesLine, MergesList, RefusesList, SpoilsLine};
 
 use crate::fault::{Cause, LineFault};
 use crate::line::{LINE_LIMIT, read_line};
-use crate::runs::{blank_end, blank_run};
+use crate::runs::{blank_end, blank_run, first_part};
 use crate::sets::{Sets, gather};
 use pep_require::RequireFault;
 use std::alloc::Global;
 
 /// The largest input, in bytes.
 pub(crate) const INPUT_LIMIT: usize = 16_777_216;
-
-/// The first line of a text, and what stands behind its line feed.
-fn first_line(text: &[u8]) -> (&[u8], Option<&[u8]>)
-    ensures lines { lines_of text.now ≡ result.0.now ∷ left_lines result.1 }
-    ensures shorter { IfSome result.1 (λ rest. length rest.now < length text.now) }
-{
-    'bytes: for i in 0..text.len() {
-        if text[i] == b'\n' {
-            return (&text[..i], Some(&text[i + 1..]));
-        }
-    }
-    (text, None)
-}
 
 /// The line without a carriage return at its end, and then without white space at both ends.
 fn content(line: &[u8]) -> &[u8]
@@ -105,7 +92,7 @@ fn merge_lines(alloc: Global, sets: &mut Sets, read: &[u8], fits: bool) -> Resul
     let mut rest = Some(read);
     let mut number: u64 = 0;
     while let Some(text) = rest {
-        let (line, after) = first_line(text);
+        let (line, after) = first_part(text, b'\n');
         number += 1;
         if !fits && after.is_none() {
             return Err(cut_off(number, line));
