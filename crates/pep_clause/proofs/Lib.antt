@@ -6,7 +6,7 @@ pub mod NextPlace
 pub mod PlaceCuts
 pub mod StrictPlaces
 pub mod ClauseRows
-mod SetLemmas
 pub mod RangeRows
 pub mod PrefixPlace
 pub mod PrefixRows
+mod RaisedRelease

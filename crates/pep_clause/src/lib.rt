@@ -6,6 +6,7 @@ mod cut;
 mod fault;
 mod laws;
 mod op;
+mod places;
 mod range;
 mod set;
 #[cfg(test)]
