@@ -10,3 +10,4 @@ pub mod RangeRows
 pub mod PrefixPlace
 pub mod PrefixRows
 mod RaisedRelease
+mod SetLemmas

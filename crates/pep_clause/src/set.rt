@@ -38,6 +38,19 @@ impl Model for VersionSet {
     ghost invariant = { λ a. IsNormal a.ranges.items };
 }
 
+// The range goes to the end of the list, if its cuts are in order.
+fn push_range(done: &mut Vec<Range>, low: Cut, high: Cut) -> Result<(), ClauseFault>
+    requires low { IsCut low }
+    requires high { IsCut high }
+    ensures ok { OnOk result (done.new.items ≡ done.old.items ++ range low high) }
+    ensures faults { IfErr result (λ e. e ≡ ClauseFault.NoMemory) }
+{
+    if let Some(range) = Range::between(low, high) {
+        done.push(range)?;
+    }
+    Ok(())
+}
+
 fn push_common(
     alloc: Global,
     done: &mut Vec<Range>,
@@ -108,9 +121,7 @@ impl VersionSet {
         ensures faults { IfErr result (λ e. e ≡ ClauseFault.NoMemory) }
     {
         let mut ranges = Vec::new(alloc);
-        if let Some(range) = Range::between(low, high) {
-            ranges.push(range)?;
-        }
+        push_range(&mut ranges, low, high)?;
         Ok(VersionSet { ranges })
     }
 
@@ -123,12 +134,8 @@ impl VersionSet {
         ensures faults { IfErr result (λ e. e ≡ ClauseFault.NoMemory) }
     {
         let mut ranges = Vec::new(alloc);
-        if let Some(under) = Range::between(Cut::least(alloc)?, low) {
-            ranges.push(under)?;
-        }
-        if let Some(above) = Range::between(high, Cut::end()) {
-            ranges.push(above)?;
-        }
+        push_range(&mut ranges, Cut::least(alloc)?, low)?;
+        push_range(&mut ranges, high, Cut::end())?;
         Ok(VersionSet { ranges })
     }
 
@@ -152,7 +159,7 @@ impl VersionSet {
         VersionSet::outside(alloc, low, prefix_end(alloc, epoch, release)?)
     }
 
-    /// The version, and those with its prefix that are above it.
+    /// The versions that are not below this one, and whose release begins with its numbers but the last.
     fn compatible(alloc: Global, version: &Version) -> Result<VersionSet, ClauseFault>
         ensures range { IfOk result (λ s. s ≡ set_of (compatible version.now)) }
         ensures faults { IfErr result (λ e. e ≡ ClauseFault.NoMemory) }
@@ -164,6 +171,7 @@ impl VersionSet {
     }
 
     fn of_kind(alloc: Global, kind: &Kind) -> Result<VersionSet, ClauseFault>
+        requires { IsStored kind.now }
         ensures list { IfOk result (λ s. s ≡ set_of (clause_of kind.now)) }
         ensures faults { IfErr result (λ e. e ≡ ClauseFault.NoMemory) }
     {
