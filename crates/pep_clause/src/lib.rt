@@ -10,6 +10,8 @@ mod places;
 mod range;
 mod set;
 #[cfg(test)]
+mod set_tests;
+#[cfg(test)]
 mod tests;
 
 pub use crate::clause::Clause;

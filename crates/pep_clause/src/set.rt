@@ -170,7 +170,7 @@ impl VersionSet {
         VersionSet::between(alloc, Cut::before(alloc, version)?, high)
     }
 
-    fn of_kind(alloc: Global, kind: &Kind) -> Result<VersionSet, ClauseFault>
+    pub(crate) fn of_kind(alloc: Global, kind: &Kind) -> Result<VersionSet, ClauseFault>
         requires { IsStored kind.now }
         ensures list { IfOk result (λ s. s ≡ set_of (clause_of kind.now)) }
         ensures faults { IfErr result (λ e. e ≡ ClauseFault.NoMemory) }
