@@ -78,10 +78,7 @@ impl Cut {
         ensures spelled { IfOk result (λ c. IsCut c) }
         ensures faults { IfErr result (λ e. e ≡ ClauseFault.NoMemory) }
     {
-        let place = Key::of(alloc, version)?;
-        Ok(Cut {
-            place: Place::Before(place),
-        })
+        Cut::before_suffixed(alloc, version, version.pre(), version.post(), version.dev())
     }
 
     /// The cut directly before the version with these suffixes in place of its own.
