@@ -1,5 +1,5 @@
 -- What the ranges of a clause hold.
-use Rattle.std.proofs.Common.{◌≡◌, ◌==◌, ◌↔◌, Bool, false, length, List, [], ◌∷◌, None, Result, Ok, Err, IfOk, refl, ◌∙◌, sym, subst, true, is_ge}
+use Rattle.std.proofs.Common.{◌≡◌, ◌==◌, ◌↔◌, Bool, false, length, List, [], ◌∷◌, None, Result, Ok, Err, IfOk, refl, ◌∙◌, sym, subst, is_ge}
 use Rattle.std.specs.Prelude.{IsTrue}
 use Rattle.std.specs.declared.cmp.Ordering.{Ordering}
 use Rattle.std.specs.declared.cmp.Ordering.TheVariants.{Less, Equal, Greater}

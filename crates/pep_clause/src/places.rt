@@ -142,11 +142,7 @@ fn raised(release: &[u64]) -> Option<(&[u64], u64)>
 
 /// The cut directly after all versions with this epoch whose release begins with these numbers (PEP 440, "Version
 /// matching").
-pub(crate) fn prefix_end(
-    alloc: Global,
-    epoch: u64,
-    release: &[u64],
-) -> Result<Cut, ClauseFault>
+pub(crate) fn prefix_end(alloc: Global, epoch: u64, release: &[u64]) -> Result<Cut, ClauseFault>
     ensures place { IfOk result (λ c. c ≡ prefix_end (record { epoch = epoch; release = release.now })) }
     ensures spelled { IfOk result (λ c. IsCut c) }
     ensures faults { IfErr result (λ e. e ≡ ClauseFault.NoMemory) }

@@ -84,7 +84,11 @@ fn compatible(rt: HostRuntime) -> Result<(), Fail> {
 fn prefixes(rt: HostRuntime) -> Result<(), Fail> {
     let alloc = rt.alloc();
     for (text, low, high) in [
-        ("1.18446744073709551615", "before 1.18446744073709551615.dev0", "before 2.dev0"),
+        (
+            "1.18446744073709551615",
+            "before 1.18446744073709551615.dev0",
+            "before 2.dev0",
+        ),
         (
             "18446744073709551615!18446744073709551615",
             "before 18446744073709551615!18446744073709551615.dev0",
@@ -125,7 +129,10 @@ fn ordered(rt: HostRuntime) -> Result<(), Fail> {
     expect(&rt, alloc, kind, &["before 0.dev0", "past 1"])?;
     let kind = Kind::LessThan(public(alloc, "1.0.post1")?);
     expect(&rt, alloc, kind, &["before 0.dev0", "before 1.post1.dev0"])?;
-    for (text, low) in [("1.7", "past 1.7"), ("1.0rc18446744073709551615", "before 1")] {
+    for (text, low) in [
+        ("1.7", "past 1.7"),
+        ("1.0rc18446744073709551615", "before 1"),
+    ] {
         let kind = Kind::GreaterThan(public(alloc, text)?);
         expect(&rt, alloc, kind, &[low, "end"])?;
     }

@@ -11,9 +11,8 @@ returns-in-Some c =
 pub loop-rest-preserved : goal.loop-rest-preserved
 loop-rest-preserved c =
     let rest = c.loop-rest.rest.now in
-    let len : length (take (length rest - 1) rest) ≡ length rest - 1 = length-take-le (length rest - 1) rest (omega arith) in
-    (
+    let len : length (take (length rest - 1) rest) ≡ length rest - 1 = length-take-le (length rest - 1) rest (omega arith) in (
       sym (raised-largest_number rest c.in-len1-up.len_at_least (sym c.next_number.ensures ∙ c.in_default-next_number.is))
-      ∙ c.loop-rest.invariant.0,
+          ∙ c.loop-rest.invariant.0,
       omega (arith, len, c.loop-rest.invariant.1),
     )
