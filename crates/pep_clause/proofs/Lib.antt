@@ -11,3 +11,4 @@ pub mod PrefixPlace
 pub mod PrefixRows
 mod RaisedRelease
 mod SetLemmas
+mod SameVersions

@@ -1,6 +1,7 @@
 // Sets of versions.
 
 ghost use Rattle.std.specs.Prelude.{◌≡◌, ◌&&◌, ◌↔◌, ◌++◌, ◌-◌, [], length, take, IfErr, IfOk, IsTrue, None, OnOk};
+ghost use Rattle.std.specs.Cmp.{partial_equiv_from_equiv};
 ghost use Rattle.std.specs.declared.cmp.Ordering.TheVariants.{Less};
 ghost use Rattle.pep_version.specs.Version.{IsVersion, Version};
 ghost use Rattle.pep_clause.specs.Admits.{admits};
@@ -10,6 +11,7 @@ ghost use Rattle.pep_clause.specs.Cut.{Cut, IsCut, cut_cmp, least};
 ghost use Rattle.pep_clause.specs.Inhabited.{HasVersionUnlessEmpty};
 ghost use Rattle.pep_clause.specs.Meeting.{meet, meet_row};
 ghost use Rattle.pep_clause.specs.OperatorTable.{outside, range, set_of};
+ghost use Rattle.pep_clause.specs.SetEquality.{SameVersions, same_ranges, same_ranges-equiv};
 ghost use Rattle.pep_clause.specs.VersionSet.{In, IsNormal, all_versions, is_in, is_point};
 
 use crate::clause::{Clause, Kind};
@@ -258,4 +260,23 @@ impl VersionSet {
         let ranges = ranges_copied(alloc, self.ranges.as_slice())?;
         Ok(VersionSet { ranges })
     }
+}
+
+impl PartialEq for VersionSet {
+    ghost eq = { same_ranges };
+
+    ghost laws = { partial_equiv_from_equiv same_ranges-equiv };
+
+    /// Whether both hold the same versions.
+    fn eq(&self, other: &VersionSet) -> bool
+        ensures ranges { result ≡ same_ranges self.now other.now }
+        ensures list { IsTrue result ↔ (self.now ≡ other.now) }
+        ensures versions { IsTrue result ↔ SameVersions self.now other.now }
+    {
+        self.ranges.as_slice() == other.ranges.as_slice()
+    }
+}
+
+impl Eq for VersionSet {
+    ghost laws = { same_ranges-equiv };
 }

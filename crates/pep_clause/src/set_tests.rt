@@ -146,7 +146,7 @@ fn none_between(rt: HostRuntime) -> Result<(), Fail> {
     let above = VersionSet::of_kind(alloc, &Kind::GreaterThan(public(alloc, "1.0a5")?))?;
     let below = VersionSet::of_kind(alloc, &Kind::LessThan(public(alloc, "1.0a6.dev0")?))?;
     let both = above.joined(alloc, &below)?;
-    assert!(rt; both.is_empty());
+    assert!(rt; both.is_empty() && both == VersionSet::none(alloc) && above != below);
     expect_cuts(&rt, alloc, &both, &[])?;
     Ok(())
 }
