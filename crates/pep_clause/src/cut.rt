@@ -44,21 +44,6 @@ impl Model for Cut {
     ghost invariant = { λ a. IsStored a.place };
 }
 
-// The version that is this release with its epoch, or a developmental release of it.
-fn release_version(
-    alloc: Global,
-    epoch: u64,
-    release: &[u64],
-    dev: Option<u64>,
-) -> Result<Version, ClauseFault>
-    requires { 0 < length release.now }
-    ensures ok { IfOk result (λ v. v ≡ record (final_version (record { epoch = epoch; release = release.now })) { dev = dev }) }
-    ensures faults { IfErr result (λ e. e ≡ ClauseFault.NoMemory) }
-{
-    let numbers = Vec::from_slice(alloc, release)?;
-    Ok(Version::of_parts(epoch, numbers, None, None, dev, Vec::new(alloc)).unwrap())
-}
-
 // The text, and behind it the normal text of the version at this place.
 fn kind_and_version(alloc: Global, kind: &str, place: &Key) -> Result<String, ClauseFault>
     ensures text { IfOk result (λ t. string_bytes t ≡ kind.now ++ normal_text place.now) }
@@ -93,9 +78,9 @@ impl Cut {
         ensures spelled { IfOk result (λ c. IsCut c) }
         ensures faults { IfErr result (λ e. e ≡ ClauseFault.NoMemory) }
     {
-        let place = Key::with_suffixes(alloc, version, pre, post, dev)?;
+        let suffixed = Key::with_suffixes(alloc, version, pre, post, dev)?;
         Ok(Cut {
-            place: Place::Before(place),
+            place: Place::Before(suffixed),
         })
     }
 
@@ -106,8 +91,10 @@ impl Cut {
         ensures spelled { IfOk result (λ c. IsCut c) }
         ensures faults { IfErr result (λ e. e ≡ ClauseFault.NoMemory) }
     {
-        let version = release_version(alloc, epoch, release, Some(0))?;
-        Cut::before(alloc, &version)
+        let place = Key::of_release(alloc, epoch, release, Some(0))?;
+        Ok(Cut {
+            place: Place::Before(place),
+        })
     }
 
     /// The cut directly after a version with a label and all that are the same in order.
@@ -129,10 +116,9 @@ impl Cut {
         ensures spelled { IfOk result (λ c. IsCut c) }
         ensures faults { IfErr result (λ e. e ≡ ClauseFault.NoMemory) }
     {
-        let release = release_version(alloc, version.epoch(), version.release(), None)?;
-        let place = Key::of(alloc, &release)?;
+        let release = Key::of_release(alloc, version.epoch(), version.release(), None)?;
         Ok(Cut {
-            place: Place::Past(place),
+            place: Place::Past(release),
         })
     }
 

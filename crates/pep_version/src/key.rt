@@ -1,6 +1,6 @@
 // The place of a version in the order.
 
-ghost use Rattle.std.specs.Prelude.{◌≡◌, fold, map, refl, slice_index, IfErr, IfOk};
+ghost use Rattle.std.specs.Prelude.{◌≡◌, ◌<◌, [], fold, length, map, refl, slice_index, IfErr, IfOk, None};
 ghost use Rattle.std.specs.Cmp.{eq_by_cmp_equiv, partial_equiv_from_equiv, partial_order_from_total};
 ghost use Rattle.std.specs.Cmp.Lexicographic.{slice_cmp};
 ghost use Rattle.std.specs.Hash as fed;
@@ -93,6 +93,31 @@ impl Key {
             post,
             dev,
             label,
+        })
+    }
+
+    /// The place of a final release, or of its developmental release of this number (PEP 440, "Final releases",
+    /// "Developmental releases"). The only fault is `NoMemory`.
+    pub fn of_release(
+        alloc: Global,
+        epoch: u64,
+        release: &[u64],
+        dev: Option<u64>,
+    ) -> Result<Key, VersionFault>
+        requires { 0 < length release.now }
+        ensures place { IfOk result (λ k. k ≡ place_of (record { epoch = epoch; release = release.now; pre = None; post = None; dev = dev; label = [] })) }
+        ensures version { IfOk result (λ k. IsVersion k) }
+        ensures own_place { IfOk result (λ k. place_of k ≡ k) }
+        ensures faults { IfErr result (λ e. e ≡ VersionFault.NoMemory) }
+    {
+        let numbers = Vec::from_slice(alloc, short_release(release))?;
+        Ok(Key {
+            epoch,
+            release: numbers,
+            pre: None,
+            post: None,
+            dev,
+            label: Vec::new(alloc),
         })
     }
 
