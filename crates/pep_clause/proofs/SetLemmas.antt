@@ -1,5 +1,5 @@
 -- What the ranges of a clause hold.
-use Rattle.std.proofs.Common.{◌≡◌, ◌==◌, ◌↔◌, Bool, false, length, List, [], ◌∷◌, None, Result, Ok, Err, IfOk, refl, ◌∙◌, sym, subst, is_ge}
+use Rattle.std.proofs.Common.{◌≡◌, ◌==◌, ◌↔◌, Bool, false, length, List, [], ◌∷◌, None, Result, Ok, Err, IfOk, IsSome, ◌||◌, not, refl, ◌∙◌, sym, subst, is_ge}
 use Rattle.std.specs.Prelude.{IsTrue}
 use Rattle.std.specs.declared.cmp.Ordering.{Ordering}
 use Rattle.std.specs.declared.cmp.Ordering.TheVariants.{Less, Equal, Greater}
@@ -14,7 +14,7 @@ use Rattle.pep_clause.specs.ClauseView.{IsStored, clause_of}
 use Rattle.pep_clause.specs.Cut.{final_version}
 use Rattle.pep_clause.specs.Density.{normal-has_version}
 use Rattle.pep_clause.specs.Inhabited.{HasVersionUnlessEmpty}
-use Rattle.pep_clause.specs.LeastCut.{IsNormal-all_versions}
+use Rattle.pep_clause.specs.LeastCut.{IsNormal-all_versions, none-under_least}
 use Rattle.pep_clause.specs.OperatorTable.{set_of}
 use Rattle.pep_clause.specs.Valid.{IsValidClause}
 use Rattle.pep_clause.specs.VersionSet.{In, IsNormal, Range, is_in}
@@ -40,6 +40,19 @@ is_in-set_of (at_least w) h v g none = at_least-row w v h.1
 is_in-set_of (less_than w) h v g none = less_than_version-row w v h.1
 is_in-set_of (greater_than w) h v g none = greater_than-row w v g h.1
 is_in-set_of (arbitrary text) h v g none = cc none
+
+-- where a text is demanded they hold all versions
+pub demanded-in-set_of : (c : Clause) (v : Version) → IsSome (demanded_text c) → In (set_of c) v
+demanded-in-set_of (arbitrary text) v h = (λ i. not (none-under_least v i) || false)
+demanded-in-set_of (compatible w) v h = cc h
+demanded-in-set_of (matching w) v h = cc h
+demanded-in-set_of (matching_prefix p) v h = cc h
+demanded-in-set_of (excluding w) v h = cc h
+demanded-in-set_of (excluding_prefix p) v h = cc h
+demanded-in-set_of (at_most w) v h = cc h
+demanded-in-set_of (at_least w) v h = cc h
+demanded-in-set_of (less_than w) v h = cc h
+demanded-in-set_of (greater_than w) v h = cc h
 
 -- they are a normal list
 pub IsNormal-set_of : (c : Clause) → IsValidClause c → IsNormal (set_of c)
@@ -72,6 +85,11 @@ pub set_of-versions : (answer : Result (List Range) ClauseFault) (c : Clause) �
     → IfOk answer (λ s. (v : Version) → IsVersion v → demanded_text c ≡ None → is_in s v ≡ admits c v)
 set_of-versions (Ok s) c h e = λ v g none. (λ i. is_in (e i) v) ∙ is_in-set_of c h v g none
 set_of-versions (Err fault) c h e = e
+
+pub set_of-demanded : (answer : Result (List Range) ClauseFault) (c : Clause) → IfOk answer (λ s. s ≡ set_of c)
+    → IfOk answer (λ s. (v : Version) → IsSome (demanded_text c) → In s v)
+set_of-demanded (Ok s) c e = λ v h. subst (λ (list : List Range). In list v) (sym e) (demanded-in-set_of c v h)
+set_of-demanded (Err fault) c e = e
 
 pub set_of-normal : (answer : Result (List Range) ClauseFault) (c : Clause) → IsValidClause c → IfOk answer (λ s. s ≡ set_of c) → IfOk answer (λ s. IsNormal s)
 set_of-normal (Ok s) c h e = subst IsNormal (sym e) (IsNormal-set_of c h)

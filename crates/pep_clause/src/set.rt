@@ -1,6 +1,6 @@
 // Sets of versions.
 
-ghost use Rattle.std.specs.Prelude.{◌≡◌, ◌&&◌, ◌↔◌, ◌++◌, ◌-◌, [], length, take, IfErr, IfOk, IsTrue, None, OnOk};
+ghost use Rattle.std.specs.Prelude.{◌≡◌, ◌&&◌, ◌↔◌, ◌++◌, ◌-◌, [], length, take, IfErr, IfOk, IsSome, IsTrue, None, OnOk};
 ghost use Rattle.std.specs.Cmp.{partial_equiv_from_equiv};
 ghost use Rattle.std.specs.declared.cmp.Ordering.TheVariants.{Less};
 ghost use Rattle.pep_version.specs.Version.{IsVersion, Version};
@@ -151,7 +151,7 @@ impl VersionSet {
         VersionSet::between(alloc, low, prefix_end(alloc, epoch, release)?)
     }
 
-    /// All other versions.
+    /// The versions whose epoch is another, or whose release does not begin with the numbers of the prefix.
     fn without_prefix(alloc: Global, prefix: &Version) -> Result<VersionSet, ClauseFault>
         ensures outside { IfOk result (λ s. s ≡ set_of (excluding_prefix (prefix_of prefix.now))) }
         ensures faults { IfErr result (λ e. e ≡ ClauseFault.NoMemory) }
@@ -172,6 +172,7 @@ impl VersionSet {
         VersionSet::between(alloc, Cut::before(alloc, version)?, high)
     }
 
+    /// The versions that the clause of this kind admits; all versions where it demands a text.
     pub(crate) fn of_kind(alloc: Global, kind: &Kind) -> Result<VersionSet, ClauseFault>
         requires { IsStored kind.now }
         ensures list { IfOk result (λ s. s ≡ set_of (clause_of kind.now)) }
@@ -210,6 +211,7 @@ impl VersionSet {
     pub fn of(alloc: Global, clause: &Clause) -> Result<VersionSet, ClauseFault>
         ensures list { IfOk result (λ s. s ≡ set_of clause.now) }
         ensures versions { IfOk result (λ s. (v : Version) → IsVersion v → demanded_text clause.now ≡ None → is_in s v ≡ admits clause.now v) }
+        ensures demanded { IfOk result (λ s. (v : Version) → IsSome (demanded_text clause.now) → In s v) }
         ensures normal { IfOk result (λ s. IsNormal s) }
         ensures inhabited { IfOk result (λ s. HasVersionUnlessEmpty s) }
         ensures faults { IfErr result (λ e. e ≡ ClauseFault.NoMemory) }
