@@ -1,5 +1,5 @@
 -- The ranges of `<=`, `>`, `<`, `==` and `!=` hold what these clauses admit, and they are normal lists.
-use Rattle.std.proofs.Common.{◌≡◌, ◌&&◌, ◌||◌, Bool, true, false, not, List, [], ◌∷◌, ◌++◌, refl, sym, ap, ◌∙◌}
+use Rattle.std.proofs.Common.{◌≡◌, ◌&&◌, Bool, true, false, not, List, [], ◌∷◌, refl, sym, ap, ◌∙◌}
 use Rattle.std.specs.Cmp.{tied_itself}
 use Rattle.std.specs.Ordering.{is_eq, is_le, is_lt, nat_cmp, ordering_reverse, ordering_then}
 use Rattle.std.specs.Prelude.{if◌then◌else◌}
@@ -9,15 +9,14 @@ use Rattle.pep_version.specs.Laws.{version_total}
 use Rattle.pep_version.specs.Order.{is_below, is_same, place_of, public_version, suffix_cmp, version_cmp}
 use Rattle.pep_version.specs.Version.{IsVersion, Segment, Version, is_empty}
 use Rattle.pep_clause.specs.Admits.{admits}
-use Rattle.pep_clause.specs.Between.{less_told, none_between, not_below_itself}
+use Rattle.pep_clause.specs.Between.{less_told, not_below_itself}
 use Rattle.pep_clause.specs.Clause.{at_most, excluding, greater_than, less_than, matching}
-use Rattle.pep_clause.specs.Cut.{Cut, IsCut, after, before, cut_cmp, end, is_under, least}
-use Rattle.pep_clause.specs.Laws.{cut_total, is_under-cut_cmp}
-use Rattle.pep_clause.specs.NormalLists.{AllAbove, Apart-append, IsNormal-from, NoneBeyond, Spelled-append, Under}
-use Rattle.pep_clause.specs.OperatorTable.{before_place, greater_from, less_to, matching_to, next, outside, range, set_of}
-use Rattle.pep_clause.specs.VersionSet.{IsNormal, Range, is_in}
+use Rattle.pep_clause.specs.Cut.{after, cut_cmp, end, is_under, least}
+use Rattle.pep_clause.specs.Laws.{is_under-cut_cmp}
+use Rattle.pep_clause.specs.OperatorTable.{before_place, greater_from, less_to, matching_to, next, set_of}
+use Rattle.pep_clause.specs.VersionSet.{IsNormal, is_in}
 use Rattle.pep_clause.proofs.NextPlace.{next-under}
-use Rattle.pep_clause.proofs.NormalMeeting.{Apart-range, IsNormal-range, Spelled-range}
+use Rattle.pep_clause.proofs.NormalMeeting.{IsNormal-range}
 use Rattle.pep_clause.proofs.PlaceCuts.{IsCut-greater_from, IsCut-least, IsCut-less_to, IsCut-matching_to, IsCut-next}
 use Rattle.pep_clause.proofs.RangeRows.{IsNormal-outside, outside-row, range-row}
 use Rattle.pep_clause.proofs.Rows.{IsCut-before_place, IsVersion-place_of, is_below-place_of, is_below-public, is_in-from_least, release_cmp-short}

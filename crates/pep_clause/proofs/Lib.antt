@@ -10,3 +10,6 @@ pub mod ReadLemmas
 pub mod RangeRows
 pub mod PrefixPlace
 pub mod PrefixRows
+mod RaisedRelease
+mod SetLemmas
+mod SameVersions

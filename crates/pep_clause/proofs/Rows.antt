@@ -17,11 +17,10 @@ use Rattle.pep_clause.specs.Admits.{admits}
 use Rattle.pep_clause.specs.Between.{by_answer, not_above-test}
 use Rattle.pep_clause.specs.Clause.{Prefix, at_least, less_than}
 use Rattle.pep_clause.specs.Cut.{Cut, IsCut, before, cut_cmp, final_version, is_under, least}
-use Rattle.pep_clause.specs.LeastCut.{IsNormal-all_versions, none-below_least, none-under_least}
+use Rattle.pep_clause.specs.LeastCut.{none-below_least, none-under_least}
 use Rattle.pep_clause.specs.Laws.{cut_total, is_under-cut_cmp}
 use Rattle.pep_clause.specs.OperatorTable.{before_place, less_to, range, set_of, with_dev}
 use Rattle.pep_clause.specs.VersionSet.{IsNormal, is_in}
-use Rattle.pep_clause.proofs.NormalMeeting.{IsNormal-range}
 
 -- ---- releases in their short form
 
@@ -198,8 +197,3 @@ less_than-row r v =
     is_in-from_least (less_to (final_version r)) v
     ∙ is_below-place_of v (with_dev 0 (final_version r))
     ∙ less_by (place_cmp v (final_version r)) v.pre v.post v.dev v.label
-
-pub less_than-normal : (r : Prefix) → IsVersion (final_version r) → IsNormal (set_of (less_than (final_version r)))
-less_than-normal r h =
-    IsNormal-range least (less_to (final_version r)) IsNormal-all_versions.spelled.0
-    (IsCut-before_place (with_dev 0 (final_version r)) (IsVersion-with_dev (final_version r) h))

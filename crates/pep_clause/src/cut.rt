@@ -1,18 +1,18 @@
 // Cuts: places in the order of versions.
 
-ghost use Rattle.std.specs.Prelude.{◌≡◌, ◌<◌, ◌∷◌, [], length, refl, string_bytes, IfErr, IfOk};
+ghost use Rattle.std.specs.Prelude.{◌≡◌, ◌<◌, ◌∷◌, ◌++◌, [], length, refl, string_bytes, IfErr, IfOk};
 ghost use Rattle.std.specs.Cmp.{eq_by_cmp_equiv, partial_equiv_from_equiv, partial_order_from_total};
 ghost use Rattle.std.specs.List.{AllByRecursion};
 ghost use Rattle.std.specs.Ordering.{as_partial_cmp, eq_by_cmp};
 ghost use Rattle.pep_version.specs.Order.{place_of};
+ghost use Rattle.pep_version.specs.Text.{normal_text};
 ghost use Rattle.pep_version.specs.Version.{Fits};
-ghost use Rattle.pep_clause.specs.Cut.{IsCut, before, cut_cmp, cut_text, end, is_under, least};
+ghost use Rattle.pep_clause.specs.Cut.{IsCut, after, before, cut_cmp, cut_text, end, final_version, is_under, least};
 ghost use Rattle.pep_clause.specs.Laws.{cut_total};
-ghost use Rattle.pep_clause.specs.OperatorTable.{before_place, with_dev};
-ghost use Rattle.pep_clause.specs.Released.{release_version};
+ghost use Rattle.pep_clause.specs.OperatorTable.{before_dev, before_place, past_release};
 
 use crate::fault::ClauseFault;
-use pep_version::{Key, Version};
+use pep_version::{Key, Phase, Version};
 use std::alloc::Global;
 use std::cmp::Ordering;
 use std::marker::Model;
@@ -20,38 +20,105 @@ use std::marker::Model;
 #[derive(Drop)]
 enum Place {
     Before(Key),
+    After(Key),
+    Past(Key),
     End,
 }
 
 /// A cut is a place in the order of versions (PEP 440, "Summary of permitted suffixes and relative ordering"),
-/// between those under it and the others: directly before a version and all that are the same in order, or the
-/// end of all versions.
+/// between those under it and the others: directly before a version and all that are the same in order, directly
+/// after them, past everything of a release, or the end of all versions.
 #[derive(Drop)]
 pub struct Cut {
     place: Place,
 }
 
 impl Model for Cut {
-    ghost use Rattle.pep_clause.specs.Cut.{Cut, IsCut};
-    ghost use Rattle.pep_clause.specs.CutView.{cut_of};
+    ghost use Rattle.pep_clause.specs.Cut.{Cut};
+    ghost use Rattle.pep_clause.specs.CutView.{IsStored, cut_of};
 
     ghost Value = { Cut };
 
     ghost view = { λ a. cut_of a.place };
 
-    ghost invariant = { λ a. IsCut (cut_of a.place) };
+    ghost invariant = { λ a. IsStored a.place };
+}
+
+// The text, and behind it the normal text of the version at this place.
+fn kind_and_version(alloc: Global, kind: &str, place: &Key) -> Result<String, ClauseFault>
+    ensures text { IfOk result (λ t. string_bytes t ≡ kind.now ++ normal_text place.now) }
+    ensures faults { IfErr result (λ e. e ≡ ClauseFault.NoMemory) }
+{
+    let mut text = String::from_str(alloc, kind)?;
+    let version = place.version(alloc)?.text(alloc)?;
+    text.push_str(version.as_str())?;
+    Ok(text)
 }
 
 impl Cut {
-    /// The cut directly before a version and all that are the same in order. The only fault is `NoMemory`.
+    /// The cut directly before a version and all that are the same in order (PEP 440, "Inclusive ordered
+    /// comparison"). The only fault is `NoMemory`.
     pub fn before(alloc: Global, version: &Version) -> Result<Cut, ClauseFault>
         ensures place { IfOk result (λ c. c ≡ before (place_of version.now)) }
         ensures spelled { IfOk result (λ c. IsCut c) }
         ensures faults { IfErr result (λ e. e ≡ ClauseFault.NoMemory) }
     {
-        let place = Key::of(alloc, version)?;
+        Cut::before_suffixed(alloc, version, version.pre(), version.post(), version.dev())
+    }
+
+    /// The cut directly before the version with these suffixes in place of its own.
+    pub(crate) fn before_suffixed(
+        alloc: Global,
+        version: &Version,
+        pre: Option<(Phase, u64)>,
+        post: Option<u64>,
+        dev: Option<u64>,
+    ) -> Result<Cut, ClauseFault>
+        ensures place { IfOk result (λ c. c ≡ before_place (record version.now { pre = pre; post = post; dev = dev })) }
+        ensures spelled { IfOk result (λ c. IsCut c) }
+        ensures faults { IfErr result (λ e. e ≡ ClauseFault.NoMemory) }
+    {
+        let suffixed = Key::with_suffixes(alloc, version, pre, post, dev)?;
+        Ok(Cut {
+            place: Place::Before(suffixed),
+        })
+    }
+
+    /// The cut before the first developmental release of a release, and so before all its pre-releases.
+    pub(crate) fn before_dev(alloc: Global, epoch: u64, release: &[u64]) -> Result<Cut, ClauseFault>
+        requires { 0 < length release.now }
+        ensures place { IfOk result (λ c. c ≡ before_dev epoch release.now) }
+        ensures spelled { IfOk result (λ c. IsCut c) }
+        ensures faults { IfErr result (λ e. e ≡ ClauseFault.NoMemory) }
+    {
+        let place = Key::of_release(alloc, epoch, release, Some(0))?;
         Ok(Cut {
             place: Place::Before(place),
+        })
+    }
+
+    /// The cut directly after a version with a label and all that are the same in order.
+    pub(crate) fn after(alloc: Global, version: &Version) -> Result<Cut, ClauseFault>
+        requires { 0 < length version.now.label }
+        ensures place { IfOk result (λ c. c ≡ after (place_of version.now)) }
+        ensures spelled { IfOk result (λ c. IsCut c) }
+        ensures faults { IfErr result (λ e. e ≡ ClauseFault.NoMemory) }
+    {
+        let place = Key::of(alloc, version)?;
+        Ok(Cut {
+            place: Place::After(place),
+        })
+    }
+
+    /// The cut past everything of a version's release.
+    pub(crate) fn past(alloc: Global, version: &Version) -> Result<Cut, ClauseFault>
+        ensures place { IfOk result (λ c. c ≡ past_release version.now) }
+        ensures spelled { IfOk result (λ c. IsCut c) }
+        ensures faults { IfErr result (λ e. e ≡ ClauseFault.NoMemory) }
+    {
+        let release = Key::of_release(alloc, version.epoch(), version.release(), None)?;
+        Ok(Cut {
+            place: Place::Past(release),
         })
     }
 
@@ -62,24 +129,12 @@ impl Cut {
         Cut { place: Place::End }
     }
 
-    /// The cut before the first developmental release of a release, and so before all its pre-releases.
-    pub(crate) fn before_first_dev(alloc: Global, release: &[u64]) -> Result<Cut, ClauseFault>
-        requires { 0 < length release.now }
-        ensures place { IfOk result (λ c. c ≡ before_place (with_dev 0 (release_version release.now))) }
-        ensures spelled { IfOk result (λ c. IsCut c) }
-        ensures faults { IfErr result (λ e. e ≡ ClauseFault.NoMemory) }
-    {
-        let numbers = Vec::from_slice(alloc, release)?;
-        let version = Version::of_parts(0, numbers, None, None, Some(0), Vec::new(alloc)).unwrap();
-        Cut::before(alloc, &version)
-    }
-
     /// The cut under all versions. The only fault is `NoMemory`.
     pub fn least(alloc: Global) -> Result<Cut, ClauseFault>
         ensures least { IfOk result (λ c. c ≡ least) }
         ensures faults { IfErr result (λ e. e ≡ ClauseFault.NoMemory) }
     {
-        Cut::before_first_dev(alloc, &[0])
+        Cut::before_dev(alloc, 0, &[0])
     }
 
     /// Whether the version at this place is under the cut.
@@ -88,23 +143,22 @@ impl Cut {
     {
         match &self.place {
             Place::Before(place) => key < place,
+            Place::After(place) => key <= place,
+            Place::Past(release) => key.cmp_release(release) != Ordering::Greater,
             Place::End => true,
         }
     }
 
-    /// The text of the cut: `before ` and the normal text of the version (PEP 440, "Normalization"), or `end`.
-    /// The only fault is `NoMemory`.
+    /// The text of the cut: its kind, which is `before`, `after` or `past`, and the normal text of the version
+    /// (PEP 440, "Normalization"), for `past` of the release with its epoch; or `end`. The only fault is `NoMemory`.
     pub fn text(&self, alloc: Global) -> Result<String, ClauseFault>
         ensures text { IfOk result (λ t. string_bytes t ≡ cut_text self.now) }
         ensures faults { IfErr result (λ e. e ≡ ClauseFault.NoMemory) }
     {
         match &self.place {
-            Place::Before(place) => {
-                let mut text = String::from_str(alloc, "before ")?;
-                let version = place.version(alloc)?.text(alloc)?;
-                text.push_str(version.as_str())?;
-                Ok(text)
-            }
+            Place::Before(place) => kind_and_version(alloc, "before ", place),
+            Place::After(place) => kind_and_version(alloc, "after ", place),
+            Place::Past(release) => kind_and_version(alloc, "past ", release),
             Place::End => Ok(String::from_str(alloc, "end")?),
         }
     }
@@ -117,6 +171,8 @@ impl Cut {
     {
         let place = match &self.place {
             Place::Before(place) => Place::Before(place.copied(alloc)?),
+            Place::After(place) => Place::After(place.copied(alloc)?),
+            Place::Past(release) => Place::Past(release.copied(alloc)?),
             Place::End => Place::End,
         };
         Ok(Cut { place })
@@ -159,8 +215,20 @@ impl Ord for Cut {
     fn cmp(&self, other: &Cut) -> Ordering {
         match (&self.place, &other.place) {
             (Place::Before(a), Place::Before(b)) => a.cmp(b),
+            (Place::Before(a), Place::After(b)) => a.cmp(b).then(Ordering::Less),
+            (Place::Before(a), Place::Past(b)) => a.cmp_release(b).then(Ordering::Less),
             (Place::Before(_), Place::End) => Ordering::Less,
+            (Place::After(a), Place::Before(b)) => a.cmp(b).then(Ordering::Greater),
+            (Place::After(a), Place::After(b)) => a.cmp(b),
+            (Place::After(a), Place::Past(b)) => a.cmp_release(b).then(Ordering::Less),
+            (Place::After(_), Place::End) => Ordering::Less,
+            (Place::Past(a), Place::Before(b)) => a.cmp_release(b).then(Ordering::Greater),
+            (Place::Past(a), Place::After(b)) => a.cmp_release(b).then(Ordering::Greater),
+            (Place::Past(a), Place::Past(b)) => a.cmp_release(b),
+            (Place::Past(_), Place::End) => Ordering::Less,
             (Place::End, Place::Before(_)) => Ordering::Greater,
+            (Place::End, Place::After(_)) => Ordering::Greater,
+            (Place::End, Place::Past(_)) => Ordering::Greater,
             (Place::End, Place::End) => Ordering::Equal,
         }
     }

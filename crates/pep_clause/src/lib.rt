@@ -8,9 +8,14 @@ mod cut;
 mod fault;
 mod laws;
 mod op;
+mod places;
 mod range;
 mod reading;
 mod set;
+#[cfg(test)]
+mod set_tests;
+#[cfg(test)]
+mod tests;
 
 pub use crate::clause::Clause;
 pub use crate::cut::Cut;

@@ -1,11 +1,13 @@
 // Ranges between cuts.
 
 ghost use Rattle.std.specs.Prelude.{◌≡◌, ◌&&◌, not, option_to_list, IfErr, IfOk};
+ghost use Rattle.std.specs.Cmp.{partial_equiv_from_equiv};
 ghost use Rattle.std.specs.declared.cmp.Ordering.TheVariants.{Less};
 ghost use Rattle.pep_clause.specs.Between.{earlier, later};
 ghost use Rattle.pep_clause.specs.Cut.{IsCut, cut_cmp, is_under};
 ghost use Rattle.pep_clause.specs.Meeting.{common, is_within};
 ghost use Rattle.pep_clause.specs.OperatorTable.{range};
+ghost use Rattle.pep_clause.specs.SetEquality.{same_range, same_range-equiv};
 
 use crate::cut::Cut;
 use crate::fault::ClauseFault;
@@ -115,4 +117,18 @@ impl Range {
         let high = self.high.copied(alloc)?;
         Ok(Range { low, high })
     }
+}
+
+impl PartialEq for Range {
+    ghost eq = { same_range };
+
+    ghost laws = { partial_equiv_from_equiv same_range-equiv };
+
+    fn eq(&self, other: &Range) -> bool {
+        self.low == other.low && self.high == other.high
+    }
+}
+
+impl Eq for Range {
+    ghost laws = { same_range-equiv };
 }

@@ -1,20 +1,25 @@
 // Sets of versions.
 
-ghost use Rattle.std.specs.Prelude.{◌≡◌, ◌&&◌, ◌↔◌, ◌++◌, [], IfErr, IfOk, IsTrue, OnOk, None};
+ghost use Rattle.std.specs.Prelude.{◌≡◌, ◌&&◌, ◌↔◌, ◌++◌, ◌-◌, [], length, take, IfErr, IfOk, IsSome, IsTrue, None, OnOk};
+ghost use Rattle.std.specs.Cmp.{partial_equiv_from_equiv};
+ghost use Rattle.std.specs.declared.cmp.Ordering.TheVariants.{Less};
 ghost use Rattle.pep_version.specs.Version.{IsVersion, Version};
 ghost use Rattle.pep_clause.specs.Admits.{admits};
-ghost use Rattle.pep_clause.specs.Clause.{demanded_text};
-ghost use Rattle.pep_clause.specs.Cut.{Cut, IsCut};
-ghost use Rattle.pep_clause.specs.Inhabited.{BeginsAtVersion, HasVersionUnlessEmpty};
+ghost use Rattle.pep_clause.specs.Clause.{compatible, demanded_text, excluding_prefix, matching_prefix, prefix_of};
+ghost use Rattle.pep_clause.specs.ClauseView.{IsStored, clause_of};
+ghost use Rattle.pep_clause.specs.Cut.{Cut, IsCut, cut_cmp, least};
+ghost use Rattle.pep_clause.specs.Inhabited.{HasVersionUnlessEmpty};
 ghost use Rattle.pep_clause.specs.Meeting.{all_within, are_within, meet, meet_row};
-ghost use Rattle.pep_clause.specs.OperatorTable.{range, set_of};
-ghost use Rattle.pep_clause.specs.VersionSet.{IsNormal, all_versions, is_in, is_point};
+ghost use Rattle.pep_clause.specs.OperatorTable.{outside, range, set_of};
+ghost use Rattle.pep_clause.specs.SetEquality.{SameVersions, same_ranges, same_ranges-equiv};
+ghost use Rattle.pep_clause.specs.VersionSet.{In, IsNormal, all_versions, is_in, is_point};
 
-use crate::clause::Clause;
+use crate::clause::{Clause, Kind};
 use crate::cut::Cut;
 use crate::fault::ClauseFault;
+use crate::places::{greater_from, less_to, matching_to, next, prefix_end};
 use crate::range::Range;
-use pep_version::Key;
+use pep_version::{Key, Version};
 use std::alloc::Global;
 use std::marker::Model;
 
@@ -26,14 +31,26 @@ pub struct VersionSet {
 
 impl Model for VersionSet {
     ghost use Rattle.std.specs.Prelude.{List};
-    ghost use Rattle.pep_clause.specs.Inhabited.{BeginAtVersions};
     ghost use Rattle.pep_clause.specs.VersionSet.{IsNormal, Range};
 
     ghost Value = { List Range };
 
     ghost view = { λ a. a.ranges.items };
 
-    ghost invariant = { λ a. IsNormal a.ranges.items × BeginAtVersions a.ranges.items };
+    ghost invariant = { λ a. IsNormal a.ranges.items };
+}
+
+// The range goes to the end of the list, if its cuts are in order.
+fn push_range(done: &mut Vec<Range>, low: Cut, high: Cut) -> Result<(), ClauseFault>
+    requires low { IsCut low }
+    requires high { IsCut high }
+    ensures ok { OnOk result (done.new.items ≡ done.old.items ++ range low high) }
+    ensures faults { IfErr result (λ e. e ≡ ClauseFault.NoMemory) }
+{
+    if let Some(range) = Range::between(low, high) {
+        done.push(range)?;
+    }
+    Ok(())
 }
 
 fn push_common(
@@ -119,30 +136,105 @@ impl VersionSet {
     /// The versions between two cuts.
     fn between(alloc: Global, low: Cut, high: Cut) -> Result<VersionSet, ClauseFault>
         requires low { IsCut low }
-        requires begins { BeginsAtVersion low }
         requires high { IsCut high }
         ensures range { IfOk result (λ s. s ≡ range low high) }
-        ensures inhabited { IfOk result (λ s. HasVersionUnlessEmpty s) }
         ensures faults { IfErr result (λ e. e ≡ ClauseFault.NoMemory) }
     {
         let mut ranges = Vec::with_capacity(alloc, 1)?;
-        if let Some(range) = Range::between(low, high) {
-            ranges.push(range)?;
-        }
+        push_range(&mut ranges, low, high)?;
         Ok(VersionSet { ranges })
     }
 
-    /// STUB
+    /// The versions under the low cut, and those not under the high one.
+    fn outside(alloc: Global, low: Cut, high: Cut) -> Result<VersionSet, ClauseFault>
+        requires low { IsCut low }
+        requires high { IsCut high }
+        requires in_order { cut_cmp low high ≡ Less }
+        ensures outside { IfOk result (λ s. s ≡ outside low high) }
+        ensures faults { IfErr result (λ e. e ≡ ClauseFault.NoMemory) }
+    {
+        let mut ranges = Vec::new(alloc);
+        push_range(&mut ranges, Cut::least(alloc)?, low)?;
+        push_range(&mut ranges, high, Cut::end())?;
+        Ok(VersionSet { ranges })
+    }
+
+    /// The versions whose epoch is that of the prefix, and whose release begins with its numbers.
+    fn with_prefix(alloc: Global, prefix: &Version) -> Result<VersionSet, ClauseFault>
+        ensures range { IfOk result (λ s. s ≡ set_of (matching_prefix (prefix_of prefix.now))) }
+        ensures faults { IfErr result (λ e. e ≡ ClauseFault.NoMemory) }
+    {
+        let (epoch, release) = (prefix.epoch(), prefix.release());
+        let low = Cut::before_dev(alloc, epoch, release)?;
+        VersionSet::between(alloc, low, prefix_end(alloc, epoch, release)?)
+    }
+
+    /// The versions whose epoch is another, or whose release does not begin with the numbers of the prefix.
+    fn without_prefix(alloc: Global, prefix: &Version) -> Result<VersionSet, ClauseFault>
+        ensures outside { IfOk result (λ s. s ≡ set_of (excluding_prefix (prefix_of prefix.now))) }
+        ensures faults { IfErr result (λ e. e ≡ ClauseFault.NoMemory) }
+    {
+        let (epoch, release) = (prefix.epoch(), prefix.release());
+        let low = Cut::before_dev(alloc, epoch, release)?;
+        VersionSet::outside(alloc, low, prefix_end(alloc, epoch, release)?)
+    }
+
+    /// The versions that are not below this one, and whose release begins with its numbers but the last.
+    fn compatible(alloc: Global, version: &Version) -> Result<VersionSet, ClauseFault>
+        ensures range { IfOk result (λ s. s ≡ set_of (compatible version.now)) }
+        ensures faults { IfErr result (λ e. e ≡ ClauseFault.NoMemory) }
+    {
+        let release = version.release();
+        let prefix = &release[..release.len() - 1];
+        let high = prefix_end(alloc, version.epoch(), prefix)?;
+        VersionSet::between(alloc, Cut::before(alloc, version)?, high)
+    }
+
+    /// The versions that the clause of this kind admits; all versions where it demands a text.
+    pub(crate) fn of_kind(alloc: Global, kind: &Kind) -> Result<VersionSet, ClauseFault>
+        requires { IsStored kind.now }
+        ensures list { IfOk result (λ s. s ≡ set_of (clause_of kind.now)) }
+        ensures faults { IfErr result (λ e. e ≡ ClauseFault.NoMemory) }
+    {
+        match kind {
+            Kind::Compatible(version) => VersionSet::compatible(alloc, version),
+            Kind::Matching(version) => {
+                let low = Cut::before(alloc, version)?;
+                VersionSet::between(alloc, low, matching_to(alloc, version)?)
+            }
+            Kind::MatchingPrefix(prefix) => VersionSet::with_prefix(alloc, prefix),
+            Kind::Excluding(version) => {
+                let low = Cut::before(alloc, version)?;
+                VersionSet::outside(alloc, low, matching_to(alloc, version)?)
+            }
+            Kind::ExcludingPrefix(prefix) => VersionSet::without_prefix(alloc, prefix),
+            Kind::AtMost(version) => {
+                VersionSet::between(alloc, Cut::least(alloc)?, next(alloc, version)?)
+            }
+            Kind::AtLeast(version) => {
+                VersionSet::between(alloc, Cut::before(alloc, version)?, Cut::end())
+            }
+            Kind::LessThan(version) => {
+                VersionSet::between(alloc, Cut::least(alloc)?, less_to(alloc, version)?)
+            }
+            Kind::GreaterThan(version) => {
+                VersionSet::between(alloc, greater_from(alloc, version)?, Cut::end())
+            }
+            Kind::Arbitrary(_) => VersionSet::all(alloc),
+        }
+    }
+
+    /// The versions that a clause admits (PEP 440, "Version specifiers"). A clause with `===` admits by the text of
+    /// a version, which no range does: its set is that of all versions. The only fault is `NoMemory`.
     pub fn of(alloc: Global, clause: &Clause) -> Result<VersionSet, ClauseFault>
         ensures list { IfOk result (λ s. s ≡ set_of clause.now) }
         ensures versions { IfOk result (λ s. (v : Version) → IsVersion v → demanded_text clause.now ≡ None → is_in s v ≡ admits clause.now v) }
+        ensures demanded { IfOk result (λ s. (v : Version) → IsSome (demanded_text clause.now) → In s v) }
         ensures normal { IfOk result (λ s. IsNormal s) }
         ensures inhabited { IfOk result (λ s. HasVersionUnlessEmpty s) }
         ensures faults { IfErr result (λ e. e ≡ ClauseFault.NoMemory) }
     {
-        let _ = alloc;
-        let _ = clause.kind();
-        Err(ClauseFault::NoMemory)
+        VersionSet::of_kind(alloc, clause.kind())
     }
 
     /// The versions that are in both sets. The only fault is `NoMemory`.
@@ -174,7 +266,7 @@ impl VersionSet {
     /// Whether no version is in the set.
     pub fn is_empty(&self) -> bool
         ensures ranges { IsTrue result ↔ (self.now ≡ []) }
-        ensures inhabited { HasVersionUnlessEmpty self.now }
+        ensures exactly { IsTrue result ↔ ((v : Version) → IsVersion v → ¬ In self.now v) }
     {
         self.ranges.is_empty()
     }
@@ -202,4 +294,23 @@ impl VersionSet {
         let ranges = ranges_copied(alloc, self.ranges.as_slice())?;
         Ok(VersionSet { ranges })
     }
+}
+
+impl PartialEq for VersionSet {
+    ghost eq = { same_ranges };
+
+    ghost laws = { partial_equiv_from_equiv same_ranges-equiv };
+
+    /// Whether both hold the same versions.
+    fn eq(&self, other: &VersionSet) -> bool
+        ensures ranges { result ≡ same_ranges self.now other.now }
+        ensures list { IsTrue result ↔ (self.now ≡ other.now) }
+        ensures versions { IsTrue result ↔ SameVersions self.now other.now }
+    {
+        self.ranges.as_slice() == other.ranges.as_slice()
+    }
+}
+
+impl Eq for VersionSet {
+    ghost laws = { same_ranges-equiv };
 }

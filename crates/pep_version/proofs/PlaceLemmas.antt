@@ -1,7 +1,8 @@
 -- Places in the order, and the versions that stand there.
-use Rattle.std.proofs.Common.{◌≡◌, ◌<◌, ◌==◌, ◌&&◌, ℕ, List, [], ◌∷◌, length, true, false, Bool, refl, ap, arith}
+use Rattle.std.proofs.Common.{◌≡◌, ◌<◌, ◌==◌, ◌&&◌, ℕ, List, [], ◌∷◌, length, Option, IfSome, true, false, Bool, refl, ap, arith}
 use Rattle.std.specs.List.{AllByRecursion}
 use Rattle.std.specs.Prelude.{if◌then◌else◌}
+use Rattle.pep_version.specs.declared.parts.Phase.{Phase}
 use Rattle.pep_version.specs.Laws.{without_end_zeros-twice}
 use Rattle.pep_version.specs.Order.{place_of, short_release, without_end_zeros}
 use Rattle.pep_version.specs.Version.{Fits, IsVersion, Version, is_empty}
@@ -26,6 +27,15 @@ short-some (n ∷ rest) h = omega arith
 pub short-twice : (xs : List ℕ) → short_release (short_release xs) ≡ short_release xs
 short-twice [] = refl
 short-twice (n ∷ rest) = ap (λ (l : List ℕ). n ∷ l) (without_end_zeros-twice rest)
+
+-- the version with other suffixes, whose numbers fit
+pub suffixed : (v : Version) (pre : Option (Phase × ℕ)) (post dev : Option ℕ) → IsVersion v
+    → IfSome pre (λ p. Fits p.1) → IfSome post Fits → IfSome dev Fits → IsVersion (record v { pre = pre; post = post; dev = dev })
+suffixed v pre post dev h f g k = record {
+  release = h.release;
+  label = h.label;
+  numbers = record { epoch = h.numbers.epoch; release = h.numbers.release; pre = f; post = g; dev = k; label = h.numbers.label };
+}
 
 -- the place of a version is a version
 pub place-version : (v : Version) → IsVersion v → IsVersion (place_of v)

@@ -1,13 +1,13 @@
 // The place of a version in the order.
 
-ghost use Rattle.std.specs.Prelude.{◌≡◌, fold, map, refl, slice_index, IfErr, IfOk};
+ghost use Rattle.std.specs.Prelude.{◌≡◌, ◌<◌, [], fold, length, map, refl, slice_index, IfErr, IfOk, None};
 ghost use Rattle.std.specs.Cmp.{eq_by_cmp_equiv, partial_equiv_from_equiv, partial_order_from_total};
 ghost use Rattle.std.specs.Cmp.Lexicographic.{slice_cmp};
 ghost use Rattle.std.specs.Hash as fed;
 ghost use Rattle.std.specs.Ordering.{as_partial_cmp, eq_by_cmp};
 ghost use Rattle.pep_version.specs.Feed.{feed_pre, feed_segment, feed_version, feed_version-alike};
 ghost use Rattle.pep_version.specs.Laws.{version_total};
-ghost use Rattle.pep_version.specs.Order.{dev_cmp, phase_rank, place_of, pre_number_of, release_cmp, segment_cmp, short_release, stage_of, suffix_cmp, version_cmp, without_end_zeros};
+ghost use Rattle.pep_version.specs.Order.{dev_cmp, phase_rank, place_cmp, place_of, pre_number_of, release_cmp, segment_cmp, short_release, stage_of, suffix_cmp, version_cmp, without_end_zeros};
 ghost use Rattle.pep_version.specs.Version.{IsVersion};
 ghost use Rattle.pep_version.specs.View.{segment_of};
 
@@ -67,15 +67,57 @@ impl Key {
         ensures own_place { IfOk result (λ k. place_of k ≡ k) }
         ensures faults { IfErr result (λ e. e ≡ VersionFault.NoMemory) }
     {
+        Key::with_suffixes(alloc, version, version.pre(), version.post(), version.dev())
+    }
+
+    /// The place of the version with these suffixes in place of its own, and with its label. The only fault is
+    /// `NoMemory`.
+    pub fn with_suffixes(
+        alloc: Global,
+        version: &Version,
+        pre: Option<(Phase, u64)>,
+        post: Option<u64>,
+        dev: Option<u64>,
+    ) -> Result<Key, VersionFault>
+        ensures place { IfOk result (λ k. k ≡ place_of (record version.now { pre = pre; post = post; dev = dev })) }
+        ensures version { IfOk result (λ k. IsVersion k) }
+        ensures own_place { IfOk result (λ k. place_of k ≡ k) }
+        ensures faults { IfErr result (λ e. e ≡ VersionFault.NoMemory) }
+    {
         let release = Vec::from_slice(alloc, short_release(version.release()))?;
         let label = label_copied(alloc, version.label())?;
         Ok(Key {
             epoch: version.epoch(),
             release,
-            pre: version.pre(),
-            post: version.post(),
-            dev: version.dev(),
+            pre,
+            post,
+            dev,
             label,
+        })
+    }
+
+    /// The place of a final release, or of its developmental release of this number (PEP 440, "Final releases",
+    /// "Developmental releases"). The only fault is `NoMemory`.
+    pub fn of_release(
+        alloc: Global,
+        epoch: u64,
+        release: &[u64],
+        dev: Option<u64>,
+    ) -> Result<Key, VersionFault>
+        requires { 0 < length release.now }
+        ensures place { IfOk result (λ k. k ≡ place_of (record { epoch = epoch; release = release.now; pre = None; post = None; dev = dev; label = [] })) }
+        ensures version { IfOk result (λ k. IsVersion k) }
+        ensures own_place { IfOk result (λ k. place_of k ≡ k) }
+        ensures faults { IfErr result (λ e. e ≡ VersionFault.NoMemory) }
+    {
+        let numbers = Vec::from_slice(alloc, short_release(release))?;
+        Ok(Key {
+            epoch,
+            release: numbers,
+            pre: None,
+            post: None,
+            dev,
+            label: Vec::new(alloc),
         })
     }
 
@@ -201,6 +243,15 @@ fn cmp_labels(a: &[Label], b: &[Label]) -> Ordering
 }
 
 impl Key {
+    /// The order of the two by their epochs and releases alone (PEP 440, "Version epochs", "Final releases").
+    pub fn cmp_release(&self, other: &Key) -> Ordering
+        ensures { result ≡ place_cmp self.now other.now }
+    {
+        self.epoch
+            .cmp(&other.epoch)
+            .then(cmp_releases(&self.release, &other.release))
+    }
+
     // The order within one release.
     fn cmp_suffix(&self, other: &Key) -> Ordering
         ensures { result ≡ suffix_cmp self.now other.now }
@@ -250,10 +301,7 @@ impl Ord for Key {
     ghost matches_eq = { λ a b. refl };
 
     fn cmp(&self, other: &Key) -> Ordering {
-        let place = self
-            .epoch
-            .cmp(&other.epoch)
-            .then(cmp_releases(&self.release, &other.release));
+        let place = self.cmp_release(other);
         if place != Ordering::Equal {
             return place;
         }

@@ -1,7 +1,10 @@
-use Rattle.std.proofs.Common.{subst}
-use Rattle.pep_clause.specs.Inhabited.{BeginAtVersions, has_version}
+use Rattle.std.proofs.Common.{◌≡◌, ◌==◌, length, rules, subst}
 use Rattle.pep_clause.specs.VersionSet.{IsNormal}
+use Rattle.pep_clause.proofs.SetLemmas.{empty-exactly}
 use Rattle.pep_clause.proofs.set.VersionSet.is_empty.Goals as goal
 
-pub returns-clause-inhabited : goal.returns-clause-inhabited
-returns-clause-inhabited c = has_version c.args.self.now (subst IsNormal c.self.view_is c.self.invariant.0) (subst BeginAtVersions c.self.view_is c.self.invariant.1)
+pub returns-clause-exactly : goal.returns-clause-exactly
+returns-clause-exactly c =
+    let normal : IsNormal c.args.self.now = subst IsNormal c.self.view_is c.self.invariant in
+    let test : c.is_empty.result ≡ (length c.args.self.now == 0) = search rules in
+    empty-exactly c.args.self.now c.is_empty.result normal test

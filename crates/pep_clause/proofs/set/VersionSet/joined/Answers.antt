@@ -1,5 +1,5 @@
 use Rattle.std.proofs.Common.{◌≡◌, ◌∙◌, subst}
-use Rattle.pep_clause.specs.Inhabited.{BeginAtVersions, has_version, meet_begins}
+use Rattle.pep_clause.specs.Density.{normal-has_version}
 use Rattle.pep_clause.specs.Meeting.{meet}
 use Rattle.pep_clause.specs.VersionSet.{IsNormal, is_in, is_point}
 use Rattle.pep_clause.proofs.MeetingPoints.{is_in-meet, is_point-meet}
@@ -9,28 +9,15 @@ use Rattle.pep_clause.proofs.set.VersionSet.joined.Goals as goal
 pub invariant_of-result : goal.invariant_of-result
 invariant_of-result c =
     let list : c.in_ok-ranges.ranges.items ≡ meet c.args.self.now c.args.other.now = cc (c.in_ok-ranges.ensures.ok) in
-    let self_normal : IsNormal c.args.self.now = subst IsNormal c.self.view_is c.self.invariant.0 in
-    let other_normal : IsNormal c.args.other.now = subst IsNormal c.other.view_is c.other.invariant.0 in
-    let self_begins : BeginAtVersions c.args.self.now = subst BeginAtVersions c.self.view_is c.self.invariant.1 in
-    let other_begins : BeginAtVersions c.args.other.now = subst BeginAtVersions c.other.view_is c.other.invariant.1 in
-    rw list (IsNormal-meet c.args.self.now c.args.other.now self_normal other_normal, meet_begins c.args.self.now c.args.other.now self_begins other_begins)
-
-pub returns-clause-inhabited : goal.returns-clause-inhabited
-returns-clause-inhabited c =
-    let list : c.in_ok-ranges.ranges.items ≡ meet c.args.self.now c.args.other.now = cc (c.in_ok-ranges.ensures.ok) in
-    let self_normal : IsNormal c.args.self.now = subst IsNormal c.self.view_is c.self.invariant.0 in
-    let other_normal : IsNormal c.args.other.now = subst IsNormal c.other.view_is c.other.invariant.0 in
-    let self_begins : BeginAtVersions c.args.self.now = subst BeginAtVersions c.self.view_is c.self.invariant.1 in
-    let other_begins : BeginAtVersions c.args.other.now = subst BeginAtVersions c.other.view_is c.other.invariant.1 in
-    rw list (has_version (meet c.args.self.now c.args.other.now) (IsNormal-meet c.args.self.now c.args.other.now self_normal other_normal)
-    (meet_begins c.args.self.now c.args.other.now self_begins other_begins))
+    let self_normal : IsNormal c.args.self.now = subst IsNormal c.self.view_is c.self.invariant in
+    let other_normal : IsNormal c.args.other.now = subst IsNormal c.other.view_is c.other.invariant in
+    rw list (IsNormal-meet c.args.self.now c.args.other.now self_normal other_normal)
 
 pub returns-clause-normal : goal.returns-clause-normal
-returns-clause-normal c =
-    let list : c.in_ok-ranges.ranges.items ≡ meet c.args.self.now c.args.other.now = cc (c.in_ok-ranges.ensures.ok) in
-    let self_normal : IsNormal c.args.self.now = subst IsNormal c.self.view_is c.self.invariant.0 in
-    let other_normal : IsNormal c.args.other.now = subst IsNormal c.other.view_is c.other.invariant.0 in
-    rw list (IsNormal-meet c.args.self.now c.args.other.now self_normal other_normal)
+returns-clause-normal c = invariant_of-result c
+
+pub returns-clause-inhabited : goal.returns-clause-inhabited
+returns-clause-inhabited c = normal-has_version c.in_ok-ranges.ranges.items (invariant_of-result c)
 
 pub returns-clause-points : goal.returns-clause-points
 returns-clause-points c =

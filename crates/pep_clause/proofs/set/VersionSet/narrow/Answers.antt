@@ -1,5 +1,5 @@
 use Rattle.std.proofs.Common.{◌≡◌, true, subst, rules}
-use Rattle.pep_clause.specs.Inhabited.{BeginAtVersions, has_version}
+use Rattle.pep_clause.specs.Density.{normal-has_version}
 use Rattle.pep_clause.specs.Meeting.{are_within}
 use Rattle.pep_clause.specs.VersionSet.{IsNormal}
 use Rattle.pep_clause.proofs.MeetingPoints.{is_in-within, is_point-within}
@@ -18,4 +18,4 @@ returns-else-not-are_within-clause-versions c =
 pub returns-else-not-are_within-clause-inhabited :
     goal.returns-else-not-are_within-clause-inhabited
 returns-else-not-are_within-clause-inhabited c =
-    has_version c.args.self.now (subst IsNormal c.self.view_is c.self.invariant.0) (subst BeginAtVersions c.self.view_is c.self.invariant.1)
+    normal-has_version c.args.self.now (subst IsNormal c.self.view_is c.self.invariant)

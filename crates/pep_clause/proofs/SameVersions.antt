@@ -1,0 +1,158 @@
+-- Two normal lists that hold the same versions are one list, since there is a version between any two cuts.
+use Rattle.std.proofs.Common.{◌≡◌, ◌↔◌, ◌&&◌, ◌||◌, Bool, true, false, not, List, [], ◌∷◌, refl, sym, ap, ◌∙◌}
+use Rattle.std.proofs.lemmas.Bool.{and_parts}
+use Rattle.std.specs.Ordering.{is_eq, is_lt}
+use Rattle.std.specs.Prelude.{IsTrue}
+use Rattle.std.specs.declared.cmp.Ordering.{Ordering}
+use Rattle.std.specs.declared.cmp.Ordering.TheVariants.{Less, Equal, Greater}
+use Rattle.pep_clause.specs.Between.{below-earlier, below-not_above, by_answer, earlier, earlier-keeps, is_between, less_told}
+use Rattle.pep_clause.specs.Cut.{Cut, IsCut, before, cut_cmp}
+use Rattle.pep_clause.specs.Density.{between_cuts}
+use Rattle.pep_clause.specs.SetEquality.{SameVersions, same_range, same_ranges, same_ranges-equiv}
+use Rattle.pep_clause.specs.Laws.{cut_total, is_in-is_point, is_under-cut_cmp}
+use Rattle.pep_clause.specs.NormalLists.{IsNormal-spelled, Spelled}
+use Rattle.pep_clause.specs.OneCut.{one-cut}
+use Rattle.pep_clause.specs.PointLaws.{same_points}
+use Rattle.pep_clause.specs.VersionSet.{IsNormal, Range, is_in, is_point}
+
+abbrev below : Cut → Cut → Bool
+below c d = is_lt (cut_cmp c d)
+
+-- not below a cut, so not below another that is not above it
+still_not_below : (p c d : Cut) → below p c ≡ false → below c d ≡ false → below p d ≡ false
+still_not_below p c d a b =
+    by_answer (below p d) (λ t. cc (a, ap is_lt (below-not_above cut_total p d c (less_told (cut_cmp p d) t) b))) (λ f. f)
+
+or_false : (p q : Bool) → (p || q) ≡ false → (p ≡ false) × (q ≡ false)
+or_false true q e = cc e
+or_false false q e = (refl, e)
+
+or_true : (p q : Bool) → p ≡ false → (p || q) ≡ true → q ≡ true
+or_true true q e f = cc e
+or_true false q e f = f
+
+in_first : (p q rest : Bool) → p ≡ true → q ≡ false → ((p && not q) || rest) ≡ true
+in_first p q rest e f = rw (e, f) refl
+
+in_rest : (p rest : Bool) → rest ≡ true → (p || rest) ≡ true
+in_rest true rest e = refl
+in_rest false rest e = e
+
+under_low : (p q rest : Bool) → q ≡ true → rest ≡ false → ((p && not q) || rest) ≡ false
+under_low true q rest e f = rw (e, f) refl
+under_low false q rest e f = f
+
+past_high : (p q rest : Bool) → p ≡ false → rest ≡ false → ((p && q) || rest) ≡ false
+past_high p q rest e f = rw (e, f) refl
+
+not_true : (q : Bool) → not q ≡ true → q ≡ false
+not_true true e = cc e
+not_true false e = refl
+
+high_false : (p q : Bool) → (p && not q) ≡ false → q ≡ false → p ≡ false
+high_false true q e f = cc (e, f)
+high_false false q e f = refl
+
+-- a point of a list: up to some cut above it all are points
+until_high : (ranges : List Range) (c : Cut) → Spelled ranges → is_point ranges c ≡ true
+    → (h : Cut) × IsCut h × (below c h ≡ true) × ((p : Cut) → below p c ≡ false → below p h ≡ true → is_point ranges p ≡ true)
+until_high [] c s e = cc e
+until_high (r ∷ rest) c s e =
+    by_answer (is_between cut_cmp r.low r.high c)
+    (λ t.
+    let parts = and_parts (below c r.high) (not (below c r.low)) t in (
+      r.high,
+      s.1,
+      parts.0,
+      λ p a b. in_first (below p r.high) (below p r.low) (is_point rest p) b (still_not_below p c r.low a (not_true (below c r.low) parts.1)),
+    ))
+    (λ f.
+    let more = until_high rest c s.2 (or_true (is_between cut_cmp r.low r.high c) (is_point rest c) f e) in
+    (more.0, more.1, more.2, λ p a b. in_rest (is_between cut_cmp r.low r.high p) (is_point rest p) (more.3 p a b)))
+
+-- no point of a list: up to some cut above it, which is not above another, none are points
+until_low : (ranges : List Range) (c h : Cut) → Spelled ranges → IsCut h → below c h ≡ true → is_point ranges c ≡ false
+    → (d : Cut) × IsCut d × (below c d ≡ true) × ((p : Cut) → below p c ≡ false → below p d ≡ true → (below p h ≡ true) × (is_point ranges p ≡ false))
+until_low [] c h s k e n = (h, k, e, λ p a b. (b, refl))
+until_low (r ∷ rest) c h s k e n =
+    let none = or_false (is_between cut_cmp r.low r.high c) (is_point rest c) n in
+    let more = until_low rest c h s.2 k e none.1 in
+    by_answer (below c r.low)
+    (λ t. (
+      earlier cut_cmp more.0 r.low,
+      earlier-keeps IsCut (below more.0 r.low) more.0 r.low more.1 s.0,
+      below-earlier cut_total c more.0 r.low ∙ (λ i. more.2 i && t i),
+      λ p a b.
+          let both = and_parts (below p more.0) (below p r.low) (sym (below-earlier cut_total p more.0 r.low) ∙ b) in
+          let others = more.3 p a both.0 in
+          (others.0, under_low (below p r.high) (below p r.low) (is_point rest p) both.1 others.1),
+    ))
+    (λ f. (
+      more.0,
+      more.1,
+      more.2,
+      λ p a b.
+          let others = more.3 p a b in
+          let past : below p r.high ≡ false = still_not_below p c r.high a (high_false (below c r.high) (below c r.low) none.0 f) in
+          (others.0, past_high (below p r.high) (not (below p r.low)) (is_point rest p) past others.1),
+    ))
+
+-- a cut is no point of the one list alone: a version is between it and the next place where a list changes
+not_one_alone : (ranges others : List Range) → IsNormal ranges → IsNormal others → SameVersions ranges others → (c : Cut) → IsCut c
+    → is_point ranges c ≡ true → is_point others c ≡ false → ⊥
+not_one_alone ranges others h g same c is e f =
+    let inside = until_high ranges c (IsNormal-spelled ranges h) e in
+    let outside = until_low others c inside.0 (IsNormal-spelled others g) inside.1 inside.2 f in
+    let found = between_cuts c outside.0 is outside.1 (less_told (cut_cmp c outside.0) outside.2) in
+    let not_below : below (before found.0) c ≡ false = sym (is_under-cut_cmp c found.0) ∙ found.2 in
+    let under : below (before found.0) outside.0 ≡ true = sym (is_under-cut_cmp outside.0 found.0) ∙ found.3 in
+    let none = outside.3 (before found.0) not_below under in
+    let some = inside.3 (before found.0) not_below none.0 in
+    cc (sym some ∙ sym (is_in-is_point ranges found.0) ∙ same found.0 found.1 ∙ is_in-is_point others found.0 ∙ none.1)
+
+-- two normal lists that hold the same versions are one list
+pub same_versions : (ranges others : List Range) → IsNormal ranges → IsNormal others → SameVersions ranges others → ranges ≡ others
+same_versions ranges others h g same =
+    same_points ranges others h g
+    (λ c is.
+    by_answer (is_point ranges c)
+    (λ t. by_answer (is_point others c) (λ u. t ∙ sym u) (λ f. absurd (not_one_alone ranges others h g same c is t f)))
+    (λ f. by_answer (is_point others c) (λ t. absurd (not_one_alone others ranges g h (λ v k. sym (same v k)) c is t f)) (λ u. f ∙ sym u)))
+
+-- ---- equal sets
+
+-- cuts that tie are one cut
+tied_cut : (c d : Cut) → IsCut c → IsCut d → is_eq (cut_cmp c d) ≡ true → c ≡ d
+tied_cut c d h g e = one-cut c d h g (told (cut_cmp c d) e)
+  where
+    told : (r : Ordering) → is_eq r ≡ true → r ≡ Equal
+    told Less e = cc e
+    told Equal e = refl
+    told Greater e = cc e
+
+same_told : (ranges others : List Range) → Spelled ranges → Spelled others → same_ranges ranges others ≡ true → ranges ≡ others
+same_told [] [] h g e = refl
+same_told [] (s ∷ more) h g e = cc e
+same_told (r ∷ rest) [] h g e = cc e
+same_told (r ∷ rest) (s ∷ more) h g e =
+    let both = and_parts (same_range r s) (same_ranges rest more) e in
+    let cuts = and_parts (is_eq (cut_cmp r.low s.low)) (is_eq (cut_cmp r.high s.high)) both.0 in
+    let low = tied_cut r.low s.low h.0 g.0 cuts.0 in
+    let high = tied_cut r.high s.high h.1 g.1 cuts.1 in
+    let others = same_told rest more h.2 g.2 both.1 in
+    λ i. record { low = low i; high = high i } ∷ others i
+
+-- `==` says that two sets are one list
+pub same_ranges-exactly : (ranges others : List Range) (b : Bool) → IsNormal ranges → IsNormal others → b ≡ same_ranges ranges others
+    → IsTrue b ↔ (ranges ≡ others)
+same_ranges-exactly ranges others b h g e = (
+  λ t. same_told ranges others (IsNormal-spelled ranges h) (IsNormal-spelled others g) (sym e ∙ t),
+  λ one. e ∙ (λ i. same_ranges (one i) others) ∙ same_ranges-equiv.refl others,
+)
+
+-- and so that they hold the same versions
+pub same_versions-exactly : (ranges others : List Range) (b : Bool) → IsNormal ranges → IsNormal others → b ≡ same_ranges ranges others
+    → IsTrue b ↔ SameVersions ranges others
+same_versions-exactly ranges others b h g e =
+    let list = same_ranges-exactly ranges others b h g e in
+    (λ t v k. (λ i. is_in (list.0 t i) v), λ same. list.1 (same_versions ranges others h g same))

@@ -1,0 +1,117 @@
+-- What the ranges of a clause hold.
+use Rattle.std.proofs.Common.{◌≡◌, ◌==◌, ◌↔◌, Bool, false, length, List, [], ◌∷◌, None, Result, Ok, Err, IfOk, IsSome, ◌||◌, not, refl, ◌∙◌, sym, subst, is_ge}
+use Rattle.std.specs.Prelude.{IsTrue}
+use Rattle.std.specs.declared.cmp.Ordering.{Ordering}
+use Rattle.std.specs.declared.cmp.Ordering.TheVariants.{Less, Equal, Greater}
+use Rattle.pep_version.specs.Laws.{is_empty-length}
+use Rattle.pep_version.specs.Version.{IsVersion, Version}
+use Rattle.pep_clause.specs.declared.clause.Kind.{Kind}
+use Rattle.pep_clause.specs.declared.clause.Kind.TheVariants as stored
+use Rattle.pep_clause.specs.declared.fault.ClauseFault.{ClauseFault}
+use Rattle.pep_clause.specs.Admits.{admits}
+use Rattle.pep_clause.specs.Clause.{Clause, compatible, matching, matching_prefix, excluding, excluding_prefix, at_most, at_least, less_than, greater_than, arbitrary, demanded_text, prefix_of}
+use Rattle.pep_clause.specs.ClauseView.{IsStored, clause_of}
+use Rattle.pep_clause.specs.Cut.{final_version}
+use Rattle.pep_clause.specs.Density.{normal-has_version}
+use Rattle.pep_clause.specs.Inhabited.{HasVersionUnlessEmpty}
+use Rattle.pep_clause.specs.LeastCut.{IsNormal-all_versions, none-under_least}
+use Rattle.pep_clause.specs.OperatorTable.{set_of}
+use Rattle.pep_clause.specs.Valid.{IsValidClause}
+use Rattle.pep_clause.specs.VersionSet.{In, IsNormal, Range, is_in}
+use Rattle.pep_clause.proofs.ClauseRows.{at_most-normal, at_most-row, excluding-normal, excluding-row, greater_than-normal, greater_than-row, less_than_version-normal, less_than_version-row, matching-normal, matching-row}
+use Rattle.pep_clause.proofs.PrefixRows.{compatible-normal, compatible-row, excluding_prefix-normal, excluding_prefix-row, matching_prefix-normal, matching_prefix-row}
+use Rattle.pep_clause.proofs.Rows.{at_least-normal, at_least-row}
+
+-- what is not at least another is below it
+pub below_told : (r : Ordering) → is_ge r ≡ false → r ≡ Less
+below_told Less e = refl
+below_told Equal e = cc e
+below_told Greater e = cc e
+
+-- the ranges of a clause without a demanded text hold what the clause admits
+pub is_in-set_of : (c : Clause) → IsValidClause c → (v : Version) → IsVersion v → demanded_text c ≡ None → is_in (set_of c) v ≡ admits c v
+is_in-set_of (compatible w) h v g none = compatible-row w v h.0.0 g h.0.1
+is_in-set_of (matching w) h v g none = matching-row w v g
+is_in-set_of (matching_prefix p) h v g none = matching_prefix-row p v g
+is_in-set_of (excluding w) h v g none = excluding-row w v g
+is_in-set_of (excluding_prefix p) h v g none = excluding_prefix-row p v g
+is_in-set_of (at_most w) h v g none = at_most-row w v g h.1
+is_in-set_of (at_least w) h v g none = at_least-row w v h.1
+is_in-set_of (less_than w) h v g none = less_than_version-row w v h.1
+is_in-set_of (greater_than w) h v g none = greater_than-row w v g h.1
+is_in-set_of (arbitrary text) h v g none = cc none
+
+-- where a text is demanded they hold all versions
+pub demanded-in-set_of : (c : Clause) (v : Version) → IsSome (demanded_text c) → In (set_of c) v
+demanded-in-set_of (arbitrary text) v h = (λ i. not (none-under_least v i) || false)
+demanded-in-set_of (compatible w) v h = cc h
+demanded-in-set_of (matching w) v h = cc h
+demanded-in-set_of (matching_prefix p) v h = cc h
+demanded-in-set_of (excluding w) v h = cc h
+demanded-in-set_of (excluding_prefix p) v h = cc h
+demanded-in-set_of (at_most w) v h = cc h
+demanded-in-set_of (at_least w) v h = cc h
+demanded-in-set_of (less_than w) v h = cc h
+demanded-in-set_of (greater_than w) v h = cc h
+
+-- they are a normal list
+pub IsNormal-set_of : (c : Clause) → IsValidClause c → IsNormal (set_of c)
+IsNormal-set_of (compatible w) h = compatible-normal w h.0.0 h.1
+IsNormal-set_of (matching w) h = matching-normal w h
+IsNormal-set_of (matching_prefix p) h = matching_prefix-normal p h
+IsNormal-set_of (excluding w) h = excluding-normal w h
+IsNormal-set_of (excluding_prefix p) h = excluding_prefix-normal p h
+IsNormal-set_of (at_most w) h = at_most-normal w h.0
+IsNormal-set_of (at_least w) h = at_least-normal w h.0
+IsNormal-set_of (less_than w) h = less_than_version-normal w h.0
+IsNormal-set_of (greater_than w) h = greater_than-normal w h.0
+IsNormal-set_of (arbitrary text) h = IsNormal-all_versions
+
+-- a stored clause is one that some text is read as
+pub stored-valid : (kind : Kind) → IsStored kind → IsValidClause (clause_of kind)
+stored-valid (stored.Compatible w) h = h
+stored-valid (stored.Matching w) h = h
+stored-valid (stored.MatchingPrefix w) h = h.0
+stored-valid (stored.Excluding w) h = h
+stored-valid (stored.ExcludingPrefix w) h = h.0
+stored-valid (stored.AtMost w) h = h
+stored-valid (stored.AtLeast w) h = h
+stored-valid (stored.LessThan w) h = h
+stored-valid (stored.GreaterThan w) h = h
+stored-valid (stored.Arbitrary text) h = h
+
+-- the same of a call's answer
+pub set_of-versions : (answer : Result (List Range) ClauseFault) (c : Clause) → IsValidClause c → IfOk answer (λ s. s ≡ set_of c)
+    → IfOk answer (λ s. (v : Version) → IsVersion v → demanded_text c ≡ None → is_in s v ≡ admits c v)
+set_of-versions (Ok s) c h e = λ v g none. (λ i. is_in (e i) v) ∙ is_in-set_of c h v g none
+set_of-versions (Err fault) c h e = e
+
+pub set_of-demanded : (answer : Result (List Range) ClauseFault) (c : Clause) → IfOk answer (λ s. s ≡ set_of c)
+    → IfOk answer (λ s. (v : Version) → IsSome (demanded_text c) → In s v)
+set_of-demanded (Ok s) c e = λ v h. subst (λ (list : List Range). In list v) (sym e) (demanded-in-set_of c v h)
+set_of-demanded (Err fault) c e = e
+
+pub set_of-normal : (answer : Result (List Range) ClauseFault) (c : Clause) → IsValidClause c → IfOk answer (λ s. s ≡ set_of c) → IfOk answer (λ s. IsNormal s)
+set_of-normal (Ok s) c h e = subst IsNormal (sym e) (IsNormal-set_of c h)
+set_of-normal (Err fault) c h e = e
+
+pub normal-inhabited : (answer : Result (List Range) ClauseFault) → IfOk answer (λ s. IsNormal s) → IfOk answer (λ s. HasVersionUnlessEmpty s)
+normal-inhabited (Ok s) n = normal-has_version s n
+normal-inhabited (Err fault) n = n
+
+-- a normal list is empty exactly if it holds no version
+pub empty-exactly : (ranges : List Range) (b : Bool) → IsNormal ranges → b ≡ (length ranges == 0)
+    → IsTrue b ↔ ((v : Version) → IsVersion v → ¬ In ranges v)
+empty-exactly [] b n e = (λ t v h inside. cc inside, λ none. e)
+empty-exactly (r ∷ rest) b n e =
+    let some : b ≡ false = e ∙ sym (is_empty-length (r ∷ rest)) in
+    let found = normal-has_version (r ∷ rest) n (λ none. cc none) in
+    (λ t. cc (t, some), λ none. absurd (none found.0 found.1 found.2))
+
+-- a prefix of a version is one
+pub IsVersion-prefix_of : (v : Version) → IsVersion v → IsVersion (final_version (prefix_of v))
+IsVersion-prefix_of v h = record {
+  release = h.release;
+  label = tt;
+  numbers = record { epoch = h.numbers.epoch; release = h.numbers.release; pre = tt; post = tt; dev = tt; label = tt };
+}
