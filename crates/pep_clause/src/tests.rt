@@ -170,7 +170,10 @@ fn reads_clauses(rt: HostRuntime) -> Result<(), Fail> {
         let clause = Clause::read(alloc, text)?;
         let written = clause.text(alloc)?;
         assert_eq!(rt; clause.op(), operator, "the operator of {text}");
-        assert_eq!(rt; written.as_str().strip_prefix(operator.text()), Some(behind));
+        assert_eq!(rt;
+            written.as_str().strip_prefix(operator.text()),
+            Some(behind)
+        );
         assert_eq!(rt; Clause::of(alloc, operator, behind)?.text(alloc)?, written);
     }
     assert_eq!(rt; Clause::read(alloc, "===FOO")?.exact_text(), Some("foo"));
