@@ -8,6 +8,7 @@ pub mod StrictPlaces
 pub mod ClauseRows
 mod SetLemmas
 pub mod ReadLemmas
+mod WrittenLemmas
 pub mod RangeRows
 pub mod PrefixPlace
 pub mod PrefixRows
