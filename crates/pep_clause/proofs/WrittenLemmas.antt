@@ -6,13 +6,13 @@ use Rattle.std.proofs.lemmas.List.Folds.{list_all-append}
 use Rattle.std.specs.Bool.{MatchBool}
 use Rattle.std.specs.Char.{is_ascii_uppercase, to_ascii_lowercase}
 use Rattle.std.specs.List.{ends_with, list_all}
-use Rattle.std.specs.Prelude.{IsTrue, nat_eq, nat_lt}
+use Rattle.std.specs.Prelude.{IsTrue, if◌then◌else◌, nat_eq, nat_lt}
 use Rattle.std.specs.Str.{str_to_ascii_lowercase}
 use Rattle.pep_version.specs.declared.fault.VersionFault.{VersionFault}
 use Rattle.pep_version.specs.SpelledLaws.{spelled-version}
 use Rattle.pep_version.specs.Spelling.{Reads, Spells, SpellsAny, is_white_space, trimmed, without_leading_space, without_trailing_space}
 use Rattle.pep_version.specs.Text.{epoch_text, is_text_byte, normal_text, release_text}
-use Rattle.pep_version.specs.Version.{IsVersion, Version, is_empty}
+use Rattle.pep_version.specs.Version.{IsVersion, Segment, Version, is_empty}
 use Rattle.pep_clause.specs.declared.fault.ClauseFault.{ClauseFault}
 use Rattle.pep_clause.specs.declared.fault.ClauseFault.TheVariants as fault
 use Rattle.pep_clause.specs.declared.op.Op.{Op}
@@ -56,3 +56,111 @@ one-clause text c d = found (operator_of (trimmed text))
     found : (o : Option Op) → ReadsClauseAs o (trimmed text) (Ok c) → ReadsClauseAs o (trimmed text) (Ok d) → c ≡ d
     found None h k = cc h
     found (Some o) h k = target-one o (trimmed (drop (length (operator_text o)) (trimmed text))) c d h k
+
+-- ---- what is read is a clause
+
+public-answer : (c : Clause) (label : List Segment) (answer : Result Clause ClauseFault)
+    → Ok c ≡ (if is_empty label then answer else Err fault.LocalNotAllowed) → (label ≡ []) × (Ok c ≡ answer)
+public-answer c [] answer h = (refl, h)
+public-answer c (s ∷ label) answer h = (cc h, cc h)
+
+version-valid : (o : Op) (v : Version) (c : Clause) → IsVersion v → Ok c ≡ version_clause o v → IsValidClause c
+version-valid op.Equal v c is h = let same : c ≡ matching v = cc h in subst IsValidClause (sym same) is
+version-valid op.NotEqual v c is h = let same : c ≡ excluding v = cc h in subst IsValidClause (sym same) is
+version-valid op.AtMost v c is h =
+    let both = public-answer c v.label (Ok (at_most v)) h in
+    let same : c ≡ at_most v = cc (both.1) in subst IsValidClause (sym same) (is, both.0)
+version-valid op.AtLeast v c is h =
+    let both = public-answer c v.label (Ok (at_least v)) h in
+    let same : c ≡ at_least v = cc (both.1) in subst IsValidClause (sym same) (is, both.0)
+version-valid op.Less v c is h =
+    let both = public-answer c v.label (Ok (less_than v)) h in
+    let same : c ≡ less_than v = cc (both.1) in subst IsValidClause (sym same) (is, both.0)
+version-valid op.More v c is h =
+    let both = public-answer c v.label (Ok (greater_than v)) h in
+    let same : c ≡ greater_than v = cc (both.1) in subst IsValidClause (sym same) (is, both.0)
+version-valid op.Compatible v c is h =
+    let both = public-answer c v.label _ h in numbers (nat_lt 1 (length v.release)) refl both.0 both.1
+  where
+    numbers : (b : Bool) → nat_lt 1 (length v.release) ≡ b → v.label ≡ [] → Ok c ≡ (if b then Ok (compatible v) else Err fault.OneNumber) → IsValidClause c
+    numbers true more bare e = let same : c ≡ compatible v = cc e in subst IsValidClause (sym same) ((is, bare), two (length v.release) more)
+      where
+        two : (n : ℕ) → nat_lt 1 n ≡ true → 1 < n
+        two n t = grind (arith, nat_tests)
+    numbers false more bare e = absurd (apart c e)
+      where
+        apart : (c : Clause) → Ok c ≡ Err fault.OneNumber → ⊥
+        apart c e = cc e
+version-valid op.Exact v c is h = absurd (apart c h)
+  where
+    apart : (c : Clause) → Ok c ≡ Err fault.BadVersion → ⊥
+    apart c e = cc e
+
+final-version : (v : Version) → IsVersion v → IsPrefix (prefix_of v)
+final-version v is = record {
+  release = is.release;
+  label = tt;
+  numbers = record { epoch = is.numbers.epoch; release = is.numbers.release; pre = tt; post = tt; dev = tt; label = tt };
+}
+
+star-apart : (c : Clause) → Ok c ≡ Err fault.StarNotAllowed → ⊥
+star-apart c e = cc e
+
+prefix-valid : (o : Op) (v : Version) (c : Clause) → IsVersion v → Ok c ≡ prefix_clause o (prefix_of v) → IsValidClause c
+prefix-valid op.Equal v c is h = let same : c ≡ matching_prefix (prefix_of v) = cc h in subst IsValidClause (sym same) (final-version v is)
+prefix-valid op.NotEqual v c is h = let same : c ≡ excluding_prefix (prefix_of v) = cc h in subst IsValidClause (sym same) (final-version v is)
+prefix-valid o v c is h = absurd (star-apart c h)
+
+read-valid : (o : Op) (x : List ℕ) (c : Clause) → ReadsThen x (version_answer o) (Ok c) → IsValidClause c
+read-valid o x c (Ok v, r, e) = version-valid o v c (spelled-version x v r.0) e
+read-valid o x c (Err g, r, e) = absurd (apart c (fault_of g) e)
+  where
+    apart : (c : Clause) (f : ClauseFault) → Ok c ≡ Err f → ⊥
+    apart c f e = cc e
+
+read-prefix-valid : (o : Op) (x : List ℕ) (c : Clause) → ReadsThen x (prefix_answer o) (Ok c) → IsValidClause c
+read-prefix-valid o x c (Ok v, r, e) = final (is_final v) e
+  where
+    final : (b : Bool) → Ok c ≡ (if b then prefix_clause o (prefix_of v) else Err fault.StarNotAllowed) → IsValidClause c
+    final true h = prefix-valid o v c (spelled-version x v r.0) h
+    final false h = absurd (star-apart c h)
+read-prefix-valid o x c (Err g, r, e) = absurd (apart c (fault_of g) e)
+  where
+    apart : (c : Clause) (f : ClauseFault) → Ok c ≡ Err f → ⊥
+    apart c f e = cc e
+
+bad-apart : (c : Clause) → Ok c ≡ Err fault.BadVersion → ⊥
+bad-apart c e = cc e
+
+answers-valid : (o : Op) (x : List ℕ) (c : Clause) → VersionAnswers o x (Ok c) → IsValidClause c
+answers-valid o x c = outer (ends_with nat_eq x (codes ".*"))
+  where
+    inner : (b : Bool) → MatchBool b (Ok c ≡ Err fault.BadVersion) (ReadsThen (take (length x - 2) x) (prefix_answer o) (Ok c)) → IsValidClause c
+    inner true h = absurd (bad-apart c h)
+    inner false h = read-prefix-valid o (take (length x - 2) x) c h
+
+    outer : (b : Bool) → MatchBool b (PrefixAnswers o (take (length x - 2) x) (Ok c)) (ReadsThen x (version_answer o) (Ok c)) → IsValidClause c
+    outer true h = inner (ends_in_space (take (length x - 2) x)) h
+    outer false h = read-valid o x c h
+
+demanded-valid : (x : List ℕ) (c : Clause) → Ok c ≡ arbitrary_of x → IsValidClause c
+demanded-valid x c h = tested (not (is_empty x) && list_all is_clause_byte x) refl h
+  where
+    tested : (b : Bool) → (not (is_empty x) && list_all is_clause_byte x) ≡ b → Ok c ≡ (if b then Ok (arbitrary (str_to_ascii_lowercase x)) else Err fault.BadVersion) → IsValidClause c
+    tested true t e = let same : c ≡ arbitrary (str_to_ascii_lowercase x) = cc e in subst IsValidClause (sym same) (lower-demanded x t)
+    tested false t e = absurd (bad-apart c e)
+
+target-valid : (o : Op) (x : List ℕ) (c : Clause) → TargetAnswers o x (Ok c) → IsValidClause c
+target-valid op.Exact x c h = demanded-valid x c h
+target-valid o x c h = answers-valid o x c h
+
+-- what a text is read as is a clause
+pub clause-valid : (text : List ℕ) (c : Clause) → IsClause text c → IsValidClause c
+clause-valid text c = found (operator_of (trimmed text))
+  where
+    found : (o : Option Op) → ReadsClauseAs o (trimmed text) (Ok c) → IsValidClause c
+    found None h = absurd (apart c h)
+      where
+        apart : (c : Clause) → Ok c ≡ Err fault.NoOperator → ⊥
+        apart c e = cc e
+    found (Some o) h = target-valid o (trimmed (drop (length (operator_text o)) (trimmed text))) c h
