@@ -1,5 +1,6 @@
 -- A text is read as one clause, which is read back from its own text.
 use Rattle.std.proofs.Common.{◌≡◌, ◌≢◌, ◌<◌, ◌&&◌, ◌||◌, ◌==◌, ◌-◌, ℕ, Bool, true, false, not, List, [], ◌∷◌, ◌++◌, Option, Some, None, Result, Ok, Err, length, map, take, drop, codes, refl, sym, ap, subst, ◌∙◌, inl, inr, append-nil, arith}
+use Rattle.std.proofs.Math.Seq.{drop-append_seam, take-append_seam}
 use Rattle.std.proofs.lemmas.Bool.{cases_Bool}
 use Rattle.std.proofs.lemmas.Bool.Decides.{nat_tests}
 use Rattle.std.proofs.lemmas.List.Folds.{list_all-append}
@@ -20,7 +21,7 @@ use Rattle.pep_clause.specs.declared.op.Op.TheVariants as op
 use Rattle.pep_clause.specs.Clause.{Clause, ClauseOf, IsClause, Prefix, PrefixAnswers, ReadsClauseAs, ReadsThen, TargetAnswers, VersionAnswers, compatible, matching, matching_prefix, excluding, excluding_prefix, at_most, at_least, less_than, greater_than, arbitrary, arbitrary_of, clause_text, ends_in_space, fault_of, is_clause_byte, is_demanded_text, is_final, operator_of, operator_text, prefix_answer, prefix_clause, prefix_of, prefix_text, version_answer, version_clause}
 use Rattle.pep_clause.specs.Cut.{final_version}
 use Rattle.pep_clause.specs.Valid.{IsPrefix, IsPublic, IsValidClause}
-use Rattle.pep_clause.proofs.ReadLemmas.{lower-demanded}
+use Rattle.pep_clause.proofs.ReadLemmas.{and-first, and-second, lower-demanded}
 
 -- ---- one clause
 
@@ -164,3 +165,73 @@ clause-valid text c = found (operator_of (trimmed text))
         apart : (c : Clause) → Ok c ≡ Err fault.NoOperator → ⊥
         apart c e = cc e
     found (Some o) h = target-valid o (trimmed (drop (length (operator_text o)) (trimmed text))) c h
+
+-- ---- what is written is read
+
+abbrev is_ink : ℕ → Bool
+is_ink b = not (is_white_space b)
+
+not-white : (w : Bool) → not w ≡ true → w ≡ false
+not-white true h = cc h
+not-white false h = refl
+
+ink-front : (xs : List ℕ) → list_all is_ink xs ≡ true → without_leading_space xs ≡ xs
+ink-front [] h = refl
+ink-front (x ∷ xs) h = rw (not-white (is_white_space x) (and-first (is_ink x) (list_all is_ink xs) h)) refl
+
+ink-end : (xs : List ℕ) → list_all is_ink xs ≡ true → without_trailing_space xs ≡ xs
+ink-end [] h = refl
+ink-end (x ∷ xs) h =
+    let more = ink-end xs (and-second (is_ink x) (list_all is_ink xs) h) in
+    rw (not-white (is_white_space x) (and-first (is_ink x) (list_all is_ink xs) h)) (ap (λ (l : List ℕ). x ∷ l) more)
+
+ink-trimmed : (xs : List ℕ) → list_all is_ink xs ≡ true → trimmed xs ≡ xs
+ink-trimmed xs h = ap without_trailing_space (ink-front xs h) ∙ ink-end xs h
+
+weaker : (p q : ℕ → Bool) → ((b : ℕ) → p b ≡ true → q b ≡ true) → (xs : List ℕ) → list_all p xs ≡ true → list_all q xs ≡ true
+weaker p q w [] h = refl
+weaker p q w (x ∷ xs) h = rw (w x (and-first (p x) (list_all p xs) h)) (weaker p q w xs (and-second (p x) (list_all p xs) h))
+
+clause-ink : (b : ℕ) → is_clause_byte b ≡ true → is_ink b ≡ true
+clause-ink b h = grind (arith, nat_tests)
+
+clause-not-equal : (b : ℕ) → is_clause_byte b ≡ true → (61 == b) ≡ false
+clause-not-equal b h = grind (arith, nat_tests)
+
+text-clause : (b : ℕ) → is_text_byte b ≡ true → is_clause_byte b ≡ true
+text-clause b h = grind (arith, nat_tests)
+
+operator-ink : (o : Op) → list_all is_ink (operator_text o) ≡ true
+operator-ink op.Compatible = refl
+operator-ink op.Equal = refl
+operator-ink op.NotEqual = refl
+operator-ink op.AtMost = refl
+operator-ink op.AtLeast = refl
+operator-ink op.Less = refl
+operator-ink op.More = refl
+operator-ink op.Exact = refl
+
+-- the operator that stands before such a text is found
+operator-found : (o : Op) (x : List ℕ) → list_all is_clause_byte x ≡ true → operator_of (operator_text o ++ x) ≡ Some o
+operator-found op.Compatible x h = refl
+operator-found op.Equal [] h = refl
+operator-found op.Equal (b ∷ x) h = let apart = clause-not-equal b (and-first (is_clause_byte b) (list_all is_clause_byte x) h) in rw apart refl
+operator-found op.NotEqual x h = refl
+operator-found op.AtMost x h = refl
+operator-found op.AtLeast x h = refl
+operator-found op.Less [] h = refl
+operator-found op.Less (b ∷ x) h = let apart = clause-not-equal b (and-first (is_clause_byte b) (list_all is_clause_byte x) h) in rw apart refl
+operator-found op.More [] h = refl
+operator-found op.More (b ∷ x) h = let apart = clause-not-equal b (and-first (is_clause_byte b) (list_all is_clause_byte x) h) in rw apart refl
+operator-found op.Exact x h = refl
+
+-- an operator and what is read behind it
+written : (o : Op) (x : List ℕ) (c : Clause) → list_all is_clause_byte x ≡ true → TargetAnswers o x (Ok c) → IsClause (operator_text o ++ x) c
+written o x c bytes h =
+    let ink = weaker is_clause_byte is_ink clause-ink x bytes in
+    let whole : trimmed (operator_text o ++ x) ≡ operator_text o ++ x = ink-trimmed (operator_text o ++ x) (rw (list_all-append is_ink (operator_text o) x, operator-ink o) ink) in
+    let behind : trimmed (drop (length (operator_text o)) (operator_text o ++ x)) ≡ x = ap trimmed (drop-append_seam (operator_text o) x) ∙ ink-trimmed x ink in
+    let target : ClauseOf o (drop (length (operator_text o)) (operator_text o ++ x)) (Ok c) = subst (λ t. TargetAnswers o t (Ok c)) (sym behind) h in
+    let found : ReadsClauseAs (operator_of (operator_text o ++ x)) (operator_text o ++ x) (Ok c) =
+        subst (λ r. ReadsClauseAs r (operator_text o ++ x) (Ok c)) (sym (operator-found o x bytes)) target in
+    subst (λ t. ReadsClauseAs (operator_of t) t (Ok c)) (sym whole) found
