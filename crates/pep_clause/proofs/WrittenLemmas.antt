@@ -1,18 +1,19 @@
 -- A text is read as one clause, which is read back from its own text.
-use Rattle.std.proofs.Common.{◌≡◌, ◌≢◌, ◌<◌, ◌&&◌, ◌||◌, ◌==◌, ◌-◌, ℕ, Bool, true, false, not, List, [], ◌∷◌, ◌++◌, Option, Some, None, Result, Ok, Err, length, map, take, drop, codes, refl, sym, ap, subst, ◌∙◌, inl, inr, append-nil, arith}
+use Rattle.std.proofs.Common.{◌≡◌, ◌<◌, ◌&&◌, ◌==◌, ◌-◌, ℕ, Bool, true, false, not, List, [], ◌∷◌, ◌++◌, Option, Some, None, Result, Ok, Err, length, take, drop, codes, refl, sym, ap, subst, ◌∙◌, append-nil, length-append, arith}
 use Rattle.std.proofs.Math.Seq.{drop-append_seam, take-append_seam}
-use Rattle.std.proofs.lemmas.Bool.{cases_Bool}
 use Rattle.std.proofs.lemmas.Bool.Decides.{nat_tests}
 use Rattle.std.proofs.lemmas.List.Folds.{list_all-append}
+use Rattle.std.proofs.lemmas.List.{take-append-drop}
 use Rattle.std.specs.Bool.{MatchBool}
+use Rattle.std.specs.Cmp.Lexicographic.{pointwise}
 use Rattle.std.specs.Char.{is_ascii_uppercase, to_ascii_lowercase}
 use Rattle.std.specs.List.{ends_with, list_all}
-use Rattle.std.specs.Prelude.{IsTrue, if◌then◌else◌, nat_eq, nat_lt}
+use Rattle.std.specs.Prelude.{if◌then◌else◌, nat_eq, nat_lt}
 use Rattle.std.specs.Str.{str_to_ascii_lowercase}
 use Rattle.pep_version.specs.declared.fault.VersionFault.{VersionFault}
 use Rattle.pep_version.specs.SpelledLaws.{spelled-version}
-use Rattle.pep_version.specs.Spelling.{Reads, Spells, SpellsAny, is_white_space, trimmed, without_leading_space, without_trailing_space}
-use Rattle.pep_version.specs.Text.{epoch_text, is_text_byte, normal_text, release_text}
+use Rattle.pep_version.specs.Spelling.{Reads, is_white_space, trimmed, without_leading_space, without_trailing_space}
+use Rattle.pep_version.specs.Text.{is_text_byte, normal_text}
 use Rattle.pep_version.specs.Version.{IsVersion, Segment, Version, is_empty}
 use Rattle.pep_clause.specs.declared.fault.ClauseFault.{ClauseFault}
 use Rattle.pep_clause.specs.declared.fault.ClauseFault.TheVariants as fault
@@ -20,7 +21,7 @@ use Rattle.pep_clause.specs.declared.op.Op.{Op}
 use Rattle.pep_clause.specs.declared.op.Op.TheVariants as op
 use Rattle.pep_clause.specs.Clause.{Clause, ClauseOf, IsClause, Prefix, PrefixAnswers, ReadsClauseAs, ReadsThen, TargetAnswers, VersionAnswers, compatible, matching, matching_prefix, excluding, excluding_prefix, at_most, at_least, less_than, greater_than, arbitrary, arbitrary_of, clause_text, ends_in_space, fault_of, is_clause_byte, is_demanded_text, is_final, operator_of, operator_text, prefix_answer, prefix_clause, prefix_of, prefix_text, version_answer, version_clause}
 use Rattle.pep_clause.specs.Cut.{final_version}
-use Rattle.pep_clause.specs.Valid.{IsPrefix, IsPublic, IsValidClause}
+use Rattle.pep_clause.specs.Valid.{IsPrefix, IsValidClause}
 use Rattle.pep_clause.proofs.ReadLemmas.{and-first, and-second, lower-demanded}
 
 -- ---- one clause
@@ -35,8 +36,6 @@ reads-one x next errs c d other (Err g, s, f) = cc (errs g)
 version-one : (o : Op) (x : List ℕ) (c d : Clause) → VersionAnswers o x (Ok c) → VersionAnswers o x (Ok d) → c ≡ d
 version-one o x c d = outer (ends_with nat_eq x (codes ".*"))
   where
-
-
     inner : (b : Bool) → MatchBool b (Ok c ≡ Err fault.BadVersion) (ReadsThen (take (length x - 2) x) (prefix_answer o) (Ok c))
         → MatchBool b (Ok d ≡ Err fault.BadVersion) (ReadsThen (take (length x - 2) x) (prefix_answer o) (Ok d)) → c ≡ d
     inner true h k = cc h
@@ -233,5 +232,137 @@ written o x c bytes h =
     let behind : trimmed (drop (length (operator_text o)) (operator_text o ++ x)) ≡ x = ap trimmed (drop-append_seam (operator_text o) x) ∙ ink-trimmed x ink in
     let target : ClauseOf o (drop (length (operator_text o)) (operator_text o ++ x)) (Ok c) = subst (λ t. TargetAnswers o t (Ok c)) (sym behind) h in
     let found : ReadsClauseAs (operator_of (operator_text o ++ x)) (operator_text o ++ x) (Ok c) =
-        subst (λ r. ReadsClauseAs r (operator_text o ++ x) (Ok c)) (sym (operator-found o x bytes)) target in
+    subst (λ r. ReadsClauseAs r (operator_text o ++ x) (Ok c)) (sym (operator-found o x bytes)) target in
     subst (λ t. ReadsClauseAs (operator_of t) t (Ok c)) (sym whole) found
+
+-- a text without `*` does not end in `.*`
+text-no-star : (b : ℕ) → is_text_byte b ≡ true → (42 == b) ≡ false
+text-no-star b h = grind (arith, nat_tests)
+
+and-false : (a : Bool) → (a && false) ≡ false
+and-false true = refl
+and-false false = refl
+
+all-drop : (p : ℕ → Bool) (xs : List ℕ) (n : ℕ) → list_all p xs ≡ true → list_all p (drop n xs) ≡ true
+all-drop p xs n h =
+    let both : (list_all p (take n xs) && list_all p (drop n xs)) ≡ true = sym (list_all-append p (take n xs) (drop n xs)) ∙ ap (list_all p) (take-append-drop n xs) ∙ h in
+    and-second (list_all p (take n xs)) (list_all p (drop n xs)) both
+
+no-star : (xs : List ℕ) → list_all is_text_byte xs ≡ true → ends_with nat_eq xs (codes ".*") ≡ false
+no-star xs h = last (drop (length xs - 2) xs) (all-drop is_text_byte xs (length xs - 2) h)
+  where
+    last : (ys : List ℕ) → list_all is_text_byte ys ≡ true → pointwise nat_eq (codes ".*") ys ≡ false
+    last [] h = refl
+    last (a ∷ []) h = and-false (46 == a)
+    last (a ∷ b ∷ ys) h =
+        let byte = and-first (is_text_byte b) (list_all is_text_byte ys) (and-second (is_text_byte a) (list_all is_text_byte (b ∷ ys)) h) in
+        let apart = text-no-star b byte in
+        rw apart (and-false (46 == a))
+
+-- a text and `.*`
+star-length : (n : List ℕ) → length (n ++ codes ".*") - 2 ≡ length n
+star-length n = omega (arith, length-append {A = ℕ})
+
+star-end : (n : List ℕ) → ends_with nat_eq (n ++ codes ".*") (codes ".*") ≡ true
+star-end n =
+    let last : drop (length (n ++ codes ".*") - 2) (n ++ codes ".*") ≡ codes ".*" = ap (λ k. drop k (n ++ codes ".*")) (star-length n) ∙ drop-append_seam n (codes ".*") in
+    ap (pointwise nat_eq (codes ".*")) last
+
+star-front : (n : List ℕ) → take (length (n ++ codes ".*") - 2) (n ++ codes ".*") ≡ n
+star-front n = ap (λ k. take k (n ++ codes ".*")) (star-length n) ∙ take-append_seam n (codes ".*")
+
+ink-ends : (n : List ℕ) → list_all is_ink n ≡ true → ends_in_space n ≡ false
+ink-ends n h = ap (λ (t : List ℕ). not (length t == length n)) (ink-end n h) ∙ same (length n)
+  where
+    same : (k : ℕ) → not (k == k) ≡ false
+    same k = grind (arith, nat_tests)
+
+-- the normal text of a version behind an operator
+version-written : (o : Op) (v : Version) (c : Clause) → list_all is_text_byte (normal_text v) ≡ true → Reads (normal_text v) (Ok v)
+    → Ok c ≡ version_clause o v → VersionAnswers o (normal_text v) (Ok c)
+version-written o v c bytes reads gives = rw (no-star (normal_text v) bytes) (Ok v, reads, gives)
+
+-- the same with `.*` behind it
+prefix-written : (o : Op) (v : Version) (c : Clause) → list_all is_text_byte (normal_text v) ≡ true → Reads (normal_text v) (Ok v)
+    → Ok c ≡ prefix_answer o (Ok v) → VersionAnswers o (normal_text v ++ codes ".*") (Ok c)
+prefix-written o v c bytes reads gives =
+    let ink = weaker is_text_byte is_ink (λ b h. clause-ink b (text-clause b h)) (normal_text v) bytes in
+    rw (star-end (normal_text v), star-front (normal_text v), ink-ends (normal_text v) ink) (Ok v, reads, gives)
+
+prefix-shape : (p : Prefix) → prefix_text p ≡ normal_text (final_version p) ++ codes ".*"
+prefix-shape p = simp append-nil
+
+-- the text of `===` is kept
+kept-byte : (b : ℕ) → is_ascii_uppercase b ≡ false → to_ascii_lowercase b ≡ b
+kept-byte b h = grind arith
+
+demanded-lower : (xs : List ℕ) → list_all (λ b. is_clause_byte b && not (is_ascii_uppercase b)) xs ≡ true → str_to_ascii_lowercase xs ≡ xs
+demanded-lower [] h = refl
+demanded-lower (b ∷ xs) h =
+    let byte : (is_clause_byte b && not (is_ascii_uppercase b)) ≡ true = and-first _ (list_all (λ b. is_clause_byte b && not (is_ascii_uppercase b)) xs) h in
+    let small = kept-byte b (not-white (is_ascii_uppercase b) (and-second (is_clause_byte b) (not (is_ascii_uppercase b)) byte)) in
+    let more = demanded-lower xs (and-second (is_clause_byte b && not (is_ascii_uppercase b)) (list_all (λ b. is_clause_byte b && not (is_ascii_uppercase b)) xs) h) in
+    λ i. small i ∷ more i
+
+demanded-bytes : (xs : List ℕ) → list_all (λ b. is_clause_byte b && not (is_ascii_uppercase b)) xs ≡ true → list_all is_clause_byte xs ≡ true
+demanded-bytes = weaker (λ b. is_clause_byte b && not (is_ascii_uppercase b)) is_clause_byte (λ b h. and-first (is_clause_byte b) (not (is_ascii_uppercase b)) h)
+
+demanded-written : (xs : List ℕ) → is_demanded_text xs ≡ true → Ok (arbitrary xs) ≡ arbitrary_of xs
+demanded-written xs h =
+    let some = and-first (not (is_empty xs)) (list_all (λ b. is_clause_byte b && not (is_ascii_uppercase b)) xs) h in
+    let small = and-second (not (is_empty xs)) (list_all (λ b. is_clause_byte b && not (is_ascii_uppercase b)) xs) h in
+    let bytes = demanded-bytes xs small in
+    rw (some, bytes) (ap (λ (t : List ℕ). Ok (arbitrary t)) (sym (demanded-lower xs small)))
+
+-- the clause of an operator and a version that has no label
+public-gives : (label : List Segment) (answer : Result Clause ClauseFault) → label ≡ [] → answer ≡ (if is_empty label then answer else Err fault.LocalNotAllowed)
+public-gives [] answer h = refl
+public-gives (s ∷ label) answer h = cc h
+
+two-numbers : (v : Version) → 1 < length v.release → v.label ≡ [] → Ok (compatible v) ≡ version_clause op.Compatible v
+two-numbers v more bare = numbers (length v.release) more ∙ public-gives v.label _ bare
+  where
+    numbers : (n : ℕ) → 1 < n → Ok (compatible v) ≡ (if nat_lt 1 n then Ok (compatible v) else Err fault.OneNumber)
+    numbers n h = let two : nat_lt 1 n ≡ true = grind (arith, nat_tests) in rw two refl
+
+-- the two laws of versions that this rests on: a version's normal text is read as it, and has the bytes that it has
+abbrev pub ReadsBack : Type 0
+ReadsBack = (v : Version) → IsVersion v → Reads (normal_text v) (Ok v)
+
+abbrev pub HasTextBytes : Type 0
+HasTextBytes = (v : Version) → IsVersion v → list_all is_text_byte (normal_text v) ≡ true
+
+normal-written : ReadsBack → HasTextBytes → (o : Op) (v : Version) (c : Clause) → IsVersion v → (VersionAnswers o (normal_text v) (Ok c) → TargetAnswers o (normal_text v) (Ok c))
+    → Ok c ≡ version_clause o v → IsClause (operator_text o ++ normal_text v) c
+normal-written back has o v c is target gives =
+    let bytes = has v is in
+    written o (normal_text v) c (weaker is_text_byte is_clause_byte text-clause (normal_text v) bytes) (target (version-written o v c bytes (back v is) gives))
+
+star-written : ReadsBack → HasTextBytes → (o : Op) (p : Prefix) (c : Clause) → IsPrefix p
+    → (VersionAnswers o (normal_text (final_version p) ++ codes ".*") (Ok c) → TargetAnswers o (normal_text (final_version p) ++ codes ".*") (Ok c))
+    → Ok c ≡ prefix_clause o p → IsClause (operator_text o ++ prefix_text p) c
+star-written back has o p c is target gives =
+    let v = final_version p in
+    let bytes = has v is in
+    let clause_bytes : list_all is_clause_byte (normal_text v ++ codes ".*") ≡ true =
+    rw (list_all-append is_clause_byte (normal_text v) (codes ".*"), weaker is_text_byte is_clause_byte text-clause (normal_text v) bytes) refl in
+    let read = written o (normal_text v ++ codes ".*") c clause_bytes (target (prefix-written o v c bytes (back v is) gives)) in
+    subst (λ t. IsClause (operator_text o ++ t) c) (sym (prefix-shape p)) read
+
+-- a clause is read back from its own text
+pub valid-written : ReadsBack → HasTextBytes → (c : Clause) → IsValidClause c → IsClause (clause_text c) c
+valid-written back has (compatible v) is = normal-written back has op.Compatible v (compatible v) is.0.0 (λ h. h) (two-numbers v is.1 is.0.1)
+valid-written back has (matching v) is = normal-written back has op.Equal v (matching v) is (λ h. h) refl
+valid-written back has (matching_prefix p) is = star-written back has op.Equal p (matching_prefix p) is (λ h. h) refl
+valid-written back has (excluding v) is = normal-written back has op.NotEqual v (excluding v) is (λ h. h) refl
+valid-written back has (excluding_prefix p) is = star-written back has op.NotEqual p (excluding_prefix p) is (λ h. h) refl
+valid-written back has (at_most v) is = normal-written back has op.AtMost v (at_most v) is.0 (λ h. h) (public-gives v.label _ is.1)
+valid-written back has (at_least v) is = normal-written back has op.AtLeast v (at_least v) is.0 (λ h. h) (public-gives v.label _ is.1)
+valid-written back has (less_than v) is = normal-written back has op.Less v (less_than v) is.0 (λ h. h) (public-gives v.label _ is.1)
+valid-written back has (greater_than v) is = normal-written back has op.More v (greater_than v) is.0 (λ h. h) (public-gives v.label _ is.1)
+valid-written back has (arbitrary text) is =
+    written op.Exact text (arbitrary text) (demanded-bytes text (and-second (not (is_empty text)) (list_all (λ b. is_clause_byte b && not (is_ascii_uppercase b)) text) is)) (demanded-written text is)
+
+-- what some text is read as is read back from its own text
+pub clause-written : ReadsBack → HasTextBytes → (text : List ℕ) (c : Clause) → IsClause text c → IsClause (clause_text c) c
+clause-written back has text c h = valid-written back has c (clause-valid text c h)

@@ -149,6 +149,8 @@ fn has_an_operator(rt: HostRuntime) -> Result<(), Fail> {
         assert!(rt; range.copied(alloc)?.low() < range.high());
     }
     one_list();
+    one_clause();
+    clause_text_is_read();
     Ok(())
 }
 
