@@ -1,4 +1,4 @@
-// Laws of version sets, as contracts.
+// Laws of clauses and of version sets, as contracts.
 
 ghost use Rattle.std.specs.Prelude.{◌≡◌, ℕ, List};
 ghost use Rattle.pep_clause.specs.Clause.{Clause, IsClause, clause_text};
