@@ -7,6 +7,7 @@ pub mod PlaceCuts
 pub mod StrictPlaces
 pub mod ClauseRows
 pub mod ReadLemmas
+mod WrittenLemmas
 pub mod RangeRows
 pub mod PrefixPlace
 pub mod PrefixRows

@@ -1,5 +1,5 @@
 -- Reading a clause: what the answers of its steps say of the text, and what is read is a clause.
-use Rattle.std.proofs.Common.{◌≡◌, ◌≢◌, ◌<◌, ◌≤◌, ◌&&◌, ◌||◌, ◌==◌, ◌-◌, ◌+◌, ℕ, Bool, true, false, not, List, [], ◌∷◌, ◌++◌, Bor, Option, Some, None, Result, Ok, Err, length, map, take, drop, refl, sym, ap, subst, ◌∙◌, inl, inr, arith}
+use Rattle.std.proofs.Common.{◌≡◌, ◌≢◌, ◌&&◌, ◌||◌, ◌-◌, ◌+◌, ℕ, Bool, true, false, not, List, [], ◌∷◌, ◌++◌, Some, None, Result, Ok, Err, length, take, drop, refl, sym, ap, subst, inl, inr, arith}
 use denote.Enum.Bare.{sameb}
 use Rattle.std.proofs.lemmas.Bool.{cases_Bool}
 use Rattle.std.proofs.lemmas.Str.{IsCharBoundary-after_ascii}
@@ -7,13 +7,12 @@ use Rattle.std.proofs.lemmas.Str.Pattern.{ends_text}
 use Rattle.std.specs.Char.{is_ascii_uppercase, to_ascii_lowercase}
 use Rattle.std.specs.Int.{is_in_range}
 use Rattle.std.specs.List.{ends_with, list_all}
-use Rattle.std.specs.Option.{MatchOption}
 use Rattle.std.specs.Prelude.{codes, nat_eq}
 use Rattle.std.specs.Result.{IsErr, IsErrAnd}
 use Rattle.std.specs.Str.{IsCharBoundary, IsUtf8, str_to_ascii_lowercase}
 use Rattle.std.specs.Str.Pattern.{FindsTextSuffix, StripsSuffix}
 use Rattle.pep_version.specs.declared.fault.VersionFault.{VersionFault}
-use Rattle.pep_version.specs.Spelling.{Reads, is_white_space, without_trailing_space}
+use Rattle.pep_version.specs.Spelling.{Reads}
 use Rattle.pep_version.specs.Version.{Version, is_empty}
 use Rattle.pep_clause.specs.contracts.op.Op.{the_type}
 use Rattle.pep_clause.specs.declared.fault.ClauseFault.{ClauseFault}
@@ -23,11 +22,11 @@ use Rattle.pep_clause.specs.declared.op.Op.TheVariants as op
 use Rattle.pep_clause.specs.Clause.{Clause, TargetAnswers, VersionAnswers, ends_in_space, is_clause_byte, is_demanded_text, operator_of, operator_text, prefix_answer, version_answer}
 use Rattle.pep_clause.specs.OperatorLaws.{operator_shape}
 
-and-first : (a b : Bool) → (a && b) ≡ true → a ≡ true
+pub and-first : (a b : Bool) → (a && b) ≡ true → a ≡ true
 and-first true b h = refl
 and-first false b h = h
 
-and-second : (a b : Bool) → (a && b) ≡ true → b ≡ true
+pub and-second : (a b : Bool) → (a && b) ≡ true → b ≡ true
 and-second true b h = h
 and-second false b h = cc h
 
@@ -56,6 +55,7 @@ lower-byte b h = elim (cases_Bool (is_ascii_uppercase b)) [
   where
     lowered : (b : ℕ) → is_ascii_uppercase b ≡ true → is_clause_byte (b + 32) ≡ true
     lowered b upper = rw (lowercase b upper, or-true (is_in_range 48 57 (b + 32) || is_in_range 65 90 (b + 32))) refl
+
     lowered-not : (b : ℕ) → is_ascii_uppercase b ≡ true → is_ascii_uppercase (b + 32) ≡ false
     lowered-not b upper = grind arith
 
@@ -83,9 +83,6 @@ target-any o text (Err fault.NumberTooLarge) other h = h
 target-any o text (Err fault.NoMemory) other h = tt
 
 -- what `strip_suffix(".*")` says
-abbrev pub IsStripped : List ℕ → Option (Bor (List ℕ)) → Type 0
-IsStripped text r = MatchOption r (FindsTextSuffix (codes ".*") text None) (λ x. StripsSuffix (FindsTextSuffix (codes ".*")) text x.now)
-
 star : (text front : List ℕ) → StripsSuffix (FindsTextSuffix (codes ".*")) text front → (ends_with nat_eq text (codes ".*") ≡ true) × (front ≡ take (length text - 2) text)
 star text front (n, found, cut, len) =
     let two : n ≡ 2 = found.0 in
@@ -94,35 +91,13 @@ star text front (n, found, cut, len) =
 no-star : (text : List ℕ) → FindsTextSuffix (codes ".*") text None → ends_with nat_eq text (codes ".*") ≡ false
 no-star text none = sym (ends_text false (codes ".*") text none)
 
--- what stands before `.*` ends in white space
-pub space-target : (o : Op) (text front cut : List ℕ) → o ≢ op.Exact → StripsSuffix (FindsTextSuffix (codes ".*")) text front
-    → cut ≡ without_trailing_space front → length cut < length front → TargetAnswers o text (Err fault.BadVersion)
-space-target o text front cut other stripped is short =
-    let found = star text front stripped in
-    let spaced : ends_in_space front ≡ true = rw (← is) (shorter (length cut) (length front) short) in
-    target-any o text (Err fault.BadVersion) other (rw (found.0, ← found.1, spaced) refl)
-  where
-    shorter : (m n : ℕ) → m < n → not (m == n) ≡ true
-    shorter m n h = grind arith
-
-trailing-shorter : (xs : List ℕ) → length (without_trailing_space xs) ≤ length xs
-trailing-shorter [] = omega arith
-trailing-shorter (b ∷ rest) = elim (cases_Bool (is_white_space b && is_empty (without_trailing_space rest))) [
-  | inl white ↦ rw white (omega arith)
-  | inr other ↦ rw other (omega (arith, trailing-shorter rest))
-]
-
 -- what stands before `.*` is read as a version
-pub prefix-target : (o : Op) (text front cut : List ℕ) (read : Result Version VersionFault) (answer : Result Clause ClauseFault) → o ≢ op.Exact
-    → StripsSuffix (FindsTextSuffix (codes ".*")) text front → cut ≡ without_trailing_space front → length front ≤ length cut
+pub prefix-target : (o : Op) (text front : List ℕ) (read : Result Version VersionFault) (answer : Result Clause ClauseFault) → o ≢ op.Exact
+    → StripsSuffix (FindsTextSuffix (codes ".*")) text front → ends_in_space front ≡ false
     → Reads front read → answer ≡ prefix_answer o read → TargetAnswers o text answer
-prefix-target o text front cut read answer other stripped is long reads gives =
+prefix-target o text front read answer other stripped plain reads gives =
     let found = star text front stripped in
-    let plain : ends_in_space front ≡ false = rw (← is) (same (length cut) (length front) (rw is (trailing-shorter front)) long) in
     target-any o text answer other (rw (found.0, ← found.1, plain) (read, reads, gives))
-  where
-    same : (m n : ℕ) → m ≤ n → n ≤ m → not (m == n) ≡ false
-    same m n h k = grind arith
 
 -- the text is read as a version
 pub version-target : (o : Op) (text : List ℕ) (read : Result Version VersionFault) (answer : Result Clause ClauseFault) → o ≢ op.Exact

@@ -1,6 +1,5 @@
 -- What a contract sees of a stored clause. A prefix is kept as the version that is its epoch and release.
-use Rattle.std.specs.Prelude.{◌≡◌, IsTrue, string_bytes}
-use Rattle.pep_version.specs.Version.{Version}
+use Rattle.std.specs.Prelude.{IsTrue, string_bytes}
 use Rattle.pep_clause.specs.Clause.{Clause, compatible, matching, matching_prefix, excluding, excluding_prefix, at_most, at_least, less_than, greater_than, arbitrary, is_final, prefix_of}
 use Rattle.pep_clause.specs.Valid.{IsValidClause}
 use Rattle.pep_clause.specs.declared.clause.Kind.{Kind}

@@ -3,7 +3,7 @@
 ghost use Rattle.std.specs.Prelude.{◌≡◌, [], IfErr, IfOk};
 ghost use Rattle.pep_version.specs.Order.{is_below, is_same, public_version, version_cmp};
 ghost use Rattle.pep_clause.specs.Admits.{admits, begins_padded, has_prefix, is_post_release_of, is_pre_release_of, matches};
-ghost use Rattle.pep_clause.specs.Clause.{compatible, greater_than, less_than};
+ghost use Rattle.pep_clause.specs.Clause.{at_least, at_most, compatible, greater_than, less_than, prefix_of};
 
 use crate::clause::{Clause, Kind};
 use crate::fault::ClauseFault;
@@ -56,11 +56,7 @@ fn is_same(alloc: Global, version: &Version, other: &Version) -> Result<bool, Cl
 }
 
 // Whether the version is a pre-release of the other (PEP 440, "Exclusive ordered comparison").
-fn is_pre_release_of(
-    alloc: Global,
-    version: &Version,
-    other: &Version,
-) -> Result<bool, ClauseFault>
+fn is_pre_release_of(alloc: Global, version: &Version, other: &Version) -> Result<bool, ClauseFault>
     ensures is { IfOk result (λ b. b ≡ is_pre_release_of version.now other.now) }
     ensures faults { IfErr result (λ e. e ≡ ClauseFault.NoMemory) }
 {
@@ -122,6 +118,29 @@ fn matches(alloc: Global, wanted: &Version, version: &Version) -> Result<bool, C
     is_same(alloc, &public_version(alloc, version)?, wanted)
 }
 
+// `==` and `.*` (PEP 440, "Version matching").
+fn matches_prefix(prefix: &Version, version: &Version) -> bool
+    ensures { result ≡ has_prefix (prefix_of prefix.now) version.now }
+{
+    has_prefix(prefix.epoch(), prefix.release(), version)
+}
+
+// `<=` (PEP 440, "Inclusive ordered comparison").
+fn is_at_most(alloc: Global, wanted: &Version, version: &Version) -> Result<bool, ClauseFault>
+    ensures is { IfOk result (λ b. b ≡ admits (at_most wanted.now) version.now) }
+    ensures faults { IfErr result (λ e. e ≡ ClauseFault.NoMemory) }
+{
+    Ok(!is_below(alloc, wanted, &public_version(alloc, version)?)?)
+}
+
+// `>=` (PEP 440, "Inclusive ordered comparison").
+fn is_at_least(alloc: Global, wanted: &Version, version: &Version) -> Result<bool, ClauseFault>
+    ensures is { IfOk result (λ b. b ≡ admits (at_least wanted.now) version.now) }
+    ensures faults { IfErr result (λ e. e ≡ ClauseFault.NoMemory) }
+{
+    Ok(!is_below(alloc, &public_version(alloc, version)?, wanted)?)
+}
+
 // `~=` (PEP 440, "Compatible release").
 fn is_compatible(alloc: Global, wanted: &Version, version: &Version) -> Result<bool, ClauseFault>
     ensures is { IfOk result (λ b. b ≡ admits (compatible wanted.now) version.now) }
@@ -130,8 +149,7 @@ fn is_compatible(alloc: Global, wanted: &Version, version: &Version) -> Result<b
     let [numbers @ .., _] = wanted.release() else {
         unreachable!();
     };
-    let is_above = !is_below(alloc, &public_version(alloc, version)?, wanted)?;
-    Ok(is_above && has_prefix(wanted.epoch(), numbers, version))
+    Ok(is_at_least(alloc, wanted, version)? && has_prefix(wanted.epoch(), numbers, version))
 }
 
 // `<` (PEP 440, "Exclusive ordered comparison").
@@ -169,11 +187,11 @@ impl Clause {
         match self.kind() {
             Kind::Compatible(wanted) => is_compatible(alloc, wanted, version),
             Kind::Matching(wanted) => matches(alloc, wanted, version),
-            Kind::MatchingPrefix(prefix) => Ok(has_prefix(prefix.epoch(), prefix.release(), version)),
+            Kind::MatchingPrefix(prefix) => Ok(matches_prefix(prefix, version)),
             Kind::Excluding(wanted) => Ok(!matches(alloc, wanted, version)?),
-            Kind::ExcludingPrefix(prefix) => Ok(!has_prefix(prefix.epoch(), prefix.release(), version)),
-            Kind::AtMost(wanted) => Ok(!is_below(alloc, wanted, &public_version(alloc, version)?)?),
-            Kind::AtLeast(wanted) => Ok(!is_below(alloc, &public_version(alloc, version)?, wanted)?),
+            Kind::ExcludingPrefix(prefix) => Ok(!matches_prefix(prefix, version)),
+            Kind::AtMost(wanted) => is_at_most(alloc, wanted, version),
+            Kind::AtLeast(wanted) => is_at_least(alloc, wanted, version),
             Kind::LessThan(wanted) => is_less(alloc, wanted, version),
             Kind::GreaterThan(wanted) => is_greater(alloc, wanted, version),
             Kind::Arbitrary(text) => Ok(version.text(alloc)?.as_str() == text.as_str()),

@@ -20,7 +20,7 @@ mod tests;
 pub use crate::clause::Clause;
 pub use crate::cut::Cut;
 pub use crate::fault::ClauseFault;
-pub use crate::laws::one_list;
+pub use crate::laws::{clause_text_is_read, one_clause, one_list};
 pub use crate::op::Op;
 pub use crate::range::Range;
 pub use crate::set::VersionSet;

@@ -3,7 +3,7 @@
 ghost use Rattle.std.specs.Prelude.{◌≡◌, ◌&&◌, not, Ok};
 ghost use Rattle.std.specs.List.{list_all};
 ghost use Rattle.pep_version.specs.Version.{IsVersion, is_empty};
-ghost use Rattle.pep_clause.specs.Clause.{TargetAnswers, is_clause_byte, is_final, prefix_answer, version_answer};
+ghost use Rattle.pep_clause.specs.Clause.{TargetAnswers, ends_in_space, is_clause_byte, is_final, prefix_answer, version_answer};
 
 use crate::clause::{Clause, Kind};
 use crate::fault::ClauseFault;
@@ -28,6 +28,13 @@ fn is_clause_text(text: &[u8]) -> bool
     ensures { result ≡ (not (is_empty text.now) && list_all is_clause_byte text.now) }
 {
     !text.is_empty() && has_clause_bytes(text)
+}
+
+// Whether white space ends the text.
+fn ends_in_space(text: &str) -> bool
+    ensures { result ≡ ends_in_space text.now }
+{
+    without_trailing_space(text).len() != text.len()
 }
 
 // Whether the version is an epoch and a release, and nothing more.
@@ -93,7 +100,7 @@ fn operand_clause(alloc: Global, operator: Op, text: &str) -> Result<Clause, Cla
         return arbitrary_clause(alloc, text);
     }
     match text.strip_suffix(".*") {
-        Some(front) if without_trailing_space(front).len() < front.len() => Err(ClauseFault::BadVersion),
+        Some(front) if ends_in_space(front) => Err(ClauseFault::BadVersion),
         Some(front) => prefix_clause(operator, Version::read(alloc, front)?),
         None => version_clause(operator, Version::read(alloc, text)?),
     }

@@ -1,5 +1,5 @@
 -- The normal text of a version is a spelling of it.
-use Rattle.std.proofs.Common.{◌≡◌, ◌<◌, ◌==◌, ◌&&◌, ℕ, Bool, true, false, List, [], ◌∷◌, ◌++◌, length, map, not, Option, Some, None, codes, decimal, inl, inr, append-nil, append_assoc, suc, zero, refl, sym, ap, ◌∙◌, arith}
+use Rattle.std.proofs.Common.{◌≡◌, ◌<◌, ◌==◌, ◌&&◌, ℕ, Bool, true, false, List, [], ◌∷◌, ◌++◌, length, map, Option, Some, None, codes, decimal, inl, inr, append-nil, append_assoc, suc, zero, refl, sym, ap, ◌∙◌, arith}
 use Rattle.std.proofs.lemmas.Bool.{cases_Bool}
 use Rattle.std.proofs.lemmas.Bool.Decides.{nat_tests}
 use Rattle.std.proofs.lemmas.Fmt.{decimal_is_IsNumeral}
@@ -14,7 +14,7 @@ use Rattle.std.specs.Str.Parse.{AllDigits, digits_value}
 use Rattle.pep_version.specs.declared.parts.Phase.{Phase}
 use Rattle.pep_version.specs.declared.parts.Phase.TheVariants.{Alpha, Beta, Rc}
 use Rattle.pep_version.specs.Spelling.{DevSpelling, EpochSpelling, IsOneOf, LabelSpelling, NumberSpelling, OptionalNumberSpelling, PostSpelling, PreSpelling, ReleaseSpelling, Spells, dotted_parts, is_number, is_run, is_separator, is_white_space, pre_words, segment_of_run, separated_parts, trimmed, without_leading_space, without_trailing_space}
-use Rattle.pep_version.specs.Text.{dev_text, epoch_text, label_text, normal_text, phase_text, post_text, pre_text, release_text, segment_text}
+use Rattle.pep_version.specs.Text.{dev_text, epoch_text, is_text_byte, label_text, normal_text, phase_text, post_text, pre_text, release_text, segment_text}
 use Rattle.pep_version.specs.Version.{Fits, IsSegment, IsVersion, Segment, SegmentFits, number, Version, is_empty, is_word_byte, word}
 use Rattle.pep_version.proofs.Readers.{and-first, and-second}
 
@@ -65,50 +65,48 @@ join-split p c (x ∷ y ∷ xs) at some h =
 
 -- ---- bytes that stay as they are
 
-abbrev is_plain : ℕ → Bool
-is_plain b = not (is_white_space b) && (to_ascii_lowercase b == b)
+byte-white : (b : ℕ) → is_text_byte b ≡ true → is_white_space b ≡ false
+byte-white b h = grind (arith, nat_tests)
 
-not-white : (w s : Bool) → (not w && s) ≡ true → w ≡ false
-not-white true s h = cc h
-not-white false s h = refl
+byte-lower : (b : ℕ) → is_text_byte b ≡ true → to_ascii_lowercase b ≡ b
+byte-lower b h = grind (arith, nat_tests)
 
-plain-front : (xs : List ℕ) → list_all is_plain xs ≡ true → without_leading_space xs ≡ xs
+plain-front : (xs : List ℕ) → list_all is_text_byte xs ≡ true → without_leading_space xs ≡ xs
 plain-front [] h = refl
-plain-front (x ∷ xs) h = rw (not-white (is_white_space x) (to_ascii_lowercase x == x) (and-first (is_plain x) (list_all is_plain xs) h)) refl
+plain-front (x ∷ xs) h = rw (byte-white x (and-first (is_text_byte x) (list_all is_text_byte xs) h)) refl
 
-plain-end : (xs : List ℕ) → list_all is_plain xs ≡ true → without_trailing_space xs ≡ xs
+plain-end : (xs : List ℕ) → list_all is_text_byte xs ≡ true → without_trailing_space xs ≡ xs
 plain-end [] h = refl
 plain-end (x ∷ xs) h =
-    let more = plain-end xs (and-second (is_plain x) (list_all is_plain xs) h) in
-    rw (not-white (is_white_space x) (to_ascii_lowercase x == x) (and-first (is_plain x) (list_all is_plain xs) h)) (ap (λ (l : List ℕ). x ∷ l) more)
+    let more = plain-end xs (and-second (is_text_byte x) (list_all is_text_byte xs) h) in
+    rw (byte-white x (and-first (is_text_byte x) (list_all is_text_byte xs) h)) (ap (λ (l : List ℕ). x ∷ l) more)
 
-plain-lower : (xs : List ℕ) → list_all is_plain xs ≡ true → str_to_ascii_lowercase xs ≡ xs
+plain-lower : (xs : List ℕ) → list_all is_text_byte xs ≡ true → str_to_ascii_lowercase xs ≡ xs
 plain-lower [] h = refl
 plain-lower (x ∷ xs) h =
-    let test : (to_ascii_lowercase x == x) ≡ true = and-second (not (is_white_space x)) (to_ascii_lowercase x == x) (and-first (is_plain x) (list_all is_plain xs) h) in
-    let same : to_ascii_lowercase x ≡ x = grind arith in
-    let more = plain-lower xs (and-second (is_plain x) (list_all is_plain xs) h) in
+    let same : to_ascii_lowercase x ≡ x = byte-lower x (and-first (is_text_byte x) (list_all is_text_byte xs) h) in
+    let more = plain-lower xs (and-second (is_text_byte x) (list_all is_text_byte xs) h) in
     λ i. same i ∷ more i
 
-pub plain-trimmed : (xs : List ℕ) → list_all is_plain xs ≡ true → trimmed xs ≡ xs
+pub plain-trimmed : (xs : List ℕ) → list_all is_text_byte xs ≡ true → trimmed xs ≡ xs
 plain-trimmed xs h = ap without_trailing_space (plain-front xs h) ∙ plain-end xs h
 
-plain-append : (xs ys : List ℕ) → list_all is_plain xs ≡ true → list_all is_plain ys ≡ true → list_all is_plain (xs ++ ys) ≡ true
-plain-append xs ys p q = rw (list_all-append is_plain xs ys, p, q) refl
+plain-append : (xs ys : List ℕ) → list_all is_text_byte xs ≡ true → list_all is_text_byte ys ≡ true → list_all is_text_byte (xs ++ ys) ≡ true
+plain-append xs ys p q = rw (list_all-append is_text_byte xs ys, p, q) refl
 
-digit-plain : (b : ℕ) → is_ascii_digit b ≡ true → is_plain b ≡ true
+digit-plain : (b : ℕ) → is_ascii_digit b ≡ true → is_text_byte b ≡ true
 digit-plain b h = grind (arith, nat_tests)
 
-word-plain : (b : ℕ) → is_word_byte b ≡ true → is_plain b ≡ true
+word-plain : (b : ℕ) → is_word_byte b ≡ true → is_text_byte b ≡ true
 word-plain b h = grind (arith, nat_tests)
 
-digits-plain : (xs : List ℕ) → list_all is_ascii_digit xs ≡ true → list_all is_plain xs ≡ true
-digits-plain = list_all-weaker is_ascii_digit is_plain digit-plain
+digits-plain : (xs : List ℕ) → list_all is_ascii_digit xs ≡ true → list_all is_text_byte xs ≡ true
+digits-plain = list_all-weaker is_ascii_digit is_text_byte digit-plain
 
-decimal-plain : (n : ℕ) → Fits n → list_all is_plain (decimal n) ≡ true
+decimal-plain : (n : ℕ) → Fits n → list_all is_text_byte (decimal n) ≡ true
 decimal-plain n fits = digits-plain (decimal n) (decimal-digits n fits)
 
-join-plain : (parts : List (List ℕ)) → AllByRecursion (λ part. list_all is_plain part ≡ true) parts → list_all is_plain (join_with_byte 46 parts) ≡ true
+join-plain : (parts : List (List ℕ)) → AllByRecursion (λ part. list_all is_text_byte part ≡ true) parts → list_all is_text_byte (join_with_byte 46 parts) ≡ true
 join-plain [] h = refl
 join-plain (x ∷ []) h = h.0
 join-plain (x ∷ y ∷ xs) h = plain-append x (46 ∷ join_with_byte 46 (y ∷ xs)) h.0 (join-plain (y ∷ xs) h.1)
@@ -130,7 +128,7 @@ numbers-worth : (release : List ℕ) → AllByRecursion Fits release → release
 numbers-worth [] h = refl
 numbers-worth (n ∷ rest) h = λ i. (decimal-spells n h.0).1 i ∷ numbers-worth rest h.1 i
 
-numbers-plain : (release : List ℕ) → AllByRecursion Fits release → AllByRecursion (λ part. list_all is_plain part ≡ true) (map decimal release)
+numbers-plain : (release : List ℕ) → AllByRecursion Fits release → AllByRecursion (λ part. list_all is_text_byte part ≡ true) (map decimal release)
 numbers-plain [] h = tt
 numbers-plain (n ∷ rest) h = (decimal-plain n h.0, numbers-plain rest h.1)
 
@@ -143,7 +141,7 @@ release-spells release some fits =
     let parts : dotted_parts (release_text release) ≡ map decimal release = join-split (λ b. b == 46) 46 (map decimal release) refl (some-map decimal release some) (numbers-apart release fits) in
     rw parts (numbers-are release fits, numbers-worth release fits)
 
-release-plain : (release : List ℕ) → AllByRecursion Fits release → list_all is_plain (release_text release) ≡ true
+release-plain : (release : List ℕ) → AllByRecursion Fits release → list_all is_text_byte (release_text release) ≡ true
 release-plain release fits = join-plain (map decimal release) (numbers-plain release fits)
 
 -- ---- the epoch
@@ -155,7 +153,7 @@ epoch-spells : (n : ℕ) → Fits n → EpochSpelling (epoch_text n) n
 epoch-spells zero fits = inl (refl, refl)
 epoch-spells (suc n) fits = rw (not-zero n) (inr (decimal (suc n), refl, decimal-spells (suc n) fits))
 
-epoch-plain : (n : ℕ) → Fits n → list_all is_plain (epoch_text n) ≡ true
+epoch-plain : (n : ℕ) → Fits n → list_all is_text_byte (epoch_text n) ≡ true
 epoch-plain zero fits = refl
 epoch-plain (suc n) fits = rw (not-zero n) (plain-append (decimal (suc n)) (codes "!") (decimal-plain (suc n) fits) refl)
 
@@ -166,7 +164,7 @@ phase-word Alpha = inl refl
 phase-word Beta = inl refl
 phase-word Rc = inl refl
 
-phase-plain : (p : Phase) → list_all is_plain (phase_text p) ≡ true
+phase-plain : (p : Phase) → list_all is_text_byte (phase_text p) ≡ true
 phase-plain Alpha = refl
 phase-plain Beta = refl
 phase-plain Rc = refl
@@ -185,7 +183,7 @@ pre-spells (Some p) fits = record {
   digits_is = optional-spells (decimal p.1) p.1 (decimal-spells p.1 fits);
 }
 
-pre-plain : (pre : Option (Phase × ℕ)) → IfSome pre (λ p. Fits p.1) → list_all is_plain (pre_text pre) ≡ true
+pre-plain : (pre : Option (Phase × ℕ)) → IfSome pre (λ p. Fits p.1) → list_all is_text_byte (pre_text pre) ≡ true
 pre-plain None fits = refl
 pre-plain (Some p) fits = plain-append (phase_text p.0) (decimal p.1) (phase-plain p.0) (decimal-plain p.1 fits)
 
@@ -203,7 +201,7 @@ post-spells pre (Some n) fits = inl (record {
   digits_is = optional-spells (decimal n) n (decimal-spells n fits);
 })
 
-post-plain : (post : Option ℕ) → IfSome post Fits → list_all is_plain (post_text post) ≡ true
+post-plain : (post : Option ℕ) → IfSome post Fits → list_all is_text_byte (post_text post) ≡ true
 post-plain None fits = refl
 post-plain (Some n) fits = plain-append (codes ".post") (decimal n) refl (decimal-plain n fits)
 
@@ -221,7 +219,7 @@ dev-spells (Some n) fits = record {
   digits_is = optional-spells (decimal n) n (decimal-spells n fits);
 }
 
-dev-plain : (dev : Option ℕ) → IfSome dev Fits → list_all is_plain (dev_text dev) ≡ true
+dev-plain : (dev : Option ℕ) → IfSome dev Fits → list_all is_text_byte (dev_text dev) ≡ true
 dev-plain None fits = refl
 dev-plain (Some n) fits = plain-append (codes ".dev") (decimal n) refl (decimal-plain n fits)
 
@@ -284,9 +282,9 @@ segments-read : (label : List Segment) → AllByRecursion IsSegment label → Al
 segments-read [] is fits = refl
 segments-read (s ∷ rest) is fits = λ i. segment-read s is.0 fits.0 i ∷ segments-read rest is.1 fits.1 i
 
-segments-plain : (label : List Segment) → AllByRecursion IsSegment label → AllByRecursion SegmentFits label → AllByRecursion (λ part. list_all is_plain part ≡ true) (map segment_text label)
+segments-plain : (label : List Segment) → AllByRecursion IsSegment label → AllByRecursion SegmentFits label → AllByRecursion (λ part. list_all is_text_byte part ≡ true) (map segment_text label)
 segments-plain [] is fits = tt
-segments-plain (s ∷ rest) is fits = (list_all-weaker is_word_byte is_plain word-plain (segment_text s) (segment-bytes s is.0 fits.0), segments-plain rest is.1 fits.1)
+segments-plain (s ∷ rest) is fits = (list_all-weaker is_word_byte is_text_byte word-plain (segment_text s) (segment-bytes s is.0 fits.0), segments-plain rest is.1 fits.1)
 
 label-spells : (label : List Segment) → AllByRecursion IsSegment label → AllByRecursion SegmentFits label → LabelSpelling (label_text label) label
 label-spells [] is fits = refl
@@ -295,7 +293,7 @@ label-spells (s ∷ rest) is fits =
     join-split is_separator 46 (map segment_text (s ∷ rest)) refl (omega arith) (segments-apart (s ∷ rest) is fits) in
     (refl, ap (list_all is_run) parts ∙ segments-runs (s ∷ rest) is fits, segments-read (s ∷ rest) is fits ∙ ap (map segment_of_run) (sym parts))
 
-label-plain : (label : List Segment) → AllByRecursion IsSegment label → AllByRecursion SegmentFits label → list_all is_plain (label_text label) ≡ true
+label-plain : (label : List Segment) → AllByRecursion IsSegment label → AllByRecursion SegmentFits label → list_all is_text_byte (label_text label) ≡ true
 label-plain [] is fits = refl
 label-plain (s ∷ rest) is fits = plain-append (codes "+") (join_with_byte 46 (map segment_text (s ∷ rest))) refl (join-plain (map segment_text (s ∷ rest)) (segments-plain (s ∷ rest) is fits))
 
@@ -304,16 +302,26 @@ label-plain (s ∷ rest) is fits = plain-append (codes "+") (join_with_byte 46 (
 regroup : (e r p o d l : List ℕ) → e ++ r ++ p ++ o ++ d ++ l ≡ e ++ (r ++ (p ++ (o ++ (d ++ (l ++ [])))))
 regroup e r p o d l = simp (append_assoc, append-nil)
 
+six-plain : (e r p o d l : List ℕ) → list_all is_text_byte e ≡ true → list_all is_text_byte r ≡ true → list_all is_text_byte p ≡ true
+    → list_all is_text_byte o ≡ true → list_all is_text_byte d ≡ true → list_all is_text_byte l ≡ true → list_all is_text_byte (e ++ r ++ p ++ o ++ d ++ l) ≡ true
+six-plain e r p o d l he hr hp ho hd hl =
+    plain-append (e ++ r ++ p ++ o ++ d) l (plain-append (e ++ r ++ p ++ o) d (plain-append (e ++ r ++ p) o (plain-append (e ++ r) p (plain-append e r he hr) hp) ho) hd) hl
+
+-- the bytes of the normal text
+pub normal-bytes : (v : Version) → IsVersion v → list_all is_text_byte (normal_text v) ≡ true
+normal-bytes v is =
+    let fits = is.numbers in
+    six-plain (epoch_text v.epoch) (release_text v.release) (pre_text v.pre) (post_text v.post) (dev_text v.dev) (label_text v.label)
+    (epoch-plain v.epoch fits.epoch) (release-plain v.release fits.release) (pre-plain v.pre fits.pre) (post-plain v.post fits.post) (dev-plain v.dev fits.dev)
+    (label-plain v.label is.label fits.label)
+
 -- the normal text of a version spells it
 pub normal-spells : (v : Version) → IsVersion v → Spells (normal_text v) v
 normal-spells v is =
     let fits = is.numbers in
     let pieces : normal_text v ≡ epoch_text v.epoch ++ (release_text v.release ++ (pre_text v.pre ++ (post_text v.post ++ (dev_text v.dev ++ (label_text v.label ++ []))))) =
     regroup (epoch_text v.epoch) (release_text v.release) (pre_text v.pre) (post_text v.post) (dev_text v.dev) (label_text v.label) in
-    let label = plain-append (label_text v.label) [] (label-plain v.label is.label fits.label) refl in
-    let plain = ap (list_all is_plain) pieces
-    ∙ plain-append (epoch_text v.epoch) _ (epoch-plain v.epoch fits.epoch) (plain-append (release_text v.release) _ (release-plain v.release fits.release)
-    (plain-append (pre_text v.pre) _ (pre-plain v.pre fits.pre) (plain-append (post_text v.post) _ (post-plain v.post fits.post) (plain-append (dev_text v.dev) _ (dev-plain v.dev fits.dev) label)))) in (
+    let plain = normal-bytes v is in (
       record {
         preceding_v = [];
         epoch = epoch_text v.epoch;

@@ -1,10 +1,11 @@
 //! Laws of the definitions.
 
-ghost use Rattle.std.specs.Prelude.{◌≡◌, ◌<◌, ◌↔◌, ℕ, List, length};
+ghost use Rattle.std.specs.Prelude.{◌≡◌, ◌<◌, ◌↔◌, ℕ, IsTrue, List, length};
 ghost use Rattle.std.specs.Cmp.{IsTotalOrder};
+ghost use Rattle.std.specs.List.{list_all};
 ghost use Rattle.pep_version.specs.Order.{Same, place_of, version_cmp};
 ghost use Rattle.pep_version.specs.Spelling.{Spells, SpellsAny};
-ghost use Rattle.pep_version.specs.Text.{normal_text};
+ghost use Rattle.pep_version.specs.Text.{is_text_byte, normal_text};
 ghost use Rattle.pep_version.specs.Version.{IsVersion, Version};
 
 /// Versions are in a total order.
@@ -26,4 +27,9 @@ pub fn one_version()
 /// The normal text of a version is a spelling of it, so a version is read back from its normal text.
 pub fn text_is_read()
     ensures { (v : Version) → IsVersion v → Spells (normal_text v) v }
+{}
+
+/// The normal text of a version has letters in lower case, digits, `.`, `+` and `!` alone.
+pub fn text_bytes()
+    ensures { (v : Version) → IsVersion v → IsTrue (list_all is_text_byte (normal_text v)) }
 {}

@@ -240,4 +240,5 @@ fn states_laws() {
     laws::one_place();
     laws::one_version();
     laws::text_is_read();
+    laws::text_bytes();
 }

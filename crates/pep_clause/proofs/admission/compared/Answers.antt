@@ -1,4 +1,4 @@
-use Rattle.std.proofs.Common.{rules, ◌≡◌, ◌∙◌}
+use Rattle.std.proofs.Common.{◌≡◌, ◌∙◌}
 use Rattle.pep_version.specs.Order.{place_of, version_cmp}
 use Rattle.pep_version.specs.Laws.{version_cmp-place_of}
 use Rattle.pep_clause.proofs.admission.compared.Goals as goal

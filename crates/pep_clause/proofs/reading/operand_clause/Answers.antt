@@ -5,11 +5,9 @@ use Rattle.pep_clause.proofs.reading.operand_clause.Goals as goal
 
 pub returns-in_err-read-in-Some-2 : goal.returns-in_err-read-in-Some-2
 returns-in_err-read-in-Some-2 c =
-    prefix-target c.args.operator c.args.text.now c.in-Some.front.now c.without_trailing_space.result.now
-    (Err c.in_err-read-in-Some-2.field-0.0) c.from_residual.result (not-exact c.args.operator (sym c.eq.ensures ∙ c.if-eq.false))
-    c.in-Some.ensures.cases c.without_trailing_space.ensures
-    c.if-without_trailing_space-front.false c.in_err-read-in-Some-2.ensures
-    (error-is c.from_residual.result (fault_of c.in_err-read-in-Some-2.field-0.0) c.from_residual.ensures)
+    prefix-target c.args.operator c.args.text.now c.in-Some.front.now (Err c.in_err-read-in-Some-2.field-0.0) c.from_residual.result
+    (not-exact c.args.operator (sym c.eq.ensures ∙ c.if-eq.false)) c.in-Some.ensures.cases (sym c.ends_in_space.ensures ∙ c.if-ends_in_space.false)
+    c.in_err-read-in-Some-2.ensures (error-is c.from_residual.result (fault_of c.in_err-read-in-Some-2.field-0.0) c.from_residual.ensures)
 
 pub returns-in_err-read-in-None : goal.returns-in_err-read-in-None
 returns-in_err-read-in-None c =
@@ -24,7 +22,6 @@ returns-in_ok-read-in-None c =
 
 pub returns-in_ok-read-in-Some-2 : goal.returns-in_ok-read-in-Some-2
 returns-in_ok-read-in-Some-2 c =
-    prefix-target c.args.operator c.args.text.now c.in-Some.front.now c.without_trailing_space.result.now
-    (Ok c.in_ok-read-in-Some-2.field-0) c.prefix_clause.result (not-exact c.args.operator (sym c.eq.ensures ∙ c.if-eq.false))
-    c.in-Some.ensures.cases c.without_trailing_space.ensures
-    c.if-without_trailing_space-front.false c.in_ok-read-in-Some-2.ensures c.prefix_clause.ensures
+    prefix-target c.args.operator c.args.text.now c.in-Some.front.now (Ok c.in_ok-read-in-Some-2.field-0) c.prefix_clause.result
+    (not-exact c.args.operator (sym c.eq.ensures ∙ c.if-eq.false)) c.in-Some.ensures.cases (sym c.ends_in_space.ensures ∙ c.if-ends_in_space.false)
+    c.in_ok-read-in-Some-2.ensures c.prefix_clause.ensures

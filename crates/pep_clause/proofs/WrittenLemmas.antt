@@ -1,0 +1,368 @@
+-- A text is read as one clause, which is read back from its own text.
+use Rattle.std.proofs.Common.{◌≡◌, ◌<◌, ◌&&◌, ◌==◌, ◌-◌, ℕ, Bool, true, false, not, List, [], ◌∷◌, ◌++◌, Option, Some, None, Result, Ok, Err, length, take, drop, codes, refl, sym, ap, subst, ◌∙◌, append-nil, length-append, arith}
+use Rattle.std.proofs.Math.Seq.{drop-append_seam, take-append_seam}
+use Rattle.std.proofs.lemmas.Bool.Decides.{nat_tests}
+use Rattle.std.proofs.lemmas.List.Folds.{list_all-append}
+use Rattle.std.proofs.lemmas.List.{take-append-drop}
+use Rattle.std.specs.Bool.{MatchBool}
+use Rattle.std.specs.Cmp.Lexicographic.{pointwise}
+use Rattle.std.specs.Char.{is_ascii_uppercase, to_ascii_lowercase}
+use Rattle.std.specs.List.{ends_with, list_all}
+use Rattle.std.specs.Prelude.{if◌then◌else◌, nat_eq, nat_lt}
+use Rattle.std.specs.Str.{str_to_ascii_lowercase}
+use Rattle.pep_version.specs.declared.fault.VersionFault.{VersionFault}
+use Rattle.pep_version.specs.SpelledLaws.{spelled-version}
+use Rattle.pep_version.specs.Spelling.{Reads, is_white_space, trimmed, without_leading_space, without_trailing_space}
+use Rattle.pep_version.specs.Text.{is_text_byte, normal_text}
+use Rattle.pep_version.specs.Version.{IsVersion, Segment, Version, is_empty}
+use Rattle.pep_clause.specs.declared.fault.ClauseFault.{ClauseFault}
+use Rattle.pep_clause.specs.declared.fault.ClauseFault.TheVariants as fault
+use Rattle.pep_clause.specs.declared.op.Op.{Op}
+use Rattle.pep_clause.specs.declared.op.Op.TheVariants as op
+use Rattle.pep_clause.specs.Clause.{Clause, ClauseOf, IsClause, Prefix, PrefixAnswers, ReadsClauseAs, ReadsThen, TargetAnswers, VersionAnswers, compatible, matching, matching_prefix, excluding, excluding_prefix, at_most, at_least, less_than, greater_than, arbitrary, arbitrary_of, clause_text, ends_in_space, fault_of, is_clause_byte, is_demanded_text, is_final, operator_of, operator_text, prefix_answer, prefix_clause, prefix_of, prefix_text, version_answer, version_clause}
+use Rattle.pep_clause.specs.Cut.{final_version}
+use Rattle.pep_clause.specs.Valid.{IsPrefix, IsValidClause}
+use Rattle.pep_clause.proofs.ReadLemmas.{and-first, and-second, lower-demanded}
+
+-- ---- one clause
+
+-- two readings of a text as a version are one
+reads-one : (x : List ℕ) (next : Result Version VersionFault → Result Clause ClauseFault) → ((e : VersionFault) → next (Err e) ≡ Err (fault_of e))
+    → (c d : Clause) → ReadsThen x next (Ok c) → ReadsThen x next (Ok d) → c ≡ d
+reads-one x next errs c d (Ok v, r, e) (Ok w, s, f) = let same : w ≡ v = r.1 w s.0.0 in cc
+reads-one x next errs c d (Err g, r, e) other = cc (errs g)
+reads-one x next errs c d other (Err g, s, f) = cc (errs g)
+
+version-one : (o : Op) (x : List ℕ) (c d : Clause) → VersionAnswers o x (Ok c) → VersionAnswers o x (Ok d) → c ≡ d
+version-one o x c d = outer (ends_with nat_eq x (codes ".*"))
+  where
+    inner : (b : Bool) → MatchBool b (Ok c ≡ Err fault.BadVersion) (ReadsThen (take (length x - 2) x) (prefix_answer o) (Ok c))
+        → MatchBool b (Ok d ≡ Err fault.BadVersion) (ReadsThen (take (length x - 2) x) (prefix_answer o) (Ok d)) → c ≡ d
+    inner true h k = cc h
+    inner false h k = reads-one (take (length x - 2) x) (prefix_answer o) (λ e. refl) c d h k
+
+    outer : (b : Bool) → MatchBool b (PrefixAnswers o (take (length x - 2) x) (Ok c)) (ReadsThen x (version_answer o) (Ok c))
+        → MatchBool b (PrefixAnswers o (take (length x - 2) x) (Ok d)) (ReadsThen x (version_answer o) (Ok d)) → c ≡ d
+    outer true h k = inner (ends_in_space (take (length x - 2) x)) h k
+    outer false h k = reads-one x (version_answer o) (λ e. refl) c d h k
+
+target-one : (o : Op) (x : List ℕ) (c d : Clause) → TargetAnswers o x (Ok c) → TargetAnswers o x (Ok d) → c ≡ d
+target-one op.Exact x c d h k = cc (h, k)
+target-one o x c d h k = version-one o x c d h k
+
+pub one-clause : (text : List ℕ) (c d : Clause) → IsClause text c → IsClause text d → c ≡ d
+one-clause text c d = found (operator_of (trimmed text))
+  where
+    found : (o : Option Op) → ReadsClauseAs o (trimmed text) (Ok c) → ReadsClauseAs o (trimmed text) (Ok d) → c ≡ d
+    found None h k = cc h
+    found (Some o) h k = target-one o (trimmed (drop (length (operator_text o)) (trimmed text))) c d h k
+
+-- ---- what is read is a clause
+
+public-answer : (c : Clause) (label : List Segment) (answer : Result Clause ClauseFault)
+    → Ok c ≡ (if is_empty label then answer else Err fault.LocalNotAllowed) → (label ≡ []) × (Ok c ≡ answer)
+public-answer c [] answer h = (refl, h)
+public-answer c (s ∷ label) answer h = (cc h, cc h)
+
+version-valid : (o : Op) (v : Version) (c : Clause) → IsVersion v → Ok c ≡ version_clause o v → IsValidClause c
+version-valid op.Equal v c is h = let same : c ≡ matching v = cc h in subst IsValidClause (sym same) is
+version-valid op.NotEqual v c is h = let same : c ≡ excluding v = cc h in subst IsValidClause (sym same) is
+version-valid op.AtMost v c is h =
+    let both = public-answer c v.label (Ok (at_most v)) h in
+    let same : c ≡ at_most v = cc (both.1) in subst IsValidClause (sym same) (is, both.0)
+version-valid op.AtLeast v c is h =
+    let both = public-answer c v.label (Ok (at_least v)) h in
+    let same : c ≡ at_least v = cc (both.1) in subst IsValidClause (sym same) (is, both.0)
+version-valid op.Less v c is h =
+    let both = public-answer c v.label (Ok (less_than v)) h in
+    let same : c ≡ less_than v = cc (both.1) in subst IsValidClause (sym same) (is, both.0)
+version-valid op.More v c is h =
+    let both = public-answer c v.label (Ok (greater_than v)) h in
+    let same : c ≡ greater_than v = cc (both.1) in subst IsValidClause (sym same) (is, both.0)
+version-valid op.Compatible v c is h =
+    let both = public-answer c v.label _ h in numbers (nat_lt 1 (length v.release)) refl both.0 both.1
+  where
+    numbers : (b : Bool) → nat_lt 1 (length v.release) ≡ b → v.label ≡ [] → Ok c ≡ (if b then Ok (compatible v) else Err fault.OneNumber) → IsValidClause c
+    numbers true more bare e = let same : c ≡ compatible v = cc e in subst IsValidClause (sym same) ((is, bare), two (length v.release) more)
+      where
+        two : (n : ℕ) → nat_lt 1 n ≡ true → 1 < n
+        two n t = grind (arith, nat_tests)
+    numbers false more bare e = absurd (apart c e)
+      where
+        apart : (c : Clause) → Ok c ≡ Err fault.OneNumber → ⊥
+        apart c e = cc e
+version-valid op.Exact v c is h = absurd (apart c h)
+  where
+    apart : (c : Clause) → Ok c ≡ Err fault.BadVersion → ⊥
+    apart c e = cc e
+
+final-version : (v : Version) → IsVersion v → IsPrefix (prefix_of v)
+final-version v is = record {
+  release = is.release;
+  label = tt;
+  numbers = record { epoch = is.numbers.epoch; release = is.numbers.release; pre = tt; post = tt; dev = tt; label = tt };
+}
+
+star-apart : (c : Clause) → Ok c ≡ Err fault.StarNotAllowed → ⊥
+star-apart c e = cc e
+
+prefix-valid : (o : Op) (v : Version) (c : Clause) → IsVersion v → Ok c ≡ prefix_clause o (prefix_of v) → IsValidClause c
+prefix-valid op.Equal v c is h = let same : c ≡ matching_prefix (prefix_of v) = cc h in subst IsValidClause (sym same) (final-version v is)
+prefix-valid op.NotEqual v c is h = let same : c ≡ excluding_prefix (prefix_of v) = cc h in subst IsValidClause (sym same) (final-version v is)
+prefix-valid o v c is h = absurd (star-apart c h)
+
+read-valid : (o : Op) (x : List ℕ) (c : Clause) → ReadsThen x (version_answer o) (Ok c) → IsValidClause c
+read-valid o x c (Ok v, r, e) = version-valid o v c (spelled-version x v r.0) e
+read-valid o x c (Err g, r, e) = absurd (apart c (fault_of g) e)
+  where
+    apart : (c : Clause) (f : ClauseFault) → Ok c ≡ Err f → ⊥
+    apart c f e = cc e
+
+read-prefix-valid : (o : Op) (x : List ℕ) (c : Clause) → ReadsThen x (prefix_answer o) (Ok c) → IsValidClause c
+read-prefix-valid o x c (Ok v, r, e) = final (is_final v) e
+  where
+    final : (b : Bool) → Ok c ≡ (if b then prefix_clause o (prefix_of v) else Err fault.StarNotAllowed) → IsValidClause c
+    final true h = prefix-valid o v c (spelled-version x v r.0) h
+    final false h = absurd (star-apart c h)
+read-prefix-valid o x c (Err g, r, e) = absurd (apart c (fault_of g) e)
+  where
+    apart : (c : Clause) (f : ClauseFault) → Ok c ≡ Err f → ⊥
+    apart c f e = cc e
+
+bad-apart : (c : Clause) → Ok c ≡ Err fault.BadVersion → ⊥
+bad-apart c e = cc e
+
+answers-valid : (o : Op) (x : List ℕ) (c : Clause) → VersionAnswers o x (Ok c) → IsValidClause c
+answers-valid o x c = outer (ends_with nat_eq x (codes ".*"))
+  where
+    inner : (b : Bool) → MatchBool b (Ok c ≡ Err fault.BadVersion) (ReadsThen (take (length x - 2) x) (prefix_answer o) (Ok c)) → IsValidClause c
+    inner true h = absurd (bad-apart c h)
+    inner false h = read-prefix-valid o (take (length x - 2) x) c h
+
+    outer : (b : Bool) → MatchBool b (PrefixAnswers o (take (length x - 2) x) (Ok c)) (ReadsThen x (version_answer o) (Ok c)) → IsValidClause c
+    outer true h = inner (ends_in_space (take (length x - 2) x)) h
+    outer false h = read-valid o x c h
+
+demanded-valid : (x : List ℕ) (c : Clause) → Ok c ≡ arbitrary_of x → IsValidClause c
+demanded-valid x c h = tested (not (is_empty x) && list_all is_clause_byte x) refl h
+  where
+    tested : (b : Bool) → (not (is_empty x) && list_all is_clause_byte x) ≡ b → Ok c ≡ (if b then Ok (arbitrary (str_to_ascii_lowercase x)) else Err fault.BadVersion) → IsValidClause c
+    tested true t e = let same : c ≡ arbitrary (str_to_ascii_lowercase x) = cc e in subst IsValidClause (sym same) (lower-demanded x t)
+    tested false t e = absurd (bad-apart c e)
+
+target-valid : (o : Op) (x : List ℕ) (c : Clause) → TargetAnswers o x (Ok c) → IsValidClause c
+target-valid op.Exact x c h = demanded-valid x c h
+target-valid o x c h = answers-valid o x c h
+
+-- what a text is read as is a clause
+pub clause-valid : (text : List ℕ) (c : Clause) → IsClause text c → IsValidClause c
+clause-valid text c = found (operator_of (trimmed text))
+  where
+    found : (o : Option Op) → ReadsClauseAs o (trimmed text) (Ok c) → IsValidClause c
+    found None h = absurd (apart c h)
+      where
+        apart : (c : Clause) → Ok c ≡ Err fault.NoOperator → ⊥
+        apart c e = cc e
+    found (Some o) h = target-valid o (trimmed (drop (length (operator_text o)) (trimmed text))) c h
+
+-- ---- what is written is read
+
+abbrev is_ink : ℕ → Bool
+is_ink b = not (is_white_space b)
+
+not-white : (w : Bool) → not w ≡ true → w ≡ false
+not-white true h = cc h
+not-white false h = refl
+
+ink-front : (xs : List ℕ) → list_all is_ink xs ≡ true → without_leading_space xs ≡ xs
+ink-front [] h = refl
+ink-front (x ∷ xs) h = rw (not-white (is_white_space x) (and-first (is_ink x) (list_all is_ink xs) h)) refl
+
+ink-end : (xs : List ℕ) → list_all is_ink xs ≡ true → without_trailing_space xs ≡ xs
+ink-end [] h = refl
+ink-end (x ∷ xs) h =
+    let more = ink-end xs (and-second (is_ink x) (list_all is_ink xs) h) in
+    rw (not-white (is_white_space x) (and-first (is_ink x) (list_all is_ink xs) h)) (ap (λ (l : List ℕ). x ∷ l) more)
+
+ink-trimmed : (xs : List ℕ) → list_all is_ink xs ≡ true → trimmed xs ≡ xs
+ink-trimmed xs h = ap without_trailing_space (ink-front xs h) ∙ ink-end xs h
+
+weaker : (p q : ℕ → Bool) → ((b : ℕ) → p b ≡ true → q b ≡ true) → (xs : List ℕ) → list_all p xs ≡ true → list_all q xs ≡ true
+weaker p q w [] h = refl
+weaker p q w (x ∷ xs) h = rw (w x (and-first (p x) (list_all p xs) h)) (weaker p q w xs (and-second (p x) (list_all p xs) h))
+
+clause-ink : (b : ℕ) → is_clause_byte b ≡ true → is_ink b ≡ true
+clause-ink b h = grind (arith, nat_tests)
+
+clause-not-equal : (b : ℕ) → is_clause_byte b ≡ true → (61 == b) ≡ false
+clause-not-equal b h = grind (arith, nat_tests)
+
+text-clause : (b : ℕ) → is_text_byte b ≡ true → is_clause_byte b ≡ true
+text-clause b h = grind (arith, nat_tests)
+
+operator-ink : (o : Op) → list_all is_ink (operator_text o) ≡ true
+operator-ink op.Compatible = refl
+operator-ink op.Equal = refl
+operator-ink op.NotEqual = refl
+operator-ink op.AtMost = refl
+operator-ink op.AtLeast = refl
+operator-ink op.Less = refl
+operator-ink op.More = refl
+operator-ink op.Exact = refl
+
+-- the operator that stands before such a text is found
+operator-found : (o : Op) (x : List ℕ) → list_all is_clause_byte x ≡ true → operator_of (operator_text o ++ x) ≡ Some o
+operator-found op.Compatible x h = refl
+operator-found op.Equal [] h = refl
+operator-found op.Equal (b ∷ x) h = let apart = clause-not-equal b (and-first (is_clause_byte b) (list_all is_clause_byte x) h) in rw apart refl
+operator-found op.NotEqual x h = refl
+operator-found op.AtMost x h = refl
+operator-found op.AtLeast x h = refl
+operator-found op.Less [] h = refl
+operator-found op.Less (b ∷ x) h = let apart = clause-not-equal b (and-first (is_clause_byte b) (list_all is_clause_byte x) h) in rw apart refl
+operator-found op.More [] h = refl
+operator-found op.More (b ∷ x) h = let apart = clause-not-equal b (and-first (is_clause_byte b) (list_all is_clause_byte x) h) in rw apart refl
+operator-found op.Exact x h = refl
+
+-- an operator and what is read behind it
+written : (o : Op) (x : List ℕ) (c : Clause) → list_all is_clause_byte x ≡ true → TargetAnswers o x (Ok c) → IsClause (operator_text o ++ x) c
+written o x c bytes h =
+    let ink = weaker is_clause_byte is_ink clause-ink x bytes in
+    let whole : trimmed (operator_text o ++ x) ≡ operator_text o ++ x = ink-trimmed (operator_text o ++ x) (rw (list_all-append is_ink (operator_text o) x, operator-ink o) ink) in
+    let behind : trimmed (drop (length (operator_text o)) (operator_text o ++ x)) ≡ x = ap trimmed (drop-append_seam (operator_text o) x) ∙ ink-trimmed x ink in
+    let target : ClauseOf o (drop (length (operator_text o)) (operator_text o ++ x)) (Ok c) = subst (λ t. TargetAnswers o t (Ok c)) (sym behind) h in
+    let found : ReadsClauseAs (operator_of (operator_text o ++ x)) (operator_text o ++ x) (Ok c) =
+    subst (λ r. ReadsClauseAs r (operator_text o ++ x) (Ok c)) (sym (operator-found o x bytes)) target in
+    subst (λ t. ReadsClauseAs (operator_of t) t (Ok c)) (sym whole) found
+
+-- a text without `*` does not end in `.*`
+text-no-star : (b : ℕ) → is_text_byte b ≡ true → (42 == b) ≡ false
+text-no-star b h = grind (arith, nat_tests)
+
+and-false : (a : Bool) → (a && false) ≡ false
+and-false true = refl
+and-false false = refl
+
+all-drop : (p : ℕ → Bool) (xs : List ℕ) (n : ℕ) → list_all p xs ≡ true → list_all p (drop n xs) ≡ true
+all-drop p xs n h =
+    let both : (list_all p (take n xs) && list_all p (drop n xs)) ≡ true = sym (list_all-append p (take n xs) (drop n xs)) ∙ ap (list_all p) (take-append-drop n xs) ∙ h in
+    and-second (list_all p (take n xs)) (list_all p (drop n xs)) both
+
+no-star : (xs : List ℕ) → list_all is_text_byte xs ≡ true → ends_with nat_eq xs (codes ".*") ≡ false
+no-star xs h = last (drop (length xs - 2) xs) (all-drop is_text_byte xs (length xs - 2) h)
+  where
+    last : (ys : List ℕ) → list_all is_text_byte ys ≡ true → pointwise nat_eq (codes ".*") ys ≡ false
+    last [] h = refl
+    last (a ∷ []) h = and-false (46 == a)
+    last (a ∷ b ∷ ys) h =
+        let byte = and-first (is_text_byte b) (list_all is_text_byte ys) (and-second (is_text_byte a) (list_all is_text_byte (b ∷ ys)) h) in
+        let apart = text-no-star b byte in
+        rw apart (and-false (46 == a))
+
+-- a text and `.*`
+star-length : (n : List ℕ) → length (n ++ codes ".*") - 2 ≡ length n
+star-length n = omega (arith, length-append {A = ℕ})
+
+star-end : (n : List ℕ) → ends_with nat_eq (n ++ codes ".*") (codes ".*") ≡ true
+star-end n =
+    let last : drop (length (n ++ codes ".*") - 2) (n ++ codes ".*") ≡ codes ".*" = ap (λ k. drop k (n ++ codes ".*")) (star-length n) ∙ drop-append_seam n (codes ".*") in
+    ap (pointwise nat_eq (codes ".*")) last
+
+star-front : (n : List ℕ) → take (length (n ++ codes ".*") - 2) (n ++ codes ".*") ≡ n
+star-front n = ap (λ k. take k (n ++ codes ".*")) (star-length n) ∙ take-append_seam n (codes ".*")
+
+ink-ends : (n : List ℕ) → list_all is_ink n ≡ true → ends_in_space n ≡ false
+ink-ends n h = ap (λ (t : List ℕ). not (length t == length n)) (ink-end n h) ∙ same (length n)
+  where
+    same : (k : ℕ) → not (k == k) ≡ false
+    same k = grind (arith, nat_tests)
+
+-- the normal text of a version behind an operator
+version-written : (o : Op) (v : Version) (c : Clause) → list_all is_text_byte (normal_text v) ≡ true → Reads (normal_text v) (Ok v)
+    → Ok c ≡ version_clause o v → VersionAnswers o (normal_text v) (Ok c)
+version-written o v c bytes reads gives = rw (no-star (normal_text v) bytes) (Ok v, reads, gives)
+
+-- the same with `.*` behind it
+prefix-written : (o : Op) (v : Version) (c : Clause) → list_all is_text_byte (normal_text v) ≡ true → Reads (normal_text v) (Ok v)
+    → Ok c ≡ prefix_answer o (Ok v) → VersionAnswers o (normal_text v ++ codes ".*") (Ok c)
+prefix-written o v c bytes reads gives =
+    let ink = weaker is_text_byte is_ink (λ b h. clause-ink b (text-clause b h)) (normal_text v) bytes in
+    rw (star-end (normal_text v), star-front (normal_text v), ink-ends (normal_text v) ink) (Ok v, reads, gives)
+
+prefix-shape : (p : Prefix) → prefix_text p ≡ normal_text (final_version p) ++ codes ".*"
+prefix-shape p = simp append-nil
+
+-- the text of `===` is kept
+kept-byte : (b : ℕ) → is_ascii_uppercase b ≡ false → to_ascii_lowercase b ≡ b
+kept-byte b h = grind arith
+
+demanded-lower : (xs : List ℕ) → list_all (λ b. is_clause_byte b && not (is_ascii_uppercase b)) xs ≡ true → str_to_ascii_lowercase xs ≡ xs
+demanded-lower [] h = refl
+demanded-lower (b ∷ xs) h =
+    let byte : (is_clause_byte b && not (is_ascii_uppercase b)) ≡ true = and-first _ (list_all (λ b. is_clause_byte b && not (is_ascii_uppercase b)) xs) h in
+    let small = kept-byte b (not-white (is_ascii_uppercase b) (and-second (is_clause_byte b) (not (is_ascii_uppercase b)) byte)) in
+    let more = demanded-lower xs (and-second (is_clause_byte b && not (is_ascii_uppercase b)) (list_all (λ b. is_clause_byte b && not (is_ascii_uppercase b)) xs) h) in
+    λ i. small i ∷ more i
+
+demanded-bytes : (xs : List ℕ) → list_all (λ b. is_clause_byte b && not (is_ascii_uppercase b)) xs ≡ true → list_all is_clause_byte xs ≡ true
+demanded-bytes = weaker (λ b. is_clause_byte b && not (is_ascii_uppercase b)) is_clause_byte (λ b h. and-first (is_clause_byte b) (not (is_ascii_uppercase b)) h)
+
+demanded-written : (xs : List ℕ) → is_demanded_text xs ≡ true → Ok (arbitrary xs) ≡ arbitrary_of xs
+demanded-written xs h =
+    let some = and-first (not (is_empty xs)) (list_all (λ b. is_clause_byte b && not (is_ascii_uppercase b)) xs) h in
+    let small = and-second (not (is_empty xs)) (list_all (λ b. is_clause_byte b && not (is_ascii_uppercase b)) xs) h in
+    let bytes = demanded-bytes xs small in
+    rw (some, bytes) (ap (λ (t : List ℕ). Ok (arbitrary t)) (sym (demanded-lower xs small)))
+
+-- the clause of an operator and a version that has no label
+public-gives : (label : List Segment) (answer : Result Clause ClauseFault) → label ≡ [] → answer ≡ (if is_empty label then answer else Err fault.LocalNotAllowed)
+public-gives [] answer h = refl
+public-gives (s ∷ label) answer h = cc h
+
+two-numbers : (v : Version) → 1 < length v.release → v.label ≡ [] → Ok (compatible v) ≡ version_clause op.Compatible v
+two-numbers v more bare = numbers (length v.release) more ∙ public-gives v.label _ bare
+  where
+    numbers : (n : ℕ) → 1 < n → Ok (compatible v) ≡ (if nat_lt 1 n then Ok (compatible v) else Err fault.OneNumber)
+    numbers n h = let two : nat_lt 1 n ≡ true = grind (arith, nat_tests) in rw two refl
+
+-- the two laws of versions that this rests on: a version's normal text is read as it, and has the bytes that it has
+abbrev pub ReadsBack : Type 0
+ReadsBack = (v : Version) → IsVersion v → Reads (normal_text v) (Ok v)
+
+abbrev pub HasTextBytes : Type 0
+HasTextBytes = (v : Version) → IsVersion v → list_all is_text_byte (normal_text v) ≡ true
+
+normal-written : ReadsBack → HasTextBytes → (o : Op) (v : Version) (c : Clause) → IsVersion v → (VersionAnswers o (normal_text v) (Ok c) → TargetAnswers o (normal_text v) (Ok c))
+    → Ok c ≡ version_clause o v → IsClause (operator_text o ++ normal_text v) c
+normal-written back has o v c is target gives =
+    let bytes = has v is in
+    written o (normal_text v) c (weaker is_text_byte is_clause_byte text-clause (normal_text v) bytes) (target (version-written o v c bytes (back v is) gives))
+
+star-written : ReadsBack → HasTextBytes → (o : Op) (p : Prefix) (c : Clause) → IsPrefix p
+    → (VersionAnswers o (normal_text (final_version p) ++ codes ".*") (Ok c) → TargetAnswers o (normal_text (final_version p) ++ codes ".*") (Ok c))
+    → Ok c ≡ prefix_clause o p → IsClause (operator_text o ++ prefix_text p) c
+star-written back has o p c is target gives =
+    let v = final_version p in
+    let bytes = has v is in
+    let clause_bytes : list_all is_clause_byte (normal_text v ++ codes ".*") ≡ true =
+    rw (list_all-append is_clause_byte (normal_text v) (codes ".*"), weaker is_text_byte is_clause_byte text-clause (normal_text v) bytes) refl in
+    let read = written o (normal_text v ++ codes ".*") c clause_bytes (target (prefix-written o v c bytes (back v is) gives)) in
+    subst (λ t. IsClause (operator_text o ++ t) c) (sym (prefix-shape p)) read
+
+-- a clause is read back from its own text
+pub valid-written : ReadsBack → HasTextBytes → (c : Clause) → IsValidClause c → IsClause (clause_text c) c
+valid-written back has (compatible v) is = normal-written back has op.Compatible v (compatible v) is.0.0 (λ h. h) (two-numbers v is.1 is.0.1)
+valid-written back has (matching v) is = normal-written back has op.Equal v (matching v) is (λ h. h) refl
+valid-written back has (matching_prefix p) is = star-written back has op.Equal p (matching_prefix p) is (λ h. h) refl
+valid-written back has (excluding v) is = normal-written back has op.NotEqual v (excluding v) is (λ h. h) refl
+valid-written back has (excluding_prefix p) is = star-written back has op.NotEqual p (excluding_prefix p) is (λ h. h) refl
+valid-written back has (at_most v) is = normal-written back has op.AtMost v (at_most v) is.0 (λ h. h) (public-gives v.label _ is.1)
+valid-written back has (at_least v) is = normal-written back has op.AtLeast v (at_least v) is.0 (λ h. h) (public-gives v.label _ is.1)
+valid-written back has (less_than v) is = normal-written back has op.Less v (less_than v) is.0 (λ h. h) (public-gives v.label _ is.1)
+valid-written back has (greater_than v) is = normal-written back has op.More v (greater_than v) is.0 (λ h. h) (public-gives v.label _ is.1)
+valid-written back has (arbitrary text) is =
+    written op.Exact text (arbitrary text) (demanded-bytes text (and-second (not (is_empty text)) (list_all (λ b. is_clause_byte b && not (is_ascii_uppercase b)) text) is)) (demanded-written text is)
+
+-- what some text is read as is read back from its own text
+pub clause-written : ReadsBack → HasTextBytes → (text : List ℕ) (c : Clause) → IsClause text c → IsClause (clause_text c) c
+clause-written back has text c h = valid-written back has c (clause-valid text c h)
