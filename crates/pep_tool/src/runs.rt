@@ -16,6 +16,7 @@ fn is_blank_byte(b: u8) -> bool
 fn is_name_byte(b: u8) -> bool
     ensures { result ≡ is_name_byte b }
 {
+    // Most bytes of a name are these.
     if b.is_ascii_lowercase() || b.is_ascii_digit() {
         return true;
     }
