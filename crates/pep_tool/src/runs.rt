@@ -17,7 +17,11 @@ fn is_blank_byte(b: u8) -> bool
 fn is_name_byte(b: u8) -> bool
     ensures { result ≡ is_name_byte b }
 {
-    b.is_ascii_alphanumeric() || b == b'-' || b == b'_' || b == b'.'
+    // Most bytes of a name are these.
+    if b.is_ascii_lowercase() || b.is_ascii_digit() {
+        return true;
+    }
+    b.is_ascii_uppercase() || b == b'-' || b == b'_' || b == b'.'
 }
 
 fn is_clause_byte(b: u8) -> bool
