@@ -57,7 +57,11 @@ fn versions_that_are_shown(rt: HostRuntime) -> Result<(), Fail> {
     ] {
         let it = ran(&rt, &["version", text])?;
         assert_eq!(rt; it.printed.as_str(), line, "at {text}");
-        assert_eq!(rt; (it.status, it.told.as_str(), it.reads), (0, "", 0), "at {text}");
+        assert_eq!(rt;
+            (it.status, it.told.as_str(), it.reads),
+            (0, "", 0),
+            "at {text}"
+        );
     }
     Ok(())
 }
@@ -72,7 +76,11 @@ fn versions_that_are_refused(rt: HostRuntime) -> Result<(), Fail> {
     ] {
         let it = ran(&rt, &["version", text])?;
         assert_eq!(rt; it.told.as_str(), line, "at {text}");
-        assert_eq!(rt; (it.status, it.printed.as_str(), it.reads), (2, "", 0), "at {text}");
+        assert_eq!(rt;
+            (it.status, it.printed.as_str(), it.reads),
+            (2, "", 0),
+            "at {text}"
+        );
     }
     // Behind `--` a word that begins with `-` is a text.
     let it = ran(&rt, &["version", "--", "-1"])?;
@@ -103,9 +111,19 @@ fn words_that_are_refused(rt: HostRuntime) -> Result<(), Fail> {
     }
     for word in ["--help", "help", "--", "-x", "", "--version"] {
         let it = ran(&rt, &[word])?;
-        assert!(rt; it.told.as_str().starts_with("refused code 61\n"), "at {word}");
-        assert!(rt; it.told.as_str().contains("Usage: tubrambutan"), "at {word}");
-        assert_eq!(rt; (it.status, it.printed.as_str(), it.reads), (2, "", 0), "at {word}");
+        assert!(rt;
+            it.told.as_str().starts_with("refused code 61\n"),
+            "at {word}"
+        );
+        assert!(rt;
+            it.told.as_str().contains("Usage: tubrambutan"),
+            "at {word}"
+        );
+        assert_eq!(rt;
+            (it.status, it.printed.as_str(), it.reads),
+            (2, "", 0),
+            "at {word}"
+        );
     }
     Ok(())
 }

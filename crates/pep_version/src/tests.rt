@@ -66,7 +66,8 @@ fn reads_spellings(rt: HostRuntime) -> Result<(), Fail> {
 
 #[test]
 fn reads_the_largest_numbers(rt: HostRuntime) -> Result<(), Fail> {
-    let all = "18446744073709551615!18446744073709551615.18446744073709551615rc18446744073709551615.post18446744073709551615.dev18446744073709551615+18446744073709551615";
+    let all =
+        "18446744073709551615!18446744073709551615.18446744073709551615rc18446744073709551615.post18446744073709551615.dev18446744073709551615+18446744073709551615";
     let found = normal(rt.alloc(), all)?;
     assert_eq!(rt; found.as_str(), all);
     Ok(())
@@ -90,8 +91,9 @@ fn reads_a_long_text(rt: HostRuntime) -> Result<(), Fail> {
 #[test]
 fn refuses_texts(rt: HostRuntime) {
     for text in [
-        "", " ", "1..0", "1.", ".1", "é", "1. 0", "1.\t0", "1.\n0", "1.\r0", "1.\u{b}0", "1.\u{c}0", "1\u{a0}",
-        "1.0+é", "1.0α1", "１.0", "1.0+", "1.0-", "1.0a1a2", "!1.0", "vv1", "1.0+a..b",
+        "", " ", "1..0", "1.", ".1", "é", "1. 0", "1.\t0", "1.\n0", "1.\r0", "1.\u{b}0",
+        "1.\u{c}0", "1\u{a0}", "1.0+é", "1.0α1", "１.0", "1.0+", "1.0-", "1.0a1a2", "!1.0", "vv1",
+        "1.0+a..b",
     ] {
         assert_eq!(rt;
             Version::read(rt.alloc(), text).err(),
