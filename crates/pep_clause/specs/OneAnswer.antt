@@ -1,5 +1,5 @@
 -- An operator and a text have one answer at most, want of memory apart.
-use Rattle.std.proofs.Common.{◌≡◌, ◌≢◌, ℕ, Bool, true, false, List, [], ◌∷◌, ◌++◌, ◌-◌, take, length, refl, sym, ap, ◌∙◌, Option, Some, None, Result, Ok, Err}
+use Rattle.std.proofs.Common.{◌≡◌, ◌≢◌, ℕ, Bool, true, false, List, [], ◌∷◌, ◌++◌, ◌-◌, take, length, refl, sym, ap, ◌∙◌, Option, None, Result, Ok, Err}
 use Rattle.std.specs.Prelude.{MatchBool, codes, if◌then◌else◌, nat_eq, nat_lt}
 use Rattle.std.specs.List.{ends_with, list_all}
 use Rattle.pep_version.specs.Spelling.{Reads, SpellsAny, dotted_parts, is_number, trimmed}

@@ -1,7 +1,7 @@
 -- The clauses of one line more in the map of names.
 use Rattle.std.proofs.Common.{◌≡◌, ◌≢◌, ℕ, ◌&&◌, Bool, true, false, List, [], ◌∷◌, ◌++◌, Option, Some, None, refl, sym, ap, subst, ◌∙◌, append-nil}
 use Rattle.std.specs.Prelude.{bytes_eq, if◌then◌else◌}
-use Rattle.std.specs.List.{AllByRecursion, list_all}
+use Rattle.std.specs.List.{AllByRecursion}
 use Rattle.std.specs.BTreeMap.{UpdatesBy}
 use Rattle.std.specs.Map.{update}
 use Rattle.std.proofs.lemmas.List.Folds.{list_all-append}
@@ -10,7 +10,7 @@ use Rattle.std.proofs.lemmas.Slice.Eq.{bytes_eq-Decides}
 use Rattle.pep_clause.specs.Admits.{admits}
 use Rattle.pep_clause.specs.Clause.{Clause, demanded_text}
 use Rattle.pep_clause.specs.OperatorTable.{set_of}
-use Rattle.pep_clause.specs.VersionSet.{Range, is_in, is_point}
+use Rattle.pep_clause.specs.VersionSet.{Range, is_point}
 use Rattle.pep_marker.specs.Name.{IsNormalName}
 use Rattle.pep_tool.specs.NameKey.{name_cmp}
 use Rattle.pep_tool.specs.Sets.{ArePlain, Folds, Gathers, HoldsClauses, IsPlainPair, KeepsClauses, Meets, Pair, Sets, clauses_on, set_at, with_name}

@@ -1,5 +1,5 @@
 -- How a line is cut: the pieces of a line that is read are what a reader from left to right finds.
-use Rattle.std.proofs.Common.{◌≡◌, ◌≢◌, ℕ, ◌<◌, ◌≤◌, ◌⊎◌, ◌==◌, Bool, true, false, not, List, [], ◌∷◌, ◌++◌, length, length-append, take, drop, ◌-◌, Option, Some, None, Result, Err, Ok, refl, sym, ap, subst, ◌∙◌, arith, inl, inr}
+use Rattle.std.proofs.Common.{◌≡◌, ◌≢◌, ℕ, ◌<◌, ◌≤◌, ◌⊎◌, ◌==◌, Bool, true, false, not, List, [], ◌∷◌, ◌++◌, length, length-append, take, drop, Option, Some, None, Result, Err, Ok, refl, sym, ap, subst, ◌∙◌, arith, inl, inr}
 use Rattle.std.specs.Prelude.{if◌then◌else◌, nat_eq, nat_lt}
 use Rattle.std.specs.List.{AllZip, list_all, onto_first, prefix_len, slice_split, starts_with}
 use Rattle.std.specs.Str.{IsUtf8}
@@ -431,8 +431,8 @@ line_read x n cs fits e s =
 pub beginning_passes : (x n : List ℕ) → length x ≤ line_limit → begins (λ b. b == 45) (without_leading_blanks x) ≡ false → name_of (name_run x) ≡ Some n → beginning_fault x ≡ None
 beginning_passes x n fits dash e = beginning_none _ _ _ _ _ _ (not_long (length x) fits) dash (ap not (named (name_run x) n e))
 
-pub refuses_behind : (x : List ℕ) (f : RequireFault) → beginning_fault x ≡ None → RefusesBounds (behind_name x) f → RefusesLine x f
-refuses_behind x f e h = by f (subst (λ (g : Option RequireFault). RefusesLineAs g x f) (sym e) h)
+refuses_bounds : (x : List ℕ) (f : RequireFault) → beginning_fault x ≡ None → RefusesBounds (behind_name x) f → RefusesLine x f
+refuses_bounds x f e h = by f (subst (λ (g : Option RequireFault). RefusesLineAs g x f) (sym e) h)
   where
     by : (g : RequireFault) → RefusesLineAs (beginning_fault x) x g → RefusesLine x g
     by (fault.BadClause g) h = h
@@ -445,6 +445,12 @@ refuses_behind x f e h = by f (subst (λ (g : Option RequireFault). RefusesLineA
     by fault.LineTooLong h = h
     by fault.UrlOverflow h = h
     by fault.NoMemory h = tt
+
+-- what refuses the text behind the name refuses the line
+pub refuses_behind : (x : List ℕ) (f : RequireFault) (text : List ℕ) → beginning_fault x ≡ None → text ≡ behind_name x →
+    (f ≡ fault.NoMemory) ⊎ RefusesBounds text f → RefusesLine x f
+refuses_behind x f text e same (inl memory) = subst (RefusesLine x) (sym memory) tt
+refuses_behind x f text e same (inr h) = refuses_bounds x f e (subst (λ (l : List ℕ). RefusesBounds l f) same h)
 
 pub begins-starts_with : (x : List ℕ) → starts_with nat_eq x (45 ∷ []) ≡ begins (λ b. b == 45) x
 begins-starts_with [] = refl

@@ -1,6 +1,6 @@
 -- The table that the map stands for is the table of what the pairs demand.
 use Rattle.std.proofs.Common.{◌≡◌, ◌≢◌, ℕ, zero, suc, ◌<◌, Bool, true, false, List, [], ◌∷◌, length, map, refl, sym, ap, subst, ◌∙◌, arith, Option, Some, None}
-use Rattle.std.specs.Prelude.{Contains, IfSome, IsSome, bytes_eq, find, option_map, slice_get, slice_index_or, ◌↔◌}
+use Rattle.std.specs.Prelude.{IfSome, IsSome, bytes_eq, find, option_map, slice_get, slice_index_or, ◌↔◌}
 use Rattle.std.specs.Bool.{one_answer}
 use Rattle.std.specs.BTreeMap.{IsOrdered, is_at}
 use Rattle.std.specs.Cmp.Lexicographic.{nat_list_cmp_total}

@@ -17,7 +17,7 @@ use Rattle.pep_tool.specs.Line.{ReadsBound, ReadsBounds, ReadsLine, plain_requir
 use Rattle.pep_tool.specs.NameKey.{name_cmp}
 use Rattle.pep_require.specs.Reads.{line_limit}
 use Rattle.pep_require.specs.declared.fault.RequireFault.TheVariants as fault
-use Rattle.pep_tool.specs.Lists.{IsListOf, content, is_skipped, lines_of}
+use Rattle.pep_tool.specs.Lists.{IsListOf, content, is_skipped}
 use Rattle.pep_table.specs.Table.{EntryParts, TableParts}
 use Rattle.pep_table.specs.TableText.{line, range_text}
 use Rattle.pep_table.specs.Verdict.{verdict_word}

@@ -1,16 +1,17 @@
-use Rattle.std.proofs.Common.{rules, ◌≡◌, ◌≢◌, ◌⊎◌, Err, None, Ok, Some, IfOk, IfErr, IsTrue, ℕ, ◌+◌, ◌-◌, ◌*◌, ◌<◌, ◌≤◌, length, ◌/◌, ◌%◌, Bool, true, false, nat_eq, nat_lt, List, [], ◌∷◌, ◌++◌, slice_index_or, slice_set, bit_and, bit_or, Fits, w8, w32, w64, Bor, MutBor}
-use Rattle.std.specs.List.{list_all}
-use Rattle.pep_clause.specs.Clause.{ClauseOf, is_clause_byte}
-use Rattle.pep_require.specs.Faults.{without_leading_blanks}
-use Rattle.pep_marker.specs.Name.{is_name_byte, name_of}
-use Rattle.pep_tool.specs.Line.{IsOperand, ReadsBound, RefusesBound, RefusesBounds, RefusesLine, RefusesOperand}
-use Rattle.pep_tool.specs.Sets.{MeansBound, MeansBounds, MeansLine}
+use Rattle.std.proofs.Common.{◌≡◌, List, ℕ, Option, None, Bor, ap, subst, ◌∙◌}
+use Rattle.pep_tool.specs.Sets.{left_parts}
+use Rattle.pep_tool.proofs.BoundsLemmas.{BoundsSoFar, bounds_all, bounds_more}
 use Rattle.pep_tool.proofs.line.read_bounds.Goals as goal
 
--- src/line.rt:119:5
 pub loop-rest-preserved : goal.loop-rest-preserved
-loop-rest-preserved c = ?
+loop-rest-preserved c =
+    let left = ap (left_parts 44) c.in-Some.is ∙ c.first_part-in-Some.ensures.parts in
+    let far = subst (λ (l : List (List ℕ)). BoundsSoFar c.args.text.now l c.loop-rest.versions) left c.loop-rest.invariant in
+    bounds_more c.args.text.now c.first_part-in-Some.result.0.now (left_parts 44 c.first_part-in-Some.result.1) c.loop-rest.versions c.in_ok-others.others c.narrow.new.kept
+    far c.in_ok-others.ensures.ok c.in-Ok.ensures.ok
 
--- src/line.rt:113:1
 pub returns-clause-ok : goal.returns-clause-ok
-returns-clause-ok c = ?
+returns-clause-ok c =
+    let over : c.loop-rest.rest ≡ None = c.in_default.is in
+    bounds_all c.args.text.now c.loop-rest.versions
+    (subst (λ (o : Option (Bor (List ℕ))). BoundsSoFar c.args.text.now (left_parts 44 o) c.loop-rest.versions) over c.loop-rest.invariant)

@@ -1,12 +1,12 @@
 use Rattle.std.proofs.Common.{◌≡◌, ◌+◌, ◌≤◌, ◌⊎◌, true, length}
 use Rattle.std.specs.Prelude.{IsSome}
-use Rattle.pep_tool.specs.Sets.{left_lines}
+use Rattle.pep_tool.specs.Sets.{left_parts}
 use Rattle.pep_tool.proofs.ListLemmas.{SoFar, left_len}
 use Rattle.pep_tool.proofs.list.merge_lines.Given as goal
 
 abbrev pub invariant-loop-rest : goal.invariant-loop-rest
 invariant-loop-rest l =
-    SoFar l.fn.read (left_lines l.rest) l.initial.sets l.sets
+    SoFar l.fn.read (left_parts 10 l.rest) l.initial.sets l.sets
     × ((l.fits ≡ true) ⊎ IsSome l.rest)
     × (l.number + left_len l.rest ≤ length l.fn.read + 1)
 

@@ -4,7 +4,7 @@ use Rattle.std.specs.Map.{update}
 use Rattle.std.specs.Option.{option_copied_mut}
 use Rattle.pep_clause.specs.VersionSet.{Range}
 use Rattle.pep_tool.specs.Sets.{Folds, Sets, set_at}
-use Rattle.pep_tool.proofs.GatherLemmas.{folds_next, gathers_one, set_at-changed}
+use Rattle.pep_tool.proofs.GatherLemmas.{gathers_line, meets_holds, set_at-changed}
 use Rattle.pep_tool.proofs.sets.gather.Goals as goal
 
 pub returns-in-Some-clause-ok : goal.returns-in-Some-clause-ok
@@ -14,10 +14,10 @@ returns-in-Some-clause-ok c =
     let name = c.of-name.ensures.name in
     let found : set_at old c.args.line.name ≡ Some c.in-Some.kept.now = ap (set_at old) (sym name) ∙ sym c.get_mut.ensures.value ∙ ap option_copied_mut c.in-Some.is in
     let changes = set_at-changed old new c.of-name.result (Some c.narrow.new.kept) ((c.get_mut.follows.holds c.narrow.new.kept).3 (search rules)) in
-    gathers_one old new c.args.line.name c.args.line.clause c.narrow.new.kept c.of-name.ensures.normal c.requires
+    λ cs plain holds. gathers_line old new c.args.line.name cs c.narrow.new.kept c.of-name.ensures.normal plain
     (λ q. changes q ∙ ap (λ n. update bytes_eq (set_at old) n (Some c.narrow.new.kept) q) name)
-    (subst (λ (o : Option (List Range)). Folds o c.args.line.clause c.narrow.new.kept) (sym found)
-    (folds_next c.in-Some.kept.now c.args.line.clause c.in_ok-set.set c.narrow.new.kept c.in_ok-set.ensures.ok c.in_ok-narrow.ensures.ok))
+    (subst (λ (o : Option (List Range)). Folds o cs c.narrow.new.kept) (sym found)
+    (λ ds h. meets_holds ds cs c.in-Some.kept.now c.args.line.versions c.narrow.new.kept c.in_ok-narrow.ensures.ok h holds))
 
 pub returns-clause-ok : goal.returns-clause-ok
 returns-clause-ok c =
@@ -26,8 +26,8 @@ returns-clause-ok c =
     let new : Sets = c.insert.new.self in
     let name = c.of-name.ensures.name in
     let missing : set_at old c.args.line.name ≡ None = ap (set_at old) (sym name) ∙ sym c.get_mut.ensures.value ∙ ap option_copied_mut c.in_default.is in
-    let changes = set_at-changed lent new c.of-name.result (Some c.in_ok-set.set) c.in_ok-insert.ensures.updates in
+    let changes = set_at-changed lent new c.of-name.result (Some c.args.line.versions) c.in_ok-insert.ensures.updates in
     let same : (q : List ℕ) → set_at lent q ≡ set_at old q = λ q. ap (λ (m : Sets). set_at m q) c.get_mut.follows.holds-at-none in
-    gathers_one old new c.args.line.name c.args.line.clause c.in_ok-set.set c.of-name.ensures.normal c.requires
-    (λ q. changes q ∙ (λ i. if bytes_eq (name i) q then Some c.in_ok-set.set else same q i))
-    (subst (λ (o : Option (List Range)). Folds o c.args.line.clause c.in_ok-set.set) (sym missing) c.in_ok-set.ensures.ok)
+    λ cs plain holds. gathers_line old new c.args.line.name cs c.args.line.versions c.of-name.ensures.normal plain
+    (λ q. changes q ∙ (λ i. if bytes_eq (name i) q then Some c.args.line.versions else same q i))
+    (subst (λ (o : Option (List Range)). Folds o cs c.args.line.versions) (sym missing) holds)
