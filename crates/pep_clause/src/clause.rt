@@ -41,7 +41,6 @@ impl Model for Clause {
 
 impl Clause {
     ghost use Rattle.std.specs.Prelude.{◌≡◌, IfErr, IfOk};
-    ghost use Rattle.pep_clause.specs.Clause.{at_least, less_than};
     ghost use Rattle.pep_clause.specs.ClauseView.{IsStored, clause_of};
     ghost use Rattle.pep_clause.specs.Operator.{operator};
     ghost use Rattle.pep_clause.specs.Valid.{IsPublic, IsValidClause};
@@ -53,26 +52,6 @@ impl Clause {
         ensures valid { IsValidClause result }
     {
         Clause { kind }
-    }
-
-    /// `>=` of a version without a label (PEP 440, "Inclusive ordered comparison").
-    pub fn at_least(version: Version) -> Clause
-        requires { IsPublic version }
-        ensures { result ≡ at_least version }
-    {
-        Clause {
-            kind: Kind::AtLeast(version),
-        }
-    }
-
-    /// `<` of a version without a label (PEP 440, "Exclusive ordered comparison").
-    pub fn less_than(version: Version) -> Clause
-        requires { IsPublic version }
-        ensures { result ≡ less_than version }
-    {
-        Clause {
-            kind: Kind::LessThan(version),
-        }
     }
 
     /// The operator (PEP 440, "Version specifiers").

@@ -1,30 +1,17 @@
 // What no clause says: the texts of cuts, and which versions are admitted by PEP 440's own words.
 
-ghost use Rattle.std.specs.Prelude.{IfOk};
-ghost use Rattle.pep_clause.specs.Released.{IsRelease};
-
 use super::*;
 use pep_version::{Key, Phase, Version};
 use std::alloc::Global;
 use std::process::Abort;
 use std::test::*;
 
-fn release(alloc: Global, numbers: &[u64]) -> Result<Version, ClauseFault>
-    ensures { IfOk result (λ v. IsRelease v) }
-{
-    let numbers = Vec::from_slice(alloc, numbers)?;
-    let version = Version::of_parts(0, numbers, None, None, None, Vec::new(alloc));
-    version.ok_or(ClauseFault::BadVersion)
+fn version(alloc: Global, text: &str) -> Result<Version, ClauseFault> {
+    Ok(Version::read(alloc, text)?)
 }
 
-fn at_least(alloc: Global, numbers: &[u64]) -> Result<VersionSet, ClauseFault> {
-    let clause = Clause::at_least(release(alloc, numbers)?);
-    VersionSet::of(alloc, &clause)
-}
-
-fn less_than(alloc: Global, numbers: &[u64]) -> Result<VersionSet, ClauseFault> {
-    let clause = Clause::less_than(release(alloc, numbers)?);
-    VersionSet::of(alloc, &clause)
+fn set(alloc: Global, text: &str) -> Result<VersionSet, ClauseFault> {
+    VersionSet::of(alloc, &Clause::read(alloc, text)?)
 }
 
 // The place of a version of two release numbers.
@@ -63,8 +50,8 @@ fn expect_cuts(
 #[test]
 fn holds_what_a_clause_admits(rt: HostRuntime) -> Result<(), Fail> {
     let alloc = rt.alloc();
-    let from = at_least(alloc, &[1, 0])?;
-    let below = less_than(alloc, &[1, 0])?;
+    let from = set(alloc, ">=1.0")?;
+    let below = set(alloc, "<1.0")?;
     let beta = Some((Phase::Beta, 1));
     for (release, pre, post, dev, in_from, in_below) in [
         ([1, 0], None, None, None, true, false),
@@ -89,11 +76,11 @@ fn holds_what_a_clause_admits(rt: HostRuntime) -> Result<(), Fail> {
 #[test]
 fn writes_cuts(rt: HostRuntime) -> Result<(), Fail> {
     let alloc = rt.alloc();
-    expect_cuts(&rt, alloc, &at_least(alloc, &[1, 0])?, &["before 1", "end"])?;
+    expect_cuts(&rt, alloc, &set(alloc, ">=1.0")?, &["before 1", "end"])?;
     expect_cuts(
         &rt,
         alloc,
-        &less_than(alloc, &[0, 10])?,
+        &set(alloc, "<0.10")?,
         &["before 0.dev0", "before 0.10.dev0"],
     )?;
     expect_cuts(
@@ -109,18 +96,33 @@ fn writes_cuts(rt: HostRuntime) -> Result<(), Fail> {
 #[test]
 fn joins(rt: HostRuntime) -> Result<(), Fail> {
     let alloc = rt.alloc();
-    let both = at_least(alloc, &[1])?.joined(alloc, &less_than(alloc, &[2])?)?;
+    let both = set(alloc, ">=1")?.joined(alloc, &set(alloc, "<2")?)?;
     expect_cuts(&rt, alloc, &both, &["before 1", "before 2.dev0"])?;
-    let narrower = both.joined(alloc, &at_least(alloc, &[1, 5])?)?;
+    let narrower = both.joined(alloc, &set(alloc, ">=1.5")?)?;
     expect_cuts(&rt, alloc, &narrower, &["before 1.5", "before 2.dev0"])?;
     let same = narrower
         .copied(alloc)?
         .joined(alloc, &VersionSet::all(alloc)?)?;
     expect_cuts(&rt, alloc, &same, &["before 1.5", "before 2.dev0"])?;
     assert!(rt; !same.is_empty());
-    let nothing = same.joined(alloc, &at_least(alloc, &[2])?)?;
+    let nothing = same.joined(alloc, &set(alloc, ">=2")?)?;
     assert!(rt; nothing.is_empty());
-    assert!(rt; less_than(alloc, &[0])?.is_empty());
+    assert!(rt; set(alloc, "<0")?.is_empty());
+    Ok(())
+}
+
+#[test]
+fn narrows(rt: HostRuntime) -> Result<(), Fail> {
+    let alloc = rt.alloc();
+    let mut kept = set(alloc, ">=1")?;
+    kept.narrow(alloc, &set(alloc, ">=0.5")?)?;
+    expect_cuts(&rt, alloc, &kept, &["before 1", "end"])?;
+    kept.narrow(alloc, &set(alloc, "<2")?)?;
+    expect_cuts(&rt, alloc, &kept, &["before 1", "before 2.dev0"])?;
+    kept.narrow(alloc, &set(alloc, "<3")?)?;
+    expect_cuts(&rt, alloc, &kept, &["before 1", "before 2.dev0"])?;
+    kept.narrow(alloc, &set(alloc, ">=2")?)?;
+    assert!(rt; kept.is_empty());
     Ok(())
 }
 
@@ -128,8 +130,8 @@ fn joins(rt: HostRuntime) -> Result<(), Fail> {
 fn orders_cuts(rt: HostRuntime) -> Result<(), Fail> {
     let alloc = rt.alloc();
     let least = Cut::least(alloc)?;
-    let first = Cut::before(alloc, &release(alloc, &[1, 0])?)?;
-    let same = Cut::before(alloc, &release(alloc, &[1])?)?;
+    let first = Cut::before(alloc, &version(alloc, "1.0")?)?;
+    let same = Cut::before(alloc, &version(alloc, "1")?)?;
     assert!(rt; least < first && first < Cut::end());
     assert!(rt; first == same && first.copied(alloc)? == same);
     assert!(rt; Cut::end() == Cut::end() && least != first);
@@ -139,11 +141,11 @@ fn orders_cuts(rt: HostRuntime) -> Result<(), Fail> {
 #[test]
 fn has_an_operator(rt: HostRuntime) -> Result<(), Fail> {
     let alloc = rt.alloc();
-    let from = Clause::at_least(release(alloc, &[3, 8])?);
-    let below = Clause::less_than(release(alloc, &[4])?);
+    let from = Clause::read(alloc, ">=3.8")?;
+    let below = Clause::read(alloc, "<4")?;
     assert_eq!(rt; from.copied(alloc)?.op(), Op::AtLeast);
     assert_eq!(rt; below.copied(alloc)?.op(), Op::Less);
-    let range = at_least(alloc, &[3, 8])?;
+    let range = set(alloc, ">=3.8")?;
     assert_eq!(rt; range.ranges().len(), 1);
     for range in range.ranges() {
         assert!(rt; range.copied(alloc)?.low() < range.high());
