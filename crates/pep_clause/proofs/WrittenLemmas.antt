@@ -22,40 +22,19 @@ use Rattle.pep_clause.specs.declared.op.Op.TheVariants as op
 use Rattle.pep_clause.specs.Clause.{Clause, ClauseOf, IsClause, Prefix, PrefixAnswers, ReadsClauseAs, ReadsThen, TargetAnswers, VersionAnswers, compatible, matching, matching_prefix, excluding, excluding_prefix, at_most, at_least, less_than, greater_than, arbitrary, arbitrary_of, clause_text, ends_in_space, fault_of, is_clause_byte, is_demanded_text, is_final, operator_of, operator_text, prefix_answer, prefix_clause, prefix_of, prefix_text, version_answer, version_clause}
 use Rattle.pep_clause.specs.Cut.{final_version}
 use Rattle.pep_clause.specs.Valid.{IsPrefix, IsValidClause}
+use Rattle.pep_clause.specs.OneAnswer.{one-clause-of}
+use Rattle.pep_clause.specs.Written.{clause-ink, ink-end, ink-front, ink-trimmed, is_ink, not-white, operator-found, weaker, written}
 use Rattle.pep_clause.proofs.ReadLemmas.{and-first, and-second, lower-demanded}
 
 -- ---- one clause
 
 -- two readings of a text as a version are one
-reads-one : (x : List ℕ) (next : Result Version VersionFault → Result Clause ClauseFault) → ((e : VersionFault) → next (Err e) ≡ Err (fault_of e))
-    → (c d : Clause) → ReadsThen x next (Ok c) → ReadsThen x next (Ok d) → c ≡ d
-reads-one x next errs c d (Ok v, r, e) (Ok w, s, f) = let same : w ≡ v = r.1 w s.0.0 in cc
-reads-one x next errs c d (Err g, r, e) other = cc (errs g)
-reads-one x next errs c d other (Err g, s, f) = cc (errs g)
-
-version-one : (o : Op) (x : List ℕ) (c d : Clause) → VersionAnswers o x (Ok c) → VersionAnswers o x (Ok d) → c ≡ d
-version-one o x c d = outer (ends_with nat_eq x (codes ".*"))
-  where
-    inner : (b : Bool) → MatchBool b (Ok c ≡ Err fault.BadVersion) (ReadsThen (take (length x - 2) x) (prefix_answer o) (Ok c))
-        → MatchBool b (Ok d ≡ Err fault.BadVersion) (ReadsThen (take (length x - 2) x) (prefix_answer o) (Ok d)) → c ≡ d
-    inner true h k = cc h
-    inner false h k = reads-one (take (length x - 2) x) (prefix_answer o) (λ e. refl) c d h k
-
-    outer : (b : Bool) → MatchBool b (PrefixAnswers o (take (length x - 2) x) (Ok c)) (ReadsThen x (version_answer o) (Ok c))
-        → MatchBool b (PrefixAnswers o (take (length x - 2) x) (Ok d)) (ReadsThen x (version_answer o) (Ok d)) → c ≡ d
-    outer true h k = inner (ends_in_space (take (length x - 2) x)) h k
-    outer false h k = reads-one x (version_answer o) (λ e. refl) c d h k
-
-target-one : (o : Op) (x : List ℕ) (c d : Clause) → TargetAnswers o x (Ok c) → TargetAnswers o x (Ok d) → c ≡ d
-target-one op.Exact x c d h k = cc (h, k)
-target-one o x c d h k = version-one o x c d h k
-
 pub one-clause : (text : List ℕ) (c d : Clause) → IsClause text c → IsClause text d → c ≡ d
 one-clause text c d = found (operator_of (trimmed text))
   where
     found : (o : Option Op) → ReadsClauseAs o (trimmed text) (Ok c) → ReadsClauseAs o (trimmed text) (Ok d) → c ≡ d
     found None h k = cc h
-    found (Some o) h k = target-one o (trimmed (drop (length (operator_text o)) (trimmed text))) c d h k
+    found (Some o) h k = one-clause-of o (drop (length (operator_text o)) (trimmed text)) c d h k
 
 -- ---- what is read is a clause
 
@@ -167,73 +146,8 @@ clause-valid text c = found (operator_of (trimmed text))
 
 -- ---- what is written is read
 
-abbrev is_ink : ℕ → Bool
-is_ink b = not (is_white_space b)
-
-not-white : (w : Bool) → not w ≡ true → w ≡ false
-not-white true h = cc h
-not-white false h = refl
-
-ink-front : (xs : List ℕ) → list_all is_ink xs ≡ true → without_leading_space xs ≡ xs
-ink-front [] h = refl
-ink-front (x ∷ xs) h = rw (not-white (is_white_space x) (and-first (is_ink x) (list_all is_ink xs) h)) refl
-
-ink-end : (xs : List ℕ) → list_all is_ink xs ≡ true → without_trailing_space xs ≡ xs
-ink-end [] h = refl
-ink-end (x ∷ xs) h =
-    let more = ink-end xs (and-second (is_ink x) (list_all is_ink xs) h) in
-    rw (not-white (is_white_space x) (and-first (is_ink x) (list_all is_ink xs) h)) (ap (λ (l : List ℕ). x ∷ l) more)
-
-ink-trimmed : (xs : List ℕ) → list_all is_ink xs ≡ true → trimmed xs ≡ xs
-ink-trimmed xs h = ap without_trailing_space (ink-front xs h) ∙ ink-end xs h
-
-weaker : (p q : ℕ → Bool) → ((b : ℕ) → p b ≡ true → q b ≡ true) → (xs : List ℕ) → list_all p xs ≡ true → list_all q xs ≡ true
-weaker p q w [] h = refl
-weaker p q w (x ∷ xs) h = rw (w x (and-first (p x) (list_all p xs) h)) (weaker p q w xs (and-second (p x) (list_all p xs) h))
-
-clause-ink : (b : ℕ) → is_clause_byte b ≡ true → is_ink b ≡ true
-clause-ink b h = grind (arith, nat_tests)
-
-clause-not-equal : (b : ℕ) → is_clause_byte b ≡ true → (61 == b) ≡ false
-clause-not-equal b h = grind (arith, nat_tests)
-
 text-clause : (b : ℕ) → is_text_byte b ≡ true → is_clause_byte b ≡ true
 text-clause b h = grind (arith, nat_tests)
-
-operator-ink : (o : Op) → list_all is_ink (operator_text o) ≡ true
-operator-ink op.Compatible = refl
-operator-ink op.Equal = refl
-operator-ink op.NotEqual = refl
-operator-ink op.AtMost = refl
-operator-ink op.AtLeast = refl
-operator-ink op.Less = refl
-operator-ink op.More = refl
-operator-ink op.Exact = refl
-
--- the operator that stands before such a text is found
-operator-found : (o : Op) (x : List ℕ) → list_all is_clause_byte x ≡ true → operator_of (operator_text o ++ x) ≡ Some o
-operator-found op.Compatible x h = refl
-operator-found op.Equal [] h = refl
-operator-found op.Equal (b ∷ x) h = let apart = clause-not-equal b (and-first (is_clause_byte b) (list_all is_clause_byte x) h) in rw apart refl
-operator-found op.NotEqual x h = refl
-operator-found op.AtMost x h = refl
-operator-found op.AtLeast x h = refl
-operator-found op.Less [] h = refl
-operator-found op.Less (b ∷ x) h = let apart = clause-not-equal b (and-first (is_clause_byte b) (list_all is_clause_byte x) h) in rw apart refl
-operator-found op.More [] h = refl
-operator-found op.More (b ∷ x) h = let apart = clause-not-equal b (and-first (is_clause_byte b) (list_all is_clause_byte x) h) in rw apart refl
-operator-found op.Exact x h = refl
-
--- an operator and what is read behind it
-written : (o : Op) (x : List ℕ) (c : Clause) → list_all is_clause_byte x ≡ true → TargetAnswers o x (Ok c) → IsClause (operator_text o ++ x) c
-written o x c bytes h =
-    let ink = weaker is_clause_byte is_ink clause-ink x bytes in
-    let whole : trimmed (operator_text o ++ x) ≡ operator_text o ++ x = ink-trimmed (operator_text o ++ x) (rw (list_all-append is_ink (operator_text o) x, operator-ink o) ink) in
-    let behind : trimmed (drop (length (operator_text o)) (operator_text o ++ x)) ≡ x = ap trimmed (drop-append_seam (operator_text o) x) ∙ ink-trimmed x ink in
-    let target : ClauseOf o (drop (length (operator_text o)) (operator_text o ++ x)) (Ok c) = subst (λ t. TargetAnswers o t (Ok c)) (sym behind) h in
-    let found : ReadsClauseAs (operator_of (operator_text o ++ x)) (operator_text o ++ x) (Ok c) =
-    subst (λ r. ReadsClauseAs r (operator_text o ++ x) (Ok c)) (sym (operator-found o x bytes)) target in
-    subst (λ t. ReadsClauseAs (operator_of t) t (Ok c)) (sym whole) found
 
 -- a text without `*` does not end in `.*`
 text-no-star : (b : ℕ) → is_text_byte b ≡ true → (42 == b) ≡ false

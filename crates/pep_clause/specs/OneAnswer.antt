@@ -80,6 +80,15 @@ target-one o text a b h g m n =
 pub one-answer : (o : Op) (text : List ℕ) (a b : Result Clause ClauseFault) → ClauseOf o text a → ClauseOf o text b → IsAnswer a → IsAnswer b → a ≡ b
 one-answer o text a b h g m n = target-one o (trimmed text) a b h g m n
 
+abbrev answer_ok : Clause → Result Clause ClauseFault
+answer_ok c = Ok c
+
+same_clause : (c d : Clause) → answer_ok c ≡ answer_ok d → c ≡ d
+same_clause c d h = cc h
+
+pub one-clause-of : (o : Op) (text : List ℕ) (c d : Clause) → ClauseOf o text (Ok c) → ClauseOf o text (Ok d) → c ≡ d
+one-clause-of o text c d h g = same_clause c d (one-answer o text (Ok c) (Ok d) h g (λ e. cc e) (λ e. cc e))
+
 -- a version is written with a byte at least
 some-bytes : (v : Version) → SpellsAny [] v → ⊥
 some-bytes v s = none s.release _ (behind_none s.epoch _ (behind_none s.preceding_v _ (sym s.pieces))) s.release_is.0

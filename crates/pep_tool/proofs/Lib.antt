@@ -12,3 +12,4 @@ pub mod VerdictLemmas
 pub mod MergeLemmas
 pub mod PlanLemmas
 pub mod BoundsLemmas
+pub mod RequirementLemmas

@@ -1,6 +1,7 @@
 //! Laws of the definitions.
 
 ghost use Rattle.std.specs.Prelude.{◌≡◌, ℕ, List};
+ghost use Rattle.pep_require.specs.Reads.{Reads};
 ghost use Rattle.pep_require.specs.Requirement.{RequirementParts};
 ghost use Rattle.pep_table.specs.Demand.{HaveSameDemands};
 ghost use Rattle.pep_tool.specs.declared.input.Input.{Input};
@@ -12,6 +13,11 @@ ghost use Rattle.pep_tool.specs.Merge.{IsMerge};
 /// Inputs that demand the same have one text, whatever the order, the grouping and the repeats of their lines.
 pub fn one_text()
     ensures { (a b : List Input) (x y : List ℕ) → IsMerge a x → IsMerge b y → HaveSameDemands (Gathered a) (Gathered b) → x ≡ y }
+{}
+
+/// A line that a list has is a requirement, by the whole grammar of PEP 508.
+pub fn line_is_requirement()
+    ensures { (x : List ℕ) (r : RequirementParts) → ReadsLine x r → Reads x r }
 {}
 
 /// A line is one requirement at most.
