@@ -1,141 +1,143 @@
-// The printed ranges of clauses, with carries at the largest number.
-
-ghost use Rattle.std.specs.Prelude.{◌<◌, length, IfOk, IsTrue};
-ghost use Rattle.pep_clause.specs.Clause.{is_final};
-ghost use Rattle.pep_clause.specs.ClauseView.{IsStored};
-ghost use Rattle.pep_clause.specs.Valid.{IsPublic};
-ghost use Rattle.pep_version.specs.Version.{IsVersion};
+// Sets of clauses: their printed ranges, with carries at the largest number, and which versions they hold.
 
 use super::*;
-use crate::clause::Kind;
-use pep_version::Version;
+use pep_version::{Key, Version};
 use std::alloc::Global;
 use std::process::Abort;
 use std::test::*;
 
-fn version(alloc: Global, text: &str) -> Result<Version, ClauseFault>
-    ensures { IfOk result (λ v. IsVersion v) }
-{
-    let version = Version::read(alloc, text)?;
-    if version.release().is_empty() {
-        return Err(ClauseFault::BadVersion);
-    }
-    Ok(version)
+const OPERATORS: [&str; 8] = ["~=", "==", "!=", "<=", ">=", "<", ">", "==="];
+
+// What stands behind the operators, also with `.*`.
+const OPERANDS: [&str; 27] = [
+    "0",
+    "1.0",
+    "1.7",
+    "1.0a5",
+    "1.0rc1",
+    "1.0.dev1",
+    "1.0a1.dev1",
+    "1.0.post1",
+    "1.0.post1.dev3",
+    "1.0a1.post0",
+    "1.0+x",
+    "1.0+x.5",
+    "3.1",
+    "2.2.post3",
+    "2.2.0",
+    "1!0.dev0",
+    "18446744073709551615",
+    "1.18446744073709551615",
+    "18446744073709551615!18446744073709551615",
+    "1.0a18446744073709551615",
+    "1.0b18446744073709551615",
+    "1.0rc18446744073709551615",
+    "1.0.post18446744073709551615",
+    "1.0a1.post18446744073709551615",
+    "1.0.dev18446744073709551615",
+    "1.0a1.dev18446744073709551615",
+    "1.0.post1.dev18446744073709551615",
+];
+
+// Behind each operand, where that is a spelling: the operand itself, and versions near it.
+const ENDINGS: [&str; 6] = ["", ".dev0", ".post0", ".post0.dev0", "+a", ".0.1"];
+
+const CANDIDATES: [&str; 41] = [
+    // Each is below the next.
+    "0.dev0",
+    "0a0.dev0",
+    "0",
+    "0.0.1.dev0",
+    "1.0.dev1",
+    "1.0.dev2",
+    "1.0a1.dev1",
+    "1.0a1",
+    "1.0a1.post0.dev0",
+    "1.0a1.post0",
+    "1.0a2",
+    "1.0b1",
+    "1.0rc1",
+    "1.0",
+    "1.0+00a",
+    "1.0+0a",
+    "1.0+abc.5",
+    "1.0+abc.10",
+    "1.0+9",
+    "1.0+10",
+    "1.0+10.a",
+    "1.0.post1.dev3",
+    "1.0.post1",
+    "1.0.1",
+    "1.1.dev0",
+    "1!0.dev0",
+    // Where ranges begin or end beside the operands.
+    "0.dev1",
+    "1.0a0.dev0",
+    "1.0a0",
+    "1.0a1.dev2",
+    "1.0a1.post1.dev0",
+    "1.0a6.dev0",
+    "1.0b0.dev0",
+    "1.0rc0.dev0",
+    "1.0.post1.dev4",
+    "1.0.post2.dev0",
+    "1.8.dev0",
+    "2.dev0",
+    "2.2.post4.dev0",
+    "3.dev0",
+    "1!0.dev1",
+];
+
+fn set(alloc: Global, clause: &str) -> Result<VersionSet, ClauseFault> {
+    VersionSet::of(alloc, &Clause::read(alloc, clause)?)
 }
 
-fn public(alloc: Global, text: &str) -> Result<Version, ClauseFault>
-    ensures { IfOk result (λ v. IsPublic v) }
-{
-    let version = version(alloc, text)?;
-    if !version.label().is_empty() {
-        return Err(ClauseFault::LocalNotAllowed);
-    }
-    Ok(version)
-}
-
-fn prefix(alloc: Global, text: &str) -> Result<Version, ClauseFault>
-    ensures version { IfOk result (λ v. IsVersion v) }
-    ensures release { IfOk result (λ v. IsTrue (is_final v)) }
-{
-    let version = public(alloc, text)?;
-    if version.is_pre() || version.post().is_some() {
-        return Err(ClauseFault::StarNotAllowed);
-    }
-    Ok(version)
-}
-
-// The texts of the cuts of a clause's ranges are these.
-fn expect(rt: &impl Abort, alloc: Global, kind: Kind, wanted: &[&str]) -> Result<(), ClauseFault>
-    requires { IsStored kind }
-{
-    expect_cuts(rt, alloc, &VersionSet::of_kind(alloc, &kind)?, wanted)
-}
-
+// The texts of the cuts of the clause's ranges are these.
 fn expect_cuts(
     rt: &impl Abort,
     alloc: Global,
-    set: &VersionSet,
+    clause: &str,
     wanted: &[&str],
 ) -> Result<(), ClauseFault> {
+    let set = set(alloc, clause)?;
     let mut texts = Vec::new(alloc);
     for range in set.ranges() {
         texts.push(range.low().text(alloc)?)?;
         texts.push(range.high().text(alloc)?)?;
     }
-    assert_eq!(rt; texts.len(), wanted.len());
+    assert_eq!(rt; texts.len(), wanted.len(), "cuts of {clause}");
     for (text, want) in texts.iter().zip(wanted) {
-        assert_eq!(rt; text.as_str(), *want);
+        assert_eq!(rt; text.as_str(), *want, "a cut of {clause}");
     }
     Ok(())
 }
 
 #[test]
-fn compatible(rt: HostRuntime) -> Result<(), Fail> {
-    let alloc = rt.alloc();
-    let version = public(alloc, "1.4.5a4")?;
-    if version.release().len() > 1 {
-        let wanted = ["before 1.4.5a4", "before 1.5.dev0"];
-        expect(&rt, alloc, Kind::Compatible(version), &wanted)?;
-    }
-    Ok(())
-}
-
-#[test]
-fn prefixes(rt: HostRuntime) -> Result<(), Fail> {
-    let alloc = rt.alloc();
-    for (text, low, high) in [
+fn ranges_of_clauses(rt: HostRuntime) -> Result<(), Fail> {
+    for (clause, low, high) in [
+        ("~=1.4.5a4", "before 1.4.5a4", "before 1.5.dev0"),
         (
-            "1.18446744073709551615",
+            "==1.18446744073709551615.*",
             "before 1.18446744073709551615.dev0",
             "before 2.dev0",
         ),
         (
-            "18446744073709551615!18446744073709551615",
+            "==18446744073709551615!18446744073709551615.*",
             "before 18446744073709551615!18446744073709551615.dev0",
             "end",
         ),
+        ("==1.0+x", "before 1+x", "after 1+x"),
+        ("===1.0", "before 0.dev0", "end"),
+        ("!=0.dev0", "before 0.dev1", "end"),
+        ("<=1.0.post18446744073709551615", "before 0.dev0", "past 1"),
+        ("<1.0.post1", "before 0.dev0", "before 1.post1.dev0"),
+        (">1.7", "past 1.7", "end"),
+        (">1.0rc18446744073709551615", "before 1", "end"),
     ] {
-        let kind = Kind::MatchingPrefix(prefix(alloc, text)?);
-        expect(&rt, alloc, kind, &[low, high])?;
+        expect_cuts(&rt, rt.alloc(), clause, &[low, high])?;
     }
-    Ok(())
-}
-
-#[test]
-fn versions(rt: HostRuntime) -> Result<(), Fail> {
-    let alloc = rt.alloc();
-    let kind = Kind::Matching(version(alloc, "1.0+x")?);
-    expect(&rt, alloc, kind, &["before 1+x", "after 1+x"])?;
-    let kind = Kind::Arbitrary(String::from_str(alloc, "1.0")?);
-    expect(&rt, alloc, kind, &["before 0.dev0", "end"])?;
-    Ok(())
-}
-
-#[test]
-fn excluded(rt: HostRuntime) -> Result<(), Fail> {
-    let alloc = rt.alloc();
-    let kind = Kind::Excluding(version(alloc, "1.0")?);
-    let wanted = ["before 0.dev0", "before 1", "before 1.post0.dev0", "end"];
-    expect(&rt, alloc, kind, &wanted)?;
-    let kind = Kind::Excluding(version(alloc, "0.dev0")?);
-    expect(&rt, alloc, kind, &["before 0.dev1", "end"])?;
-    Ok(())
-}
-
-#[test]
-fn ordered(rt: HostRuntime) -> Result<(), Fail> {
-    let alloc = rt.alloc();
-    let kind = Kind::AtMost(public(alloc, "1.0.post18446744073709551615")?);
-    expect(&rt, alloc, kind, &["before 0.dev0", "past 1"])?;
-    let kind = Kind::LessThan(public(alloc, "1.0.post1")?);
-    expect(&rt, alloc, kind, &["before 0.dev0", "before 1.post1.dev0"])?;
-    for (text, low) in [
-        ("1.7", "past 1.7"),
-        ("1.0rc18446744073709551615", "before 1"),
-    ] {
-        let kind = Kind::GreaterThan(public(alloc, text)?);
-        expect(&rt, alloc, kind, &[low, "end"])?;
-    }
+    let outside = ["before 0.dev0", "before 1", "before 1.post0.dev0", "end"];
+    expect_cuts(&rt, rt.alloc(), "!=1.0", &outside)?;
     Ok(())
 }
 
@@ -143,10 +145,110 @@ fn ordered(rt: HostRuntime) -> Result<(), Fail> {
 #[test]
 fn none_between(rt: HostRuntime) -> Result<(), Fail> {
     let alloc = rt.alloc();
-    let above = VersionSet::of_kind(alloc, &Kind::GreaterThan(public(alloc, "1.0a5")?))?;
-    let below = VersionSet::of_kind(alloc, &Kind::LessThan(public(alloc, "1.0a6.dev0")?))?;
+    let above = set(alloc, ">1.0a5")?;
+    let below = set(alloc, "<1.0a6.dev0")?;
     let both = above.joined(alloc, &below)?;
     assert!(rt; both.is_empty() && both == VersionSet::none(alloc) && above != below);
-    expect_cuts(&rt, alloc, &both, &[])?;
+    assert!(rt; both.ranges().is_empty(), "no range is left");
+    Ok(())
+}
+
+fn clauses(alloc: Global) -> Result<Vec<Clause>, ClauseFault> {
+    let mut clauses = Vec::new(alloc);
+    for operator in OPERATORS {
+        for operand in OPERANDS {
+            for star in ["", ".*"] {
+                let text = format!(in alloc; "{operator}{operand}{star}")?;
+                if let Ok(clause) = Clause::read(alloc, text.as_str()) {
+                    clauses.push(clause)?;
+                }
+            }
+        }
+    }
+    Ok(clauses)
+}
+
+fn candidates(alloc: Global) -> Result<Vec<Version>, ClauseFault> {
+    let mut versions = Vec::new(alloc);
+    for text in CANDIDATES {
+        versions.push(Version::read(alloc, text)?)?;
+    }
+    for operand in OPERANDS {
+        for ending in ENDINGS {
+            let text = format!(in alloc; "{operand}{ending}")?;
+            if let Ok(version) = Version::read(alloc, text.as_str()) {
+                versions.push(version)?;
+            }
+        }
+    }
+    Ok(versions)
+}
+
+// The clause's set holds the versions that it admits; where it demands a text, all.
+fn expect_admitted(
+    rt: &impl Abort,
+    alloc: Global,
+    clause: &Clause,
+    versions: &[Version],
+) -> Result<(), ClauseFault> {
+    let set = VersionSet::of(alloc, clause)?;
+    let shown = clause.text(alloc)?;
+    for version in versions {
+        let is_held = set.contains(&Key::of(alloc, version)?);
+        let is_wanted = clause.exact_text().is_some() || clause.admits(alloc, version)?;
+        let candidate = version.text(alloc)?;
+        assert_eq!(rt; is_held, is_wanted, "{shown} at {candidate}");
+    }
+    Ok(())
+}
+
+#[test]
+fn sets_hold_what_clauses_admit(rt: HostRuntime) -> Result<(), Fail> {
+    let alloc = rt.alloc();
+    let (clauses, versions) = (clauses(alloc)?, candidates(alloc)?);
+    // `==` and `!=` take all 27 operands and 8 prefixes, `~=` the 21 of two numbers or more without a label, `===` all
+    // of both forms, the others the 25 without a label.
+    assert_eq!(rt;
+        clauses.len(),
+        2 * (27 + 8) + 21 + 2 * 27 + 4 * 25,
+        "clauses"
+    );
+    // 8 operands take all 6 endings, 5 pre-releases and 2 labels 5, 5 post-releases 3, 7 developmental releases 2.
+    assert_eq!(rt;
+        versions.len(),
+        41 + 8 * 6 + 7 * 5 + 5 * 3 + 7 * 2,
+        "candidates"
+    );
+    for clause in &clauses {
+        expect_admitted(&rt, alloc, clause, versions.as_slice())?;
+    }
+    Ok(())
+}
+
+#[test]
+fn joined_sets_hold_what_both_hold(rt: HostRuntime) -> Result<(), Fail> {
+    let alloc = rt.alloc();
+    let versions = candidates(alloc)?;
+    for (one, other) in [
+        ("!=1.0", "!=1.0a1.post0"),
+        (">=1.0a1.dev1", "!=1.0.*"),
+        ("!=1.0+x", "~=1.0rc1"),
+    ] {
+        let mut narrowed = set(alloc, one)?;
+        let (first, second) = (set(alloc, one)?, set(alloc, other)?);
+        let both = first.joined(alloc, &second)?;
+        narrowed.narrow(alloc, &second)?;
+        assert!(rt; narrowed == both, "{one} narrowed by {other}");
+        for version in &versions {
+            let key = Key::of(alloc, version)?;
+            let is_wanted = first.contains(&key) && second.contains(&key);
+            let candidate = version.text(alloc)?;
+            assert_eq!(rt;
+                both.contains(&key),
+                is_wanted,
+                "{one},{other} at {candidate}"
+            );
+        }
+    }
     Ok(())
 }

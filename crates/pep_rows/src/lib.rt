@@ -12,4 +12,6 @@ mod lists;
 #[cfg(test)]
 mod names;
 #[cfg(test)]
+mod operators;
+#[cfg(test)]
 mod streams;
