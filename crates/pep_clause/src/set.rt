@@ -191,7 +191,7 @@ impl VersionSet {
     }
 
     /// The versions that the clause of this kind admits; all versions where it demands a text.
-    pub(crate) fn of_kind(alloc: Global, kind: &Kind) -> Result<VersionSet, ClauseFault>
+    fn of_kind(alloc: Global, kind: &Kind) -> Result<VersionSet, ClauseFault>
         requires { IsStored kind.now }
         ensures list { IfOk result (λ s. s ≡ set_of (clause_of kind.now)) }
         ensures faults { IfErr result (λ e. e ≡ ClauseFault.NoMemory) }
