@@ -225,30 +225,37 @@ fn sets_hold_what_clauses_admit(rt: HostRuntime) -> Result<(), Fail> {
     Ok(())
 }
 
+// The set of both clauses holds the versions that the sets of both hold.
+fn expect_joined(
+    rt: &impl Abort,
+    alloc: Global,
+    clauses: (&str, &str),
+    keys: &[Key],
+) -> Result<(), ClauseFault> {
+    let (mut first, second) = (set(alloc, clauses.0)?, set(alloc, clauses.1)?);
+    let both = first.joined(alloc, &second)?;
+    for key in keys {
+        let is_wanted = first.contains(key) && second.contains(key);
+        assert_eq!(rt; both.contains(key), is_wanted, "{clauses:?}");
+    }
+    first.narrow(alloc, &second)?;
+    assert!(rt; first == both, "{clauses:?}");
+    Ok(())
+}
+
 #[test]
 fn joined_sets_hold_what_both_hold(rt: HostRuntime) -> Result<(), Fail> {
     let alloc = rt.alloc();
-    let versions = candidates(alloc)?;
-    for (one, other) in [
+    let mut keys = Vec::new(alloc);
+    for version in &candidates(alloc)? {
+        keys.push(Key::of(alloc, version)?)?;
+    }
+    for clauses in [
         ("!=1.0", "!=1.0a1.post0"),
         (">=1.0a1.dev1", "!=1.0.*"),
         ("!=1.0+x", "~=1.0rc1"),
     ] {
-        let mut narrowed = set(alloc, one)?;
-        let (first, second) = (set(alloc, one)?, set(alloc, other)?);
-        let both = first.joined(alloc, &second)?;
-        narrowed.narrow(alloc, &second)?;
-        assert!(rt; narrowed == both, "{one} narrowed by {other}");
-        for version in &versions {
-            let key = Key::of(alloc, version)?;
-            let is_wanted = first.contains(&key) && second.contains(&key);
-            let candidate = version.text(alloc)?;
-            assert_eq!(rt;
-                both.contains(&key),
-                is_wanted,
-                "{one},{other} at {candidate}"
-            );
-        }
+        expect_joined(&rt, alloc, clauses, keys.as_slice())?;
     }
     Ok(())
 }
