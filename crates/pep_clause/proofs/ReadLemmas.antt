@@ -21,14 +21,7 @@ use Rattle.pep_clause.specs.declared.op.Op.{Op}
 use Rattle.pep_clause.specs.declared.op.Op.TheVariants as op
 use Rattle.pep_clause.specs.Clause.{Clause, TargetAnswers, VersionAnswers, ends_in_space, is_clause_byte, is_demanded_text, operator_of, operator_text, prefix_answer, version_answer}
 use Rattle.pep_clause.specs.OperatorLaws.{operator_shape}
-
-pub and-first : (a b : Bool) → (a && b) ≡ true → a ≡ true
-and-first true b h = refl
-and-first false b h = h
-
-pub and-second : (a b : Bool) → (a && b) ≡ true → b ≡ true
-and-second true b h = h
-and-second false b h = cc h
+use Rattle.pep_version.specs.Conjunction.{and-first, and-second}
 
 or-true : (a : Bool) → (a || true) ≡ true
 or-true true = refl

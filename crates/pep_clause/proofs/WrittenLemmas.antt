@@ -10,21 +10,21 @@ use Rattle.std.specs.Char.{is_ascii_uppercase, to_ascii_lowercase}
 use Rattle.std.specs.List.{ends_with, list_all}
 use Rattle.std.specs.Prelude.{if◌then◌else◌, nat_eq, nat_lt}
 use Rattle.std.specs.Str.{str_to_ascii_lowercase}
-use Rattle.pep_version.specs.declared.fault.VersionFault.{VersionFault}
 use Rattle.pep_version.specs.SpelledLaws.{spelled-version}
-use Rattle.pep_version.specs.Spelling.{Reads, is_white_space, trimmed, without_leading_space, without_trailing_space}
+use Rattle.pep_version.specs.Conjunction.{and-first, and-second}
+use Rattle.pep_version.specs.Spelling.{Reads, trimmed}
 use Rattle.pep_version.specs.Text.{is_text_byte, normal_text}
 use Rattle.pep_version.specs.Version.{IsVersion, Segment, Version, is_empty}
 use Rattle.pep_clause.specs.declared.fault.ClauseFault.{ClauseFault}
 use Rattle.pep_clause.specs.declared.fault.ClauseFault.TheVariants as fault
 use Rattle.pep_clause.specs.declared.op.Op.{Op}
 use Rattle.pep_clause.specs.declared.op.Op.TheVariants as op
-use Rattle.pep_clause.specs.Clause.{Clause, ClauseOf, IsClause, Prefix, PrefixAnswers, ReadsClauseAs, ReadsThen, TargetAnswers, VersionAnswers, compatible, matching, matching_prefix, excluding, excluding_prefix, at_most, at_least, less_than, greater_than, arbitrary, arbitrary_of, clause_text, ends_in_space, fault_of, is_clause_byte, is_demanded_text, is_final, operator_of, operator_text, prefix_answer, prefix_clause, prefix_of, prefix_text, version_answer, version_clause}
+use Rattle.pep_clause.specs.Clause.{Clause, IsClause, Prefix, PrefixAnswers, ReadsClauseAs, ReadsThen, TargetAnswers, VersionAnswers, compatible, matching, matching_prefix, excluding, excluding_prefix, at_most, at_least, less_than, greater_than, arbitrary, arbitrary_of, clause_text, ends_in_space, fault_of, is_clause_byte, is_demanded_text, is_final, operator_of, operator_text, prefix_answer, prefix_clause, prefix_of, prefix_text, version_answer, version_clause}
 use Rattle.pep_clause.specs.Cut.{final_version}
 use Rattle.pep_clause.specs.Valid.{IsPrefix, IsValidClause}
 use Rattle.pep_clause.specs.OneAnswer.{one-clause-of}
-use Rattle.pep_clause.specs.Written.{clause-ink, ink-end, ink-front, ink-trimmed, is_ink, not-white, operator-found, weaker, written}
-use Rattle.pep_clause.proofs.ReadLemmas.{and-first, and-second, lower-demanded}
+use Rattle.pep_clause.specs.Written.{clause-ink, ink-end, is_ink, not-white, weaker, written}
+use Rattle.pep_clause.proofs.ReadLemmas.{lower-demanded}
 
 -- ---- one clause
 

@@ -1,22 +1,15 @@
 -- An operator with what stands behind it is read as that: no white space is to be dropped, and no longer operator begins
 -- the text.
-use Rattle.std.proofs.Common.{◌≡◌, ◌&&◌, ◌==◌, ℕ, Bool, true, false, not, List, [], ◌∷◌, ◌++◌, Option, Some, None, Ok, length, drop, refl, sym, ap, subst, ◌∙◌, arith}
+use Rattle.std.proofs.Common.{◌≡◌, ◌==◌, ℕ, Bool, true, false, not, List, [], ◌∷◌, ◌++◌, Some, Ok, length, drop, refl, sym, ap, subst, ◌∙◌, arith}
 use Rattle.std.proofs.Math.Seq.{drop-append_seam}
 use Rattle.std.proofs.lemmas.Bool.Decides.{nat_tests}
 use Rattle.std.proofs.lemmas.List.Folds.{list_all-append}
 use Rattle.std.specs.List.{list_all}
+use Rattle.pep_version.specs.Conjunction.{and-first, and-second}
 use Rattle.pep_version.specs.Spelling.{is_white_space, trimmed, without_leading_space, without_trailing_space}
 use Rattle.pep_clause.specs.declared.op.Op.{Op}
 use Rattle.pep_clause.specs.declared.op.Op.TheVariants as op
 use Rattle.pep_clause.specs.Clause.{Clause, ClauseOf, IsClause, IsClauseOf, ReadsClauseAs, TargetAnswers, is_clause_byte, operator_of, operator_text}
-
-and_first : (a b : Bool) → (a && b) ≡ true → a ≡ true
-and_first true b h = refl
-and_first false b h = h
-
-and_second : (a b : Bool) → (a && b) ≡ true → b ≡ true
-and_second true b h = h
-and_second false b h = cc h
 
 abbrev pub is_ink : ℕ → Bool
 is_ink b = not (is_white_space b)
@@ -27,20 +20,20 @@ not-white false h = refl
 
 pub ink-front : (xs : List ℕ) → list_all is_ink xs ≡ true → without_leading_space xs ≡ xs
 ink-front [] h = refl
-ink-front (x ∷ xs) h = rw (not-white (is_white_space x) (and_first (is_ink x) (list_all is_ink xs) h)) refl
+ink-front (x ∷ xs) h = rw (not-white (is_white_space x) (and-first (is_ink x) (list_all is_ink xs) h)) refl
 
 pub ink-end : (xs : List ℕ) → list_all is_ink xs ≡ true → without_trailing_space xs ≡ xs
 ink-end [] h = refl
 ink-end (x ∷ xs) h =
-    let more = ink-end xs (and_second (is_ink x) (list_all is_ink xs) h) in
-    rw (not-white (is_white_space x) (and_first (is_ink x) (list_all is_ink xs) h)) (ap (λ (l : List ℕ). x ∷ l) more)
+    let more = ink-end xs (and-second (is_ink x) (list_all is_ink xs) h) in
+    rw (not-white (is_white_space x) (and-first (is_ink x) (list_all is_ink xs) h)) (ap (λ (l : List ℕ). x ∷ l) more)
 
 pub ink-trimmed : (xs : List ℕ) → list_all is_ink xs ≡ true → trimmed xs ≡ xs
 ink-trimmed xs h = ap without_trailing_space (ink-front xs h) ∙ ink-end xs h
 
 pub weaker : (p q : ℕ → Bool) → ((b : ℕ) → p b ≡ true → q b ≡ true) → (xs : List ℕ) → list_all p xs ≡ true → list_all q xs ≡ true
 weaker p q w [] h = refl
-weaker p q w (x ∷ xs) h = rw (w x (and_first (p x) (list_all p xs) h)) (weaker p q w xs (and_second (p x) (list_all p xs) h))
+weaker p q w (x ∷ xs) h = rw (w x (and-first (p x) (list_all p xs) h)) (weaker p q w xs (and-second (p x) (list_all p xs) h))
 
 pub clause-ink : (b : ℕ) → is_clause_byte b ≡ true → is_ink b ≡ true
 clause-ink b h = grind (arith, nat_tests)
@@ -62,14 +55,14 @@ operator-ink op.Exact = refl
 pub operator-found : (o : Op) (x : List ℕ) → list_all is_clause_byte x ≡ true → operator_of (operator_text o ++ x) ≡ Some o
 operator-found op.Compatible x h = refl
 operator-found op.Equal [] h = refl
-operator-found op.Equal (b ∷ x) h = let apart = clause-not-equal b (and_first (is_clause_byte b) (list_all is_clause_byte x) h) in rw apart refl
+operator-found op.Equal (b ∷ x) h = let apart = clause-not-equal b (and-first (is_clause_byte b) (list_all is_clause_byte x) h) in rw apart refl
 operator-found op.NotEqual x h = refl
 operator-found op.AtMost x h = refl
 operator-found op.AtLeast x h = refl
 operator-found op.Less [] h = refl
-operator-found op.Less (b ∷ x) h = let apart = clause-not-equal b (and_first (is_clause_byte b) (list_all is_clause_byte x) h) in rw apart refl
+operator-found op.Less (b ∷ x) h = let apart = clause-not-equal b (and-first (is_clause_byte b) (list_all is_clause_byte x) h) in rw apart refl
 operator-found op.More [] h = refl
-operator-found op.More (b ∷ x) h = let apart = clause-not-equal b (and_first (is_clause_byte b) (list_all is_clause_byte x) h) in rw apart refl
+operator-found op.More (b ∷ x) h = let apart = clause-not-equal b (and-first (is_clause_byte b) (list_all is_clause_byte x) h) in rw apart refl
 operator-found op.Exact x h = refl
 
 -- an operator and what is read behind it

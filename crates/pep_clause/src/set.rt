@@ -1,6 +1,6 @@
 // Sets of versions.
 
-ghost use Rattle.std.specs.Prelude.{◌≡◌, ◌&&◌, ◌↔◌, ◌++◌, ◌-◌, [], length, take, IfErr, IfOk, IsSome, IsTrue, None, OnOk};
+ghost use Rattle.std.specs.Prelude.{◌≡◌, ◌&&◌, ◌↔◌, ◌++◌, ◌-◌, [], length, take, IfErr, IfOk, IsSome, IsTrue, None, OnErr, OnOk};
 ghost use Rattle.std.specs.Cmp.{partial_equiv_from_equiv};
 ghost use Rattle.std.specs.declared.cmp.Ordering.TheVariants.{Less};
 ghost use Rattle.pep_version.specs.Version.{IsVersion, Version};
@@ -249,12 +249,13 @@ impl VersionSet {
         Ok(VersionSet { ranges })
     }
 
-    /// Keeps the versions that are in the other set too. The only fault is `NoMemory`.
+    /// Keeps the versions that are in the other set too. The only fault is `NoMemory`, and then the set is as it was.
     pub fn narrow(&mut self, alloc: Global, other: &VersionSet) -> Result<(), ClauseFault>
         ensures points { OnOk result ((c : Cut) → is_point self.new c ≡ (is_point self.old c && is_point other.now c)) }
         ensures versions { OnOk result ((v : Version) → is_in self.new v ≡ (is_in self.old v && is_in other.now v)) }
         ensures normal { OnOk result (IsNormal self.new) }
         ensures inhabited { OnOk result (HasVersionUnlessEmpty self.new) }
+        ensures kept { OnErr result (self.new ≡ self.old) }
         ensures faults { IfErr result (λ e. e ≡ ClauseFault.NoMemory) }
     {
         if !are_within(self.ranges.as_slice(), other.ranges.as_slice()) {

@@ -5,15 +5,8 @@ use Rattle.std.proofs.lemmas.List.{drop_more, take-append-drop}
 use Rattle.std.proofs.lemmas.List.Splits.{slice_split_at, slice_split_none}
 use Rattle.std.specs.List.{All, list_all, prefix_len, slice_split}
 use Rattle.std.specs.Str.{IsAscii}
+use Rattle.pep_version.specs.Conjunction.{and-first as and_first, and-second as and_second}
 use Rattle.pep_marker.specs.Marker.{begins}
-
-pub and_first : (a b : Bool) → (a && b) ≡ true → a ≡ true
-and_first true b e = refl
-and_first false b e = e
-
-pub and_second : (a b : Bool) → (a && b) ≡ true → b ≡ true
-and_second true b e = e
-and_second false b e = cc e
 
 -- the run of a list that is a run and then something that does not begin with an element of the class
 pub prefix_len-span : (p : ℕ → Bool) (a b : List ℕ) → list_all p a ≡ true → begins p b ≡ false → prefix_len p (a ++ b) ≡ length a

@@ -54,7 +54,7 @@ Asks (word ∷ rest) r = (fault_of program (word ∷ rest) ≡ [])
 abbrev pub AskNothing : List Text → Type 0
 AskNothing words = (r : Request) → ¬ Asks words r
 
--- the fault of words that are refused, with a text of clap's
+-- the fault of words that are refused, with some text
 abbrev pub IsOfWords : Cause → Type 0
 IsOfWords (cause.BadWords text) = ⊤
 IsOfWords _ = ⊥

@@ -12,7 +12,8 @@ use Rattle.pep_version.specs.Cut.{lower}
 use Rattle.pep_version.specs.Reading.{behind, front, goes_on, release_behind, release_front, starts_digit, stripped}
 use Rattle.pep_version.specs.Spelling.{is_run, is_separator, segment_of_run, separated_parts}
 use Rattle.pep_version.specs.Version.{Segment, SegmentFits, number, is_empty, is_word_byte, word}
-use Rattle.pep_version.proofs.Readers.{and-first, and-second, behind-append, front-append}
+use Rattle.pep_version.specs.Conjunction.{and-first, and-second}
+use Rattle.pep_version.proofs.Readers.{behind-append, front-append}
 
 pub is_empty_lower : (xs : List ℕ) → is_empty (lower xs) ≡ (length xs == 0)
 is_empty_lower [] = refl

@@ -10,7 +10,8 @@ use Rattle.pep_version.specs.declared.parts.Phase.{Phase}
 use Rattle.pep_version.specs.declared.parts.Phase.TheVariants.{Alpha, Beta, Rc}
 use Rattle.pep_version.specs.Version.{Segment, Version}
 use Rattle.pep_version.specs.Spelling.{DevSpelling, EpochSpelling, IsOneOf, IsOptionalSeparator, LabelSpelling, PostSpelling, PreSpelling, PrecedingVSpelling, SpellsAny, dotted_parts, is_number, is_separator, pre_words, trimmed}
-use Rattle.pep_version.proofs.Readers.{and-first, and-second, behind-append, front-append, may_follow}
+use Rattle.pep_version.specs.Conjunction.{and-first, and-second}
+use Rattle.pep_version.proofs.Readers.{behind-append, front-append, may_follow}
 use Rattle.pep_version.proofs.Suffixes.{suffix-read, tail-worded}
 use Rattle.pep_version.proofs.Tails.{Tail, digits-all, digits-start, whole-of}
 use Rattle.pep_version.specs.Reading.{bang, behind, epoch_taken, from_epoch, read_epoch, read_label, read_label_text, read_suffix, read_version, release_behind, release_front, passes, behind_epoch, is_label_text, starts_digit, with_suffix, without_separator, without_v}

@@ -1,20 +1,12 @@
 -- What a text spells is a version.
-use Rattle.std.proofs.Common.{◌≡◌, ◌<◌, ◌&&◌, ◌||◌, ℕ, Bool, true, false, List, [], ◌∷◌, length, map, refl, sym, subst, arith, inl, inr}
+use Rattle.std.proofs.Common.{◌≡◌, ◌<◌, ◌||◌, ℕ, Bool, true, false, List, [], ◌∷◌, length, map, refl, sym, subst, arith, inl, inr}
 use Rattle.std.proofs.lemmas.Bool.{cases_Bool}
 use Rattle.std.specs.Char.{is_ascii_digit, is_ascii_lowercase}
 use Rattle.std.specs.List.{AllByRecursion, list_all, list_any}
 use Rattle.std.specs.Str.Parse.{digits_value}
+use Rattle.pep_version.specs.Conjunction.{and-first, and-second}
 use Rattle.pep_version.specs.Spelling.{LabelSpelling, Spells, dotted_parts, is_run, segment_of_run, separated_parts}
 use Rattle.pep_version.specs.Version.{IsSegment, IsVersion, Segment, Version, is_word, is_word_byte}
-
--- both tests of a conjunction hold
-and-first : (a b : Bool) → (a && b) ≡ true → a ≡ true
-and-first true b h = refl
-and-first false b h = h
-
-and-second : (a b : Bool) → (a && b) ≡ true → b ≡ true
-and-second true b h = h
-and-second false b h = cc h
 
 letter-or-digit : (b : ℕ) → is_word_byte b ≡ true → is_ascii_digit b ≡ false → is_ascii_lowercase b ≡ true
 letter-or-digit b h n = grind arith

@@ -96,8 +96,8 @@ impl Key {
         })
     }
 
-    /// The place of a final release, or of its developmental release of this number (PEP 440, "Final releases",
-    /// "Developmental releases"). The only fault is `NoMemory`.
+    /// The place of a final release, which has a number at least, or of its developmental release of this number (PEP
+    /// 440, "Final releases", "Developmental releases"). The only fault is `NoMemory`.
     pub fn of_release(
         alloc: Global,
         epoch: u64,
