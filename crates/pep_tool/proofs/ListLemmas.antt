@@ -1,8 +1,9 @@
 -- The lines of a list, and what they give.
-use Rattle.std.proofs.Common.{◌≡◌, ◌≢◌, ℕ, zero, suc, ◌+◌, ◌<◌, ◌≤◌, false, not, List, [], ◌∷◌, ◌++◌, length, length-append, map, refl, sym, ap, subst, ◌∙◌, arith, inl, inr, append_assoc, append-nil, Option, Some, None}
+use Rattle.std.proofs.Common.{◌≡◌, ◌≢◌, ℕ, zero, suc, ◌+◌, ◌<◌, ◌≤◌, ◌==◌, ◌⊎◌, Bool, true, cond, false, not, List, [], ◌∷◌, ◌++◌, length, length-append, map, refl, sym, ap, subst, ◌∙◌, arith, inl, inr, append_assoc, append-nil, Option, Some, None}
 use Rattle.std.specs.Borrow.{Bor}
-use Rattle.std.specs.Prelude.{IfSome, slice_index_or, filter, IsUtf8}
-use Rattle.std.specs.List.{All, AllByRecursion, AllZip}
+use Rattle.std.specs.Prelude.{IfSome, IsSome, slice_index_or, filter, IsUtf8}
+use Rattle.std.specs.List.{All, AllByRecursion, AllZip, onto_first}
+use Rattle.std.proofs.lemmas.Bool.{cases_lt}
 use Rattle.std.proofs.lemmas.List.{map-append}
 use Rattle.std.proofs.lemmas.List.Elements.{filter-append}
 use Rattle.pep_require.specs.Reads.{line_limit}
@@ -15,40 +16,10 @@ use Rattle.pep_tool.specs.declared.fault.LineFault.{LineFault}
 use Rattle.pep_tool.specs.declared.fault.LineFault.TheVariants as line_fault
 use Rattle.pep_tool.specs.Line.{ReadsLine, RefusesLine}
 use Rattle.pep_tool.specs.Lists.{IsListOf, content, input_limit, is_skipped, lines_of, requirement_lines}
-use Rattle.pep_tool.specs.Sets.{Gathers, HasClause, IsGathered, IsGoodLine, LineGives, LineParts, LinesGive, ListGives, MergesLine, MergesList, Pair, RefusesList, Sets, SpoilsLine, line_requirement, pairs_of}
+use Rattle.pep_tool.specs.Refusal.{IsNumbered, IsRefusedLine, IsRefusedList}
+use Rattle.pep_tool.specs.Refusal.{by_content, by_encoding, by_length, by_line, by_size}
+use Rattle.pep_tool.specs.Sets.{Gathers, HasClause, IsGathered, IsGoodLine, IsReadOf, LineGives, LineParts, LinesGive, ListGives, MergesLine, MergesList, Pair, RefusesLineBytes, RefusesList, Sets, left_parts, line_requirement, pairs_of}
 use Rattle.pep_tool.proofs.LineLemmas.{line_refused}
-
--- ---- one line
-
-spoils_by : (line : List ℕ) (f : RequireFault) → is_skipped (content line) ≡ false → RefusesLine (content line) f → f ≢ fault.NoMemory → ¬ IsGoodLine line
-spoils_by line f seen h other good = let r = good.requirement seen in line_refused (content line) f r.0 other h r.1
-
--- a line whose content is refused is no line of a list
-pub spoils_line : (line : List ℕ) (f : RequireFault) → is_skipped (content line) ≡ false → RefusesLine (content line) f → SpoilsLine line (line_fault.Requirement f)
-spoils_line line fault.NoMemory seen h = tt
-spoils_line line (fault.BadClause g) seen h = spoils_by line (fault.BadClause g) seen h (λ e. cc e)
-spoils_line line (fault.BadMarker g) seen h = spoils_by line (fault.BadMarker g) seen h (λ e. cc e)
-spoils_line line fault.BadName seen h = spoils_by line fault.BadName seen h (λ e. cc e)
-spoils_line line fault.BadExtras seen h = spoils_by line fault.BadExtras seen h (λ e. cc e)
-spoils_line line fault.BadUrl seen h = spoils_by line fault.BadUrl seen h (λ e. cc e)
-spoils_line line fault.Trailing seen h = spoils_by line fault.Trailing seen h (λ e. cc e)
-spoils_line line fault.OptionLine seen h = spoils_by line fault.OptionLine seen h (λ e. cc e)
-spoils_line line fault.LineTooLong seen h = spoils_by line fault.LineTooLong seen h (λ e. cc e)
-spoils_line line fault.UrlOverflow seen h = spoils_by line fault.UrlOverflow seen h (λ e. cc e)
-
--- a fault of a line that is no want of memory
-pub spoiled : (line : List ℕ) (f : LineFault) → f ≢ line_fault.Requirement fault.NoMemory → SpoilsLine line f → ¬ IsGoodLine line
-spoiled line (line_fault.Requirement fault.NoMemory) other h = absurd (other refl)
-spoiled line (line_fault.Requirement (fault.BadClause g)) other h = h
-spoiled line (line_fault.Requirement (fault.BadMarker g)) other h = h
-spoiled line (line_fault.Requirement fault.BadName) other h = h
-spoiled line (line_fault.Requirement fault.BadExtras) other h = h
-spoiled line (line_fault.Requirement fault.BadUrl) other h = h
-spoiled line (line_fault.Requirement fault.Trailing) other h = h
-spoiled line (line_fault.Requirement fault.OptionLine) other h = h
-spoiled line (line_fault.Requirement fault.LineTooLong) other h = h
-spoiled line (line_fault.Requirement fault.UrlOverflow) other h = h
-spoiled line line_fault.NotUtf8 other h = h
 
 -- ---- lines in turn
 
@@ -137,67 +108,198 @@ line_of_list bytes done line left rs e s =
 
 -- ---- refusals
 
-pub too_large_refused : (bytes : List ℕ) (f : Cause) → (length bytes ≤ input_limit → ⊥) → RefusesList bytes f
-too_large_refused bytes cause.NoMemory big = tt
-too_large_refused bytes cause.TooLarge big = λ rs s. big s.size
-too_large_refused bytes (cause.Line n f) big = λ rs s. big s.size
-too_large_refused bytes cause.ReadFault big = λ rs s. big s.size
-too_large_refused bytes (cause.BadWords w) big = λ rs s. big s.size
-too_large_refused bytes (cause.BadArgument f) big = λ rs s. big s.size
-too_large_refused bytes cause.WriteFault big = λ rs s. big s.size
+-- a line that is refused is none that a list may have
+spoiled : (line : List ℕ) (f : LineFault) → IsRefusedLine line f → ¬ IsGoodLine line
+spoiled line f (by_length long e) good = absurd (omega (arith, long, good.short))
+spoiled line f (by_encoding short other e) good = other good.text
+spoiled line f (by_content g short text seen known refuses e) good =
+    let r = good.requirement seen in line_refused (content line) g r.0 known refuses r.1
 
-cause_refused : (bytes : List ℕ) (n : ℕ) (f : LineFault) (c : Cause) → f ≢ line_fault.Requirement fault.NoMemory →
-    (f ≢ line_fault.Requirement fault.NoMemory → c ≡ cause.Line n f) → ((rs : List RequirementParts) → ¬ IsListOf bytes rs) → RefusesList bytes c
-cause_refused bytes n f c other line never = subst (RefusesList bytes) (sym (line other)) never
+-- bytes that are refused as a list are none
+pub refused_list : (bytes : List ℕ) (c : Cause) → IsRefusedList bytes c → (rs : List RequirementParts) → ¬ IsListOf bytes rs
+refused_list bytes c (by_size large e) rs s = absurd (omega (arith, large, s.size))
+refused_list bytes c (by_line number line f at refused e) rs s =
+    spoiled line f refused (line_of_list bytes at.before line at.behind rs at.whole s)
 
--- a line that no list has refuses every list with it
-pub line_spoils_list : (bytes : List ℕ) (done : List (List ℕ)) (line : List ℕ) (left : List (List ℕ)) (n : ℕ) (f : LineFault) (c : Cause) →
-    lines_of bytes ≡ done ++ line ∷ left → SpoilsLine line f → (f ≡ line_fault.Requirement fault.NoMemory → c ≡ cause.NoMemory) →
-    (f ≢ line_fault.Requirement fault.NoMemory → c ≡ cause.Line n f) → RefusesList bytes c
-line_spoils_list bytes done line left n f c e h memory other = by f h memory other
+known : (f : RequireFault) → (f ≡ fault.NoMemory) ⊎ (f ≢ fault.NoMemory)
+known fault.NoMemory = inl refl
+known (fault.BadClause g) = inr (λ e. cc e)
+known (fault.BadMarker g) = inr (λ e. cc e)
+known fault.BadName = inr (λ e. cc e)
+known fault.BadExtras = inr (λ e. cc e)
+known fault.BadUrl = inr (λ e. cc e)
+known fault.Trailing = inr (λ e. cc e)
+known fault.OptionLine = inr (λ e. cc e)
+known fault.LineTooLong = inr (λ e. cc e)
+known fault.UrlOverflow = inr (λ e. cc e)
+
+-- a fault of a line is no want of memory
+line_known : (line : List ℕ) (f : LineFault) → IsRefusedLine line f → f ≢ line_fault.Requirement fault.NoMemory
+line_known line f (by_length long e) memory = cc (e, memory)
+line_known line f (by_encoding short other e) memory = cc (e, memory)
+line_known line f (by_content g short text seen known refuses e) memory = known (cc (e, memory))
+
+-- a line whose content is refused
+pub content_refuses : (line : List ℕ) (f : RequireFault) → length line ≤ line_limit → IsUtf8 line → is_skipped (content line) ≡ false →
+    RefusesLine (content line) f → RefusesLineBytes line (line_fault.Requirement f)
+content_refuses line f short text seen refuses = by (known f)
   where
-    never : (g : LineFault) → g ≢ line_fault.Requirement fault.NoMemory → SpoilsLine line g → (rs : List RequirementParts) → ¬ IsListOf bytes rs
-    never g apart spoils rs s = spoiled line g apart spoils (line_of_list bytes done line left rs e s)
+    by : (f ≡ fault.NoMemory) ⊎ (f ≢ fault.NoMemory) → RefusesLineBytes line (line_fault.Requirement f)
+    by (inl memory) = inl (ap line_fault.Requirement memory)
+    by (inr other) = inr (by_content f short text seen other refuses refl)
 
-    refused : (g : LineFault) → g ≢ line_fault.Requirement fault.NoMemory → SpoilsLine line g → (g ≢ line_fault.Requirement fault.NoMemory → c ≡ cause.Line n g) → RefusesList bytes c
-    refused g apart spoils told = cause_refused bytes n g c apart told (never g apart spoils)
+-- the cause of a fault of a line
+pub line_refuses : (bytes line : List ℕ) (number : ℕ) (f : LineFault) (c : Cause) → IsNumbered (lines_of bytes) number line →
+    RefusesLineBytes line f → (f ≡ line_fault.Requirement fault.NoMemory → c ≡ cause.NoMemory) →
+    (f ≢ line_fault.Requirement fault.NoMemory → c ≡ cause.Line number f) → RefusesList bytes c
+line_refuses bytes line number f c at (inl memory) none told = inl (none memory)
+line_refuses bytes line number f c at (inr refused) none told =
+    inr (by_line number line f at refused (told (line_known line f refused)))
 
-    by : (g : LineFault) → SpoilsLine line g → (g ≡ line_fault.Requirement fault.NoMemory → c ≡ cause.NoMemory) →
-        (g ≢ line_fault.Requirement fault.NoMemory → c ≡ cause.Line n g) → RefusesList bytes c
-    by (line_fault.Requirement fault.NoMemory) spoils none told = subst (RefusesList bytes) (sym (none refl)) tt
-    by (line_fault.Requirement (fault.BadClause g)) spoils none told = refused (line_fault.Requirement (fault.BadClause g)) (λ q. cc q) spoils told
-    by (line_fault.Requirement (fault.BadMarker g)) spoils none told = refused (line_fault.Requirement (fault.BadMarker g)) (λ q. cc q) spoils told
-    by (line_fault.Requirement fault.BadName) spoils none told = refused (line_fault.Requirement fault.BadName) (λ q. cc q) spoils told
-    by (line_fault.Requirement fault.BadExtras) spoils none told = refused (line_fault.Requirement fault.BadExtras) (λ q. cc q) spoils told
-    by (line_fault.Requirement fault.BadUrl) spoils none told = refused (line_fault.Requirement fault.BadUrl) (λ q. cc q) spoils told
-    by (line_fault.Requirement fault.Trailing) spoils none told = refused (line_fault.Requirement fault.Trailing) (λ q. cc q) spoils told
-    by (line_fault.Requirement fault.OptionLine) spoils none told = refused (line_fault.Requirement fault.OptionLine) (λ q. cc q) spoils told
-    by (line_fault.Requirement fault.LineTooLong) spoils none told = refused (line_fault.Requirement fault.LineTooLong) (λ q. cc q) spoils told
-    by (line_fault.Requirement fault.UrlOverflow) spoils none told = refused (line_fault.Requirement fault.UrlOverflow) (λ q. cc q) spoils told
-    by line_fault.NotUtf8 spoils none told = refused line_fault.NotUtf8 (λ q. cc q) spoils told
+-- the cause of a list that goes on behind its largest size
+cut_refuses : (bytes line : List ℕ) (number : ℕ) (c : Cause) → input_limit < length bytes →
+    ((longer : List ℕ) × IsNumbered (lines_of bytes) number longer × (length line ≤ length longer)) →
+    (line_limit < length line → c ≡ cause.Line number (line_fault.Requirement fault.LineTooLong)) →
+    (length line ≤ line_limit → c ≡ cause.TooLarge) → RefusesList bytes c
+cut_refuses bytes line number c large at long fits = by (cases_lt line_limit (length line))
+  where
+    by : (line_limit < length line) ⊎ (length line ≤ line_limit) → RefusesList bytes c
+    by (inl more) = inr (by_line number at.0 (line_fault.Requirement fault.LineTooLong) at.1 (by_length (omega (arith, more, at.2)) refl) (long more))
+    by (inr less) = inr (by_size large (fits less))
+
+-- ---- the lines of a text that goes on
+
+-- the parts of a text that goes on with these parts: the last part and the first one are one
+with_parts : List (List ℕ) → List (List ℕ) → List (List ℕ)
+with_parts [] more = more
+with_parts (a ∷ []) [] = a ∷ []
+with_parts (a ∷ []) (b ∷ more) = (a ++ b) ∷ more
+with_parts (a ∷ b ∷ parts) more = a ∷ with_parts (b ∷ parts) more
+
+onto_first-with_parts : (x : ℕ) (parts more : List (List ℕ)) → parts ≢ [] → with_parts (onto_first x parts) more ≡ onto_first x (with_parts parts more)
+unfolding with_parts
+onto_first-with_parts x [] more some = absurd (some refl)
+onto_first-with_parts x (a ∷ []) [] some = refl
+onto_first-with_parts x (a ∷ []) (b ∷ more) some = refl
+onto_first-with_parts x (a ∷ b ∷ parts) more some = refl
+
+new-with_parts : (parts more : List (List ℕ)) → parts ≢ [] → with_parts ([] ∷ parts) more ≡ [] ∷ with_parts parts more
+unfolding with_parts
+new-with_parts [] more some = absurd (some refl)
+new-with_parts (a ∷ parts) more some = refl
+
+lines_of-some : (x : List ℕ) → lines_of x ≢ []
+lines_of-some [] e = cc e
+lines_of-some (b ∷ x) e = by (b == 10) (lines_of x) e
+  where
+    by : (t : Bool) (parts : List (List ℕ)) → cond t ([] ∷ parts) (onto_first b parts) ≢ []
+    by true parts e = cc e
+    by false [] e = cc e
+    by false (p ∷ parts) e = cc e
+
+lines_of-append : (x y : List ℕ) → lines_of (x ++ y) ≡ with_parts (lines_of x) (lines_of y)
+unfolding with_parts
+lines_of-append [] y = by (lines_of y) (lines_of-some y)
+  where
+    by : (parts : List (List ℕ)) → parts ≢ [] → parts ≡ with_parts ([] ∷ []) parts
+    by [] some = absurd (some refl)
+    by (p ∷ parts) some = refl
+lines_of-append (b ∷ x) y = by (b == 10) (lines_of-append x y)
+  where
+    by : (t : Bool) → lines_of (x ++ y) ≡ with_parts (lines_of x) (lines_of y) →
+        cond t ([] ∷ lines_of (x ++ y)) (onto_first b (lines_of (x ++ y))) ≡ with_parts (cond t ([] ∷ lines_of x) (onto_first b (lines_of x))) (lines_of y)
+    by true rest = ap (λ (l : List (List ℕ)). [] ∷ l) rest ∙ sym (new-with_parts (lines_of x) (lines_of y) (lines_of-some x))
+    by false rest = ap (onto_first b) rest ∙ sym (onto_first-with_parts b (lines_of x) (lines_of y) (lines_of-some x))
+
+-- a part that is not the last stays
+with_parts-seam : (done : List (List ℕ)) (line next : List ℕ) (left more : List (List ℕ)) →
+    with_parts (done ++ line ∷ next ∷ left) more ≡ done ++ line ∷ with_parts (next ∷ left) more
+unfolding with_parts
+with_parts-seam [] line next left more = refl
+with_parts-seam (d ∷ []) line next left more = refl
+with_parts-seam (d ∷ e ∷ done) line next left more = ap (λ (l : List (List ℕ)). d ∷ l) (with_parts-seam (e ∷ done) line next left more)
+
+-- the last part may grow
+with_parts-last : (done : List (List ℕ)) (line part : List ℕ) (more : List (List ℕ)) →
+    with_parts (done ++ line ∷ []) (part ∷ more) ≡ done ++ (line ++ part) ∷ more
+unfolding with_parts
+with_parts-last [] line part more = refl
+with_parts-last (d ∷ []) line part more = refl
+with_parts-last (d ∷ e ∷ done) line part more = ap (λ (l : List (List ℕ)). d ∷ l) (with_parts-last (e ∷ done) line part more)
+
+-- the last line of what was read is the front of a line of the whole
+last_of_read : (bytes read more line : List ℕ) (done : List (List ℕ)) (number : ℕ) → bytes ≡ read ++ more → lines_of read ≡ done ++ line ∷ [] →
+    number ≡ length done + 1 → (longer : List ℕ) × IsNumbered (lines_of bytes) number longer × (length line ≤ length longer)
+last_of_read bytes read more line done number goes e counted = by (lines_of more) (lines_of-some more) refl
+  where
+    by : (parts : List (List ℕ)) → parts ≢ [] → lines_of more ≡ parts → (longer : List ℕ) × IsNumbered (lines_of bytes) number longer × (length line ≤ length longer)
+    by [] some are = absurd (some refl)
+    by (part ∷ parts) some are = (
+      line ++ part,
+      record {
+        before = done;
+        behind = parts;
+        whole = ap lines_of goes ∙ lines_of-append read more ∙ (λ i. with_parts (e i) (are i)) ∙ with_parts-last done line part parts;
+        counted = counted;
+      },
+      rw (length-append line part) (omega arith),
+    )
+
+-- why a list that goes on behind its largest size is refused in its last line
+pub cut_of_read : (bytes read line : List ℕ) (fits : Bool) (done : List (List ℕ)) (after : Option (Bor (List ℕ))) (number : ℕ) (c : Cause) →
+    fits ≡ false → after ≡ None → IsReadOf fits read bytes → lines_of read ≡ done ++ line ∷ left_parts 10 after → number ≡ length done + 1 →
+    (line_limit < length line → c ≡ cause.Line number (line_fault.Requirement fault.LineTooLong)) →
+    (length line ≤ line_limit → c ≡ cause.TooLarge) → RefusesList bytes c
+cut_of_read bytes read line true done after number c cut over is e counted long large = cc cut
+cut_of_read bytes read line false done (Some rest) number c cut over is e counted long large = cc over
+cut_of_read bytes read line false done None number c cut over is e counted long large =
+    cut_refuses bytes line number c is.0 (last_of_read bytes read is.1.0 line done number is.1.1 e counted) long large
+
+-- a line of what was read is a line of the whole, unless it is the last and the whole goes on
+pub line_of_read : (bytes read line : List ℕ) (fits : Bool) (done : List (List ℕ)) (after : Option (Bor (List ℕ))) (number : ℕ) →
+    IsReadOf fits read bytes → lines_of read ≡ done ++ line ∷ left_parts 10 after → (fits ≡ true) ⊎ IsSome after →
+    number ≡ length done + 1 → IsNumbered (lines_of bytes) number line
+line_of_read bytes read line true done after number is e more counted =
+    record { before = done; behind = left_parts 10 after; whole = ap lines_of is ∙ e; counted = counted }
+line_of_read bytes read line false done None number is e (inl fits) counted = cc fits
+line_of_read bytes read line false done None number is e (inr some) counted = cc some
+line_of_read bytes read line false done (Some rest) number is e more counted = by (lines_of rest.now) (lines_of-some rest.now) e
+  where
+    by : (parts : List (List ℕ)) → parts ≢ [] → lines_of read ≡ done ++ line ∷ parts → IsNumbered (lines_of bytes) number line
+    by [] some are = absurd (some refl)
+    by (next ∷ left) some are = record {
+      before = done;
+      behind = with_parts (next ∷ left) (lines_of is.1.0);
+      whole = ap lines_of is.1.1 ∙ lines_of-append read is.1.0 ∙ ap (λ (l : List (List ℕ)). with_parts l (lines_of is.1.0)) are
+          ∙ with_parts-seam done line next left (lines_of is.1.0);
+      counted = counted;
+    }
 
 -- ---- the loop over lines
 
 -- the lines before these were taken in
-abbrev pub SoFar : List ℕ → List (List ℕ) → Sets → Sets → Type 0
-SoFar read left old new = (done : List (List ℕ)) × (ps : List Pair) × (lines_of read ≡ done ++ left) × AllByRecursion IsGoodLine done × LinesGive done ps × Gathers old ps new
+abbrev pub SoFar : List ℕ → ℕ → List (List ℕ) → Sets → Sets → Type 0
+SoFar read number left old new = (done : List (List ℕ)) × (ps : List Pair) × (lines_of read ≡ done ++ left) × AllByRecursion IsGoodLine done × LinesGive done ps × Gathers old ps new
+    × (number ≡ length done)
 
 gathers_both : (old mid new : Sets) (ps more : List Pair) → Gathers old ps mid → Gathers mid more new → Gathers old (ps ++ more) new
 gathers_both old mid new ps more first second = λ qs g. subst (λ (l : List Pair). IsGathered l new) (append_assoc qs ps more) (second (qs ++ ps) (first qs g))
 
-pub so_far_more : (read line : List ℕ) (left : List (List ℕ)) (old mid new : Sets) → SoFar read (line ∷ left) old mid → MergesLine line mid new → SoFar read left old new
-so_far_more read line left old mid new s m = (
+pub so_far_more : (read line : List ℕ) (number : ℕ) (left : List (List ℕ)) (old mid new : Sets) → SoFar read number (line ∷ left) old mid → MergesLine line mid new →
+    SoFar read (number + 1) left old new
+so_far_more read line number left old mid new s m = (
   s.0 ++ line ∷ [],
   s.1 ++ m.0,
   s.2 ∙ sym (append_assoc s.0 (line ∷ []) left),
   good_append s.0 line s.3 m.1,
   gives_append s.0 s.1 line m.0 s.4 m.2,
   gathers_both old mid new s.1 m.0 s.5 m.3,
+  rw (length-append s.0 (line ∷ []), s.6) refl,
 )
 
 -- all lines were taken in
-pub so_far_all : (read : List ℕ) (old new : Sets) → length read ≤ input_limit → SoFar read [] old new → MergesList read old new
-so_far_all read old new size s =
+pub so_far_all : (read : List ℕ) (number : ℕ) (old new : Sets) → length read ≤ input_limit → SoFar read number [] old new → MergesList read old new
+so_far_all read number old new size s =
     let all : s.0 ≡ lines_of read = sym (append-nil s.0) ∙ sym s.2 in
     (s.1, list_gives read s.1 size (subst (AllByRecursion IsGoodLine) all s.3) (subst (λ (l : List (List ℕ)). LinesGive l s.1) all s.4), s.5)
 

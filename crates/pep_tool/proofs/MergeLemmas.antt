@@ -1,9 +1,9 @@
 -- What merging all inputs gives.
-use Rattle.std.proofs.Common.{◌≡◌, ℕ, zero, suc, ◌+◌, ◌<◌, List, [], ◌∷◌, ◌++◌, length, map, take, get_or, refl, sym, ap, subst, ◌∙◌, arith, append_assoc, append-nil, ◌≢◌, inl, inr}
+use Rattle.std.proofs.Common.{◌≡◌, ℕ, zero, suc, ◌+◌, ◌<◌, List, [], ◌∷◌, ◌++◌, length, map, take, drop, length-take-le, get_or, refl, sym, ap, subst, ◌∙◌, arith, append_assoc, append-nil, ◌≢◌, inl, inr}
 use Rattle.std.specs.Prelude.{All, slice_index_or}
 use Rattle.std.specs.BTreeMap.{IsOrdered}
 use Rattle.pep_tool.specs.NameKey.{name_cmp}
-use Rattle.std.proofs.lemmas.List.{take_more}
+use Rattle.std.proofs.lemmas.List.{take-append-drop, take_more}
 use Rattle.pep_require.specs.Requirement.{RequirementParts}
 use Rattle.pep_table.specs.Demand.{HaveSameDemands}
 use Rattle.pep_table.specs.TableText.{IsTableText}
@@ -16,7 +16,9 @@ use Rattle.pep_tool.specs.declared.input.Kind.{Kind}
 use Rattle.pep_tool.specs.declared.input.Kind.TheVariants as kind
 use Rattle.pep_tool.specs.Gathered.{AcceptsBytes, Gathered, IsAccepted}
 use Rattle.pep_tool.specs.Lists.{IsListOf}
-use Rattle.pep_tool.specs.Merge.{BlamesInput, IsMerge, MeansRefused}
+use Rattle.pep_tool.specs.Merge.{IsMerge}
+use Rattle.pep_tool.specs.Refusal.{IsRefused, IsRefusedList, RefusesInputs, by_line, by_size, no_memory}
+use Rattle.pep_tool.proofs.ListLemmas.{refused_list}
 use Rattle.pep_tool.specs.Sets.{InputsGive, ListGives, MergesInputs, MergesList, Pair, RefusesList, Sets, line_requirement, table_of}
 use Rattle.pep_tool.proofs.DemandLemmas.{PairsDemand, gathered_pairs}
 use Rattle.pep_tool.proofs.TableLemmas.{points_of_pairs, same_exact_points, same_table, table_of_pairs}
@@ -41,28 +43,48 @@ inputs_more inputs k i old new lt is m l =
 not_accepted : (k : Kind) (bytes : List ℕ) → ((rs : List RequirementParts) → ¬ IsListOf bytes rs) → ¬ AcceptsBytes k bytes
 not_accepted kind.List bytes never h = never h.0 h.1
 
-pub input_refused : (inputs : List Input) (k : ℕ) (i : Input) (c : Cause) → k < length inputs → i ≡ get_or inputs k i → RefusesList i.bytes.items c → MeansRefused inputs c
-input_refused inputs k i cause.NoMemory lt is h = tt
-input_refused inputs k i cause.TooLarge lt is h = (k, i, lt, sym is, not_accepted i.kind i.bytes.items h)
-input_refused inputs k i (cause.Line n f) lt is h = (k, i, lt, sym is, not_accepted i.kind i.bytes.items h)
-input_refused inputs k i cause.ReadFault lt is h = (k, i, lt, sym is, not_accepted i.kind i.bytes.items h)
-input_refused inputs k i (cause.BadWords w) lt is h = (k, i, lt, sym is, not_accepted i.kind i.bytes.items h)
-input_refused inputs k i (cause.BadArgument f) lt is h = (k, i, lt, sym is, not_accepted i.kind i.bytes.items h)
-input_refused inputs k i cause.WriteFault lt is h = (k, i, lt, sym is, not_accepted i.kind i.bytes.items h)
+list_of_kind : (k : Kind) (bytes : List ℕ) (c : Cause) → IsRefused k bytes c → IsRefusedList bytes c
+list_of_kind kind.List bytes c h = h
 
-blames_at : (inputs : List Input) (k : ℕ) (i : Input) (c : Cause) (f : Fault) → k < length inputs → i ≡ get_or inputs k i → ((rs : List RequirementParts) → ¬ IsListOf i.bytes.items rs) →
-    c ≢ cause.NoMemory → (c ≢ cause.NoMemory → f.place ≡ place.Input (k + 1)) → BlamesInput inputs f
-blames_at inputs k i c f lt is h other at = inr (k, i, lt, sym is, not_accepted i.kind i.bytes.items h, at other)
+of_kind : (k : Kind) (bytes : List ℕ) (c : Cause) → IsRefusedList bytes c → IsRefused k bytes c
+of_kind kind.List bytes c h = h
 
-pub input_blamed : (inputs : List Input) (k : ℕ) (i : Input) (c : Cause) (f : Fault) → k < length inputs → i ≡ get_or inputs k i → RefusesList i.bytes.items c →
-    (c ≡ cause.NoMemory → f ≡ record { place = place.Nowhere; cause = cause.NoMemory }) → (c ≢ cause.NoMemory → f.place ≡ place.Input (k + 1)) → BlamesInput inputs f
-input_blamed inputs k i cause.NoMemory f lt is h memory at = inl (memory refl)
-input_blamed inputs k i cause.TooLarge f lt is h memory at = blames_at inputs k i cause.TooLarge f lt is h (λ e. cc e) at
-input_blamed inputs k i (cause.Line n g) f lt is h memory at = blames_at inputs k i (cause.Line n g) f lt is h (λ e. cc e) at
-input_blamed inputs k i cause.ReadFault f lt is h memory at = blames_at inputs k i cause.ReadFault f lt is h (λ e. cc e) at
-input_blamed inputs k i (cause.BadWords w) f lt is h memory at = blames_at inputs k i (cause.BadWords w) f lt is h (λ e. cc e) at
-input_blamed inputs k i (cause.BadArgument g) f lt is h memory at = blames_at inputs k i (cause.BadArgument g) f lt is h (λ e. cc e) at
-input_blamed inputs k i cause.WriteFault f lt is h memory at = blames_at inputs k i cause.WriteFault f lt is h (λ e. cc e) at
+-- an input that is refused is not accepted
+pub refused_input : (i : Input) (c : Cause) → IsRefused i.kind i.bytes.items c → ¬ IsAccepted i
+refused_input i c h = not_accepted i.kind i.bytes.items (refused_list i.bytes.items c (list_of_kind i.kind i.bytes.items c h))
+
+-- a cause that a list has is no want of memory
+known : (bytes : List ℕ) (c : Cause) → IsRefusedList bytes c → c ≢ cause.NoMemory
+known bytes c (by_size large e) memory = cc (e, memory)
+known bytes c (by_line number line f at refused e) memory = cc (e, memory)
+
+-- the element at an index is numbered by the index and one
+numbered : (inputs : List Input) (k : ℕ) (i : Input) → k < length inputs → i ≡ get_or inputs k i → inputs ≡ take k inputs ++ i ∷ drop (k + 1) inputs
+numbered inputs k i lt is =
+    sym (take-append-drop (k + 1) inputs)
+    ∙ ap (λ (l : List Input). l ++ drop (k + 1) inputs) (take_more inputs k i lt ∙ ap (λ (j : Input). take k inputs ++ j ∷ []) (sym is))
+    ∙ append_assoc (take k inputs) (i ∷ []) (drop (k + 1) inputs)
+
+-- the fault of an input
+pub input_blamed : (inputs : List Input) (k number : ℕ) (i : Input) (c : Cause) (f : Fault) → k < length inputs → i ≡ get_or inputs k i → number ≡ k →
+    RefusesList i.bytes.items c → f.cause ≡ c → (c ≡ cause.NoMemory → f ≡ no_memory) → (c ≢ cause.NoMemory → f.place ≡ place.Input (number + 1)) →
+    RefusesInputs inputs f
+input_blamed inputs k number i c f lt is counted (inl memory) same none at = inl (none memory)
+input_blamed inputs k number i c f lt is counted (inr refused) same none at =
+    let here : IsRefused i.kind i.bytes.items f.cause = subst (IsRefused i.kind i.bytes.items) (sym same) (of_kind i.kind i.bytes.items c refused) in
+    inr (record {
+      number = number + 1;
+      input = i;
+      numbered = record {
+        before = take k inputs;
+        behind = drop (k + 1) inputs;
+        whole = numbered inputs k i lt is;
+        counted = ap (λ n. n + 1) (counted ∙ sym (length-take-le k inputs (omega (arith, lt))));
+      };
+      lies = at (known i.bytes.items c refused);
+      refused = here;
+      not_accepted = refused_input i f.cause here;
+    })
 
 -- ---- the whole
 

@@ -1,5 +1,5 @@
 -- What refusals of the program mean, and the lines that tell two of them.
-use Rattle.std.proofs.Common.{◌≡◌, ◌≢◌, ◌⊎◌, ℕ, ◌≤◌, List, [], ◌∷◌, Option, Some, None, subst, Result, Ok, Err, IfOk, IfErr, codes, refl, inl, inr}
+use Rattle.std.proofs.Common.{◌≡◌, ◌≢◌, ◌⊎◌, ◌∙◌, ℕ, ◌+◌, ◌≤◌, false, ap, List, [], ◌∷◌, ◌++◌, Option, Some, None, subst, Result, Ok, Err, IfOk, IfErr, codes, refl, inl, inr}
 use Rattle.std.specs.Fmt.{digits}
 use Rattle.std.specs.Io.KnownBytes.{Consumes, IsAtEnd, Keeps}
 use Rattle.std.proofs.lemmas.List.Elements.{All-head}
@@ -10,7 +10,9 @@ use Rattle.pep_tool.specs.Device.{Device}
 use Rattle.pep_tool.specs.FaultLine.{fault_line}
 use Rattle.pep_tool.specs.Gathered.{IsAccepted, AcceptsBytes}
 use Rattle.pep_tool.specs.Lists.{input_limit}
-use Rattle.pep_tool.specs.Merge.{IsMerge, MeansRefused}
+use Rattle.pep_tool.specs.Merge.{IsMerge}
+use Rattle.pep_tool.specs.Refusal.{IsRefused, RefusesInputs}
+use Rattle.pep_tool.specs.declared.fault.Place.TheVariants as place
 use Rattle.pep_tool.specs.Run.{Answers, MergesInput, IsVersionLine, Refuses, RefusesVersion, by_version, by_words, by_argument, by_memory, by_input, by_output, by_bytes, no_memory, Tells, TellsRefusal}
 use Rattle.pep_tool.specs.Plan.{AskNothing, Asks, IsBadWords, show_version, standard}
 use Rattle.clap.specs.Words.{Text}
@@ -39,13 +41,27 @@ MergesInput-from_merge text_of (Ok text) i left after e reads whole h = record {
 }
 MergesInput-from_merge text_of (Err f) i left after e reads whole h = tt
 
+-- the one element of a list
+only : {A : Type 0} (x y : A) (before behind : List A) → x ∷ [] ≡ before ++ y ∷ behind → (before ≡ []) × (y ≡ x)
+only x y [] behind e = (refl, cc e)
+only x y (b ∷ []) behind e = cc e
+only x y (b ∷ d ∷ before) behind e = cc e
+
 -- the refusal of a list that was read
 pub Refuses-from_merge : {A : Type 0} (r : Result A Fault) (i : Input) (left after : Option (List ℕ)) (source : Device) →
-    i.kind ≡ kind.List → Consumes left after i.bytes.items → IfErr r (λ fault. MeansRefused (i ∷ []) fault.cause) →
+    i.kind ≡ kind.List → Consumes left after i.bytes.items → source.failed ≡ false → IfErr r (RefusesInputs (i ∷ [])) →
     IfErr r (λ fault. (output : Device) → Refuses [] left after source output fault)
-Refuses-from_merge (Ok text) i left after source e reads h = tt
-Refuses-from_merge (Err f) i left after source e reads h =
-    λ output. by_bytes refl (record { input = i; is_list = e; reads = reads; refuses = h })
+Refuses-from_merge (Ok text) i left after source e reads ready h = tt
+Refuses-from_merge (Err f) i left after source e reads ready (inl memory) = λ output. by_memory memory
+Refuses-from_merge (Err f) i left after source e reads ready (inr b) = λ output. by_bytes refl ready (record {
+  bytes = i.bytes.items;
+  reads = reads;
+  lies = b.lies ∙ ap place.Input (b.numbered.counted ∙ ap (λ (l : List Input). length l + 1) one.0);
+  refused = subst (λ k. IsRefused k i.bytes.items f.cause) e (subst (λ (j : Input). IsRefused j.kind j.bytes.items f.cause) one.1 b.refused);
+})
+  where
+    one : (b.numbered.before ≡ []) × (b.input ≡ i)
+    one = only i b.input b.numbered.before b.numbered.behind b.numbered.whole
 
 -- a refusal of the table that words ask for
 pub Refuses-table : (words : List Text) (left after : Option (List ℕ)) (source output : Device) (fault : Fault) →
@@ -58,7 +74,7 @@ Refuses-table words left after source output fault asked (by_argument argument o
 Refuses-table words left after source output fault asked (by_memory e) = by_memory e
 Refuses-table words left after source output fault asked (by_input none h e) = by_input asked h e
 Refuses-table words left after source output fault asked (by_output h e) = by_output h e
-Refuses-table words left after source output fault asked (by_bytes none h) = by_bytes asked h
+Refuses-table words left after source output fault asked (by_bytes none ready h) = by_bytes asked ready h
 
 -- what was told of a fault with which the program refuses
 pub TellsRefusal-from_tells : (words : List Text) (left after : Option (List ℕ)) (input output : Device) (fault : Fault)

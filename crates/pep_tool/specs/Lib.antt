@@ -3,6 +3,7 @@ pub mod NameKey
 pub mod Lists
 pub mod Gathered
 pub mod Merge
+pub mod Refusal
 pub mod FaultLine
 pub mod Device
 pub mod Plan

@@ -1,15 +1,10 @@
 -- What merging inputs gives.
-use Rattle.std.specs.Prelude.{◌≡◌, ◌+◌, ◌<◌, ◌⊎◌, ℕ, ⊤, List, length, slice_index_or, Any, All, IfSome}
+use Rattle.std.specs.Prelude.{◌≡◌, ℕ, List, All, IfSome}
 use Rattle.pep_table.specs.declared.verdict.Verdict.{Verdict}
 use Rattle.pep_table.specs.Demand.{Demands}
 use Rattle.pep_table.specs.Table.{HasExactPoints, TableParts, IsTable, entry_at}
 use Rattle.pep_table.specs.TableText.{IsTableText, Shows}
 use Rattle.pep_table.specs.Verdict.{IsVerdict}
-use Rattle.pep_tool.specs.declared.fault.Cause.{Cause}
-use Rattle.pep_tool.specs.declared.fault.Cause.TheVariants.{NoMemory}
-use Rattle.pep_tool.specs.declared.fault.Fault.{Fault}
-use Rattle.pep_tool.specs.declared.fault.Place.TheVariants as place
-use Rattle.pep_tool.specs.declared.fault.Place.TheVariants.{Nowhere}
 use Rattle.pep_tool.specs.declared.input.Input.{Input}
 use Rattle.pep_tool.specs.Gathered.{IsAccepted, Gathered}
 
@@ -26,13 +21,3 @@ pub record IsMerge (inputs : List Input) (x : List ℕ) : Type 0 where
   pub points : HasExactPoints (Gathered inputs) table
   pub text : IsTableText table x
   pub verdicts : ShowsVerdicts (Gathered inputs) table
-
--- A refusal means that some input isn't accepted. Want of memory means nothing.
-abbrev pub MeansRefused : List Input → Cause → Type 0
-MeansRefused inputs NoMemory = ⊤
-MeansRefused inputs fault = Any (λ i. ¬ IsAccepted i) inputs
-
--- A fault names an input, counted from 1, that isn't accepted. Want of memory has no place.
-abbrev pub BlamesInput : List Input → Fault → Type 0
-BlamesInput inputs fault = (fault ≡ record { place = Nowhere; cause = NoMemory })
-    ⊎ ((k : ℕ) × (i : Input) × (k < length inputs) × (slice_index_or inputs k i ≡ i) × (¬ IsAccepted i) × (fault.place ≡ place.Input (k + 1)))

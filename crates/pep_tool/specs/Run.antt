@@ -14,12 +14,10 @@ use Rattle.pep_tool.specs.declared.input.Input.{Input}
 use Rattle.pep_tool.specs.declared.input.Kind.TheVariants as kind
 use Rattle.pep_tool.specs.Device.{Device}
 use Rattle.pep_tool.specs.FaultLine.{fault_line}
-use Rattle.pep_tool.specs.Merge.{IsMerge, MeansRefused}
+use Rattle.pep_tool.specs.Merge.{IsMerge}
+pub use Rattle.pep_tool.specs.Refusal.{no_memory}
+use Rattle.pep_tool.specs.Refusal.{IsRefusedList}
 use Rattle.pep_tool.specs.Plan.{AskNothing, Asks, IsBadWords, show_version, standard}
-
--- want of memory, which has no place
-abbrev pub no_memory : Fault
-no_memory = record { place = place.Nowhere; cause = cause.NoMemory }
 
 -- reading the input failed
 abbrev pub read_fault : Fault
@@ -57,12 +55,12 @@ pub record PrintsAnswer (words : List Text) (left after written printed : Option
   pub answers : Answers words left after text
   pub writes : Appends written printed text
 
--- the bytes that were read are refused, as one list
+-- the bytes that were read are refused, as one list, which is input 1
 pub record RefusesInput (left after : Option (List ℕ)) (fault : Fault) : Type 0 where
-  pub input : Input
-  pub is_list : input.kind ≡ kind.List
-  pub reads : Consumes left after input.bytes.items
-  pub refuses : MeansRefused (input ∷ []) fault.cause
+  pub bytes : List ℕ
+  pub reads : Consumes left after bytes
+  pub lies : fault.place ≡ place.Input 1
+  pub refused : IsRefusedList bytes fault.cause
 
 -- a version that the words name can't be read
 pub record RefusesVersion (argument : Text) (fault : Fault) : Type 0 where
@@ -72,7 +70,7 @@ pub record RefusesVersion (argument : Text) (fault : Fault) : Type 0 where
   pub is : fault ≡ record { place = place.Nowhere; cause = cause.BadArgument reason }
 
 -- Why the program refuses with this fault: the words ask for nothing, a version that they name can't be read, memory is
--- wanting, the input failed, the output failed, or what was read is refused.
+-- wanting, the input failed, the output failed, or what was read is refused. Of an input that failed no byte is judged.
 pub data Refuses (words : List Text) (left after : Option (List ℕ)) (input output : Device) (fault : Fault) : Type 0 where
   by_words : AskNothing words → IsBadWords fault → Refuses words left after input output fault
   by_argument : (argument : Text) → Asks words (show_version argument) → RefusesVersion argument fault
@@ -80,7 +78,8 @@ pub data Refuses (words : List Text) (left after : Option (List ℕ)) (input out
   by_memory : fault ≡ no_memory → Refuses words left after input output fault
   by_input : Asks words standard → IsTrue input.failed → fault ≡ read_fault → Refuses words left after input output fault
   by_output : IsTrue output.failed → fault ≡ write_fault → Refuses words left after input output fault
-  by_bytes : Asks words standard → RefusesInput left after fault → Refuses words left after input output fault
+  by_bytes : Asks words standard → input.failed ≡ false → RefusesInput left after fault
+      → Refuses words left after input output fault
 
 -- of a sink that tells its bytes: where it hasn't failed, the line was written
 abbrev pub WritesLine : List ℕ → Option (List ℕ) → Option (List ℕ) → Device → Type 0

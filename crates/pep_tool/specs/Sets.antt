@@ -1,6 +1,6 @@
 -- THE CODE'S WAY, and no part of any meaning: how the code keeps what the lines read so far demand, as a map from
 -- each name to the versions that all clauses on it admit.
-use Rattle.std.specs.Prelude.{◌≡◌, ◌≢◌, ◌==◌, ℕ, ◌&&◌, ◌⊎◌, ⊤, true, false, List, [], ◌∷◌, ◌++◌, bytes_eq, map, Option, Some, None, if◌then◌else◌, codes, ◌≤◌, length, IsUtf8}
+use Rattle.std.specs.Prelude.{◌≡◌, ◌≢◌, ◌==◌, ℕ, ◌&&◌, ◌⊎◌, ⊤, ◌<◌, Bool, true, false, List, [], ◌∷◌, ◌++◌, bytes_eq, map, Option, Some, None, if◌then◌else◌, codes, ◌≤◌, length, IsUtf8}
 use Rattle.std.specs.Borrow.{Bor}
 use Rattle.std.specs.BTreeMap.{BTreeMap, get}
 use Rattle.std.specs.List.{AllByRecursion, list_all, slice_split}
@@ -17,7 +17,8 @@ use Rattle.pep_tool.specs.Line.{ReadsBound, ReadsBounds, ReadsLine, plain_requir
 use Rattle.pep_tool.specs.NameKey.{name_cmp}
 use Rattle.pep_require.specs.Reads.{line_limit}
 use Rattle.pep_require.specs.declared.fault.RequireFault.TheVariants as fault
-use Rattle.pep_tool.specs.Lists.{IsListOf, content, is_skipped}
+use Rattle.pep_tool.specs.Lists.{IsListOf, content, input_limit, is_skipped}
+use Rattle.pep_tool.specs.Refusal.{IsRefusedLine, IsRefusedList}
 use Rattle.pep_table.specs.Table.{EntryParts, TableParts}
 use Rattle.pep_table.specs.TableText.{line, range_text}
 use Rattle.pep_table.specs.Verdict.{verdict_word}
@@ -148,19 +149,22 @@ pub record IsGoodLine (line : List ℕ) : Type 0 where
 abbrev pub MergesLine : List ℕ → Sets → Sets → Type 0
 MergesLine line old new = (more : List Pair) × IsGoodLine line × LineGives line more × Gathers old more new
 
--- A fault of a line means that no list has the line. Want of memory means nothing.
-abbrev pub SpoilsLine : List ℕ → LineFault → Type 0
-SpoilsLine line (line_fault.Requirement fault.NoMemory) = ⊤
-SpoilsLine line f = ¬ IsGoodLine line
-
 -- the bytes are a list, and the second map keeps what it gives
 abbrev pub MergesList : List ℕ → Sets → Sets → Type 0
 MergesList bytes old new = (ps : List Pair) × ListGives bytes ps × Gathers old ps new
 
--- a fault that is no want of memory means that the bytes are no list
+-- why a line is refused: want of memory, of which nothing is said, or a fault of its own
+abbrev pub RefusesLineBytes : List ℕ → LineFault → Type 0
+RefusesLineBytes line f = (f ≡ line_fault.Requirement fault.NoMemory) ⊎ IsRefusedLine line f
+
+-- .. and why bytes are, as a list
 abbrev pub RefusesList : List ℕ → Cause → Type 0
-RefusesList bytes NoMemory = ⊤
-RefusesList bytes f = (rs : List RequirementParts) → ¬ IsListOf bytes rs
+RefusesList bytes c = (c ≡ NoMemory) ⊎ IsRefusedList bytes c
+
+-- the bytes are what was read; or they are more than a list may have, and what was read is their front
+abbrev pub IsReadOf : Bool → List ℕ → List ℕ → Type 0
+IsReadOf true read bytes = bytes ≡ read
+IsReadOf false read bytes = (input_limit < length bytes) × ((more : List ℕ) × (bytes ≡ read ++ more))
 
 -- the table that the map stands for
 abbrev pub plain_entry : List Range → EntryParts

@@ -4,11 +4,13 @@ ghost use Rattle.std.specs.Prelude.{◌≡◌, ℕ, List};
 ghost use Rattle.pep_require.specs.Reads.{Reads};
 ghost use Rattle.pep_require.specs.Requirement.{RequirementParts};
 ghost use Rattle.pep_table.specs.Demand.{HaveSameDemands};
+ghost use Rattle.pep_tool.specs.declared.fault.Cause.{Cause};
 ghost use Rattle.pep_tool.specs.declared.input.Input.{Input};
-ghost use Rattle.pep_tool.specs.Gathered.{Gathered};
+ghost use Rattle.pep_tool.specs.Gathered.{Gathered, IsAccepted};
 ghost use Rattle.pep_tool.specs.Line.{ReadsLine};
 ghost use Rattle.pep_tool.specs.Lists.{IsListOf};
 ghost use Rattle.pep_tool.specs.Merge.{IsMerge};
+ghost use Rattle.pep_tool.specs.Refusal.{IsRefused};
 
 /// Inputs that demand the same have one text, whatever the order, the grouping and the repeats of their lines.
 pub fn one_text()
@@ -28,4 +30,9 @@ pub fn one_line()
 /// Bytes are one list of requirements at most.
 pub fn one_list()
     ensures { (bytes : List ℕ) (rs qs : List RequirementParts) → IsListOf bytes rs → IsListOf bytes qs → rs ≡ qs }
+{}
+
+/// An input that is refused, with whatever cause, is no list of requirements.
+pub fn refused_is_not_accepted()
+    ensures { (i : Input) (c : Cause) → IsRefused i.kind i.bytes.items c → ¬ IsAccepted i }
 {}

@@ -1,9 +1,9 @@
 //! A list: a requirement on each line.
 
-ghost use Rattle.std.specs.Prelude.{◌≡◌, ◌≢◌, ◌<◌, ◌≤◌, length, IfErr, IsTrue, OnOk};
+ghost use Rattle.std.specs.Prelude.{◌≡◌, ◌≢◌, ℕ, ◌<◌, ◌≤◌, List, length, IfErr, IsTrue, OnOk};
 ghost use Rattle.pep_require.specs.Reads.{line_limit};
 ghost use Rattle.pep_tool.specs.Lists.{content, input_limit, is_skipped};
-ghost use Rattle.pep_tool.specs.Sets.{MergesLine, MergesList, RefusesList, SpoilsLine};
+ghost use Rattle.pep_tool.specs.Sets.{IsReadOf, MergesLine, MergesList, RefusesLineBytes, RefusesList};
 
 use crate::fault::{Cause, LineFault};
 use crate::line::{LINE_LIMIT, read_line};
@@ -37,7 +37,7 @@ fn is_skipped(content: &[u8]) -> bool
 /// Takes what a line demands into the sets.
 fn merge_line(alloc: Global, sets: &mut Sets, line: &[u8]) -> Result<(), LineFault>
     ensures ok { OnOk result (MergesLine line.now sets.old sets.new) }
-    ensures refused { IfErr result (SpoilsLine line.now) }
+    ensures refused { IfErr result (RefusesLineBytes line.now) }
 {
     if line.len() > LINE_LIMIT {
         return Err(LineFault::Requirement(RequireFault::LineTooLong));
@@ -87,7 +87,8 @@ fn cut_off(number: u64, line: &[u8]) -> Cause
 fn merge_lines(alloc: Global, sets: &mut Sets, read: &[u8], fits: bool) -> Result<(), Cause>
     ensures fits { OnOk result (IsTrue fits) }
     ensures ok { OnOk result (length read.now ≤ input_limit → MergesList read.now sets.old sets.new) }
-    ensures refused { IfErr result (λ cause. IsTrue fits → RefusesList read.now cause) }
+    ensures refused { IfErr result (λ cause. (bytes : List ℕ) → IsReadOf fits read.now bytes
+        → RefusesList bytes cause) }
 {
     let mut rest = Some(read);
     let mut number: u64 = 0;

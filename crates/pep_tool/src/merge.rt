@@ -1,8 +1,8 @@
 //! The merge of inputs.
 
 ghost use Rattle.std.specs.Prelude.{◌≡◌, ◌≢◌, IfOk, IfErr, string_bytes};
-ghost use Rattle.pep_tool.specs.Merge.{BlamesInput, IsMerge, MeansRefused};
-ghost use Rattle.pep_tool.specs.Run.{no_memory};
+ghost use Rattle.pep_tool.specs.Merge.{IsMerge};
+ghost use Rattle.pep_tool.specs.Refusal.{RefusesInputs, no_memory};
 ghost use Rattle.pep_tool.specs.Sets.{MergesInputs};
 
 use crate::fault::{Cause, Fault, Place};
@@ -29,8 +29,7 @@ fn fault_in(input: u64, cause: Cause) -> Fault
 /// Takes what the inputs demand into sets.
 fn gather_inputs(alloc: Global, inputs: &[Input]) -> Result<Sets, Fault>
     ensures ok { IfOk result (MergesInputs inputs.now) }
-    ensures refused { IfErr result (λ fault. MeansRefused inputs.now fault.cause) }
-    ensures place { IfErr result (BlamesInput inputs.now) }
+    ensures refused { IfErr result (RefusesInputs inputs.now) }
 {
     let mut sets = BTreeMap::new(alloc);
     let mut number: u64 = 0;
@@ -53,8 +52,7 @@ fn gather_inputs(alloc: Global, inputs: &[Input]) -> Result<Sets, Fault>
 /// memory is 60, without a place.
 pub fn merge_bytes(alloc: Global, inputs: &[Input]) -> Result<String, Fault>
     ensures merged { IfOk result (λ text. IsMerge inputs.now (string_bytes text)) }
-    ensures refused { IfErr result (λ fault. MeansRefused inputs.now fault.cause) }
-    ensures place { IfErr result (BlamesInput inputs.now) }
+    ensures refused { IfErr result (RefusesInputs inputs.now) }
 {
     let sets = gather_inputs(alloc, inputs)?;
     table_text(alloc, &sets)

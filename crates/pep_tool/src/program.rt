@@ -4,6 +4,7 @@ ghost use Rattle.std.specs.Prelude.{◌≡◌, ◌≢◌, ◌⊎◌, ◌≤◌, 
 ghost use Rattle.std.specs.Io.KnownBytes.{Consumes, IsAtEnd, Keeps};
 ghost use Rattle.pep_tool.specs.Device.{Device, IsFresh};
 ghost use Rattle.pep_tool.specs.Lists.{input_limit};
+ghost use Rattle.pep_tool.specs.Plan.{Asks, standard};
 ghost use Rattle.pep_tool.specs.Run.{Answers, IsVersionLine, MergesInput, PrintsAnswer, Refuses, RefusesVersion, Tells, TellsRefusal, WritesLine, no_memory, read_fault};
 
 use crate::device::{Sink, Source};
@@ -55,6 +56,9 @@ pub fn run<R: Files + AllocGlobal, I: Source, O: Sink, F: Sink>(
         → ((I.device input.new).failed ≡ false) × ((O.device output.new).failed ≡ false) }
     ensures quiet { result ≡ 0 → Keeps (F.written faults.old) (F.written faults.new) }
 
+    // Where the words don't ask for the table of the input, the input is as it was.
+    ensures unread { ¬ Asks (map string_bytes words.now) standard → input.new ≡ input.old }
+
     // At status 2 a fault was told, and nothing was printed.
     ensures told { result ≡ 2
         → TellsRefusal (map string_bytes words.now) (I.left input.old) (I.left input.new) (I.device input.new)
@@ -90,6 +94,7 @@ fn print_answer<I: Source, O: Sink>(
         (O.device output.new)) }
     ensures silent { OnErr result
         ((O.device output.new).failed ≡ false → Keeps (O.written output.old) (O.written output.new)) }
+    ensures unread { ¬ Asks (map string_bytes words.now) standard → input.new ≡ input.old }
 {
     let text = answer(alloc, words, input)?;
     write_text(output, text.as_str())
@@ -103,6 +108,7 @@ fn answer<S: Source>(alloc: Global, words: &[String], source: &mut S) -> Result<
     ensures no_failure { OnOk result ((S.device source.new).failed ≡ false) }
     ensures refused { IfErr result (λ fault. (output : Device)
         → Refuses (map string_bytes words.now) (S.left source.old) (S.left source.new) (S.device source.new) output fault) }
+    ensures unread { ¬ Asks (map string_bytes words.now) standard → source.new ≡ source.old }
 {
     match plan_of(alloc, words)? {
         Plan::Standard => merge_input(alloc, source),

@@ -4,14 +4,16 @@ use Rattle.pep_require.specs.Reads.{line_limit}
 use Rattle.pep_tool.specs.Line.{ReadsLine, RefusesLine, plain_requirement}
 use Rattle.pep_tool.specs.Lists.{content, is_skipped}
 use Rattle.pep_tool.specs.Sets.{with_name}
-use Rattle.pep_tool.proofs.ListLemmas.{spoils_line}
+use Rattle.pep_tool.proofs.ListLemmas.{content_refuses}
 use Rattle.pep_tool.proofs.list.merge_line.Goals as goal
 use Rattle.pep_tool.proofs.list.merge_line.Goals.{in-Err-gather, in-Ok-gather}
 
 pub returns-in-Err-clause-refused : goal.returns-in-Err-clause-refused
 returns-in-Err-clause-refused c =
     let seen : is_skipped (content c.args.line.now) ≡ false = subst (λ (l : List ℕ). is_skipped l ≡ false) c.content-content.ensures (sym c.is_skipped.ensures ∙ c.if-is_skipped.false) in
-    spoils_line c.args.line.now c.in-Err.fault seen (subst (λ (l : List ℕ). RefusesLine l c.in-Err.fault) c.content-content.ensures c.in-Err.ensures.refusal)
+    let text : IsUtf8 c.args.line.now = search rules in
+    content_refuses c.args.line.now c.in-Err.fault c.if-line-gt-LINE_LIMIT.false text seen
+    (subst (λ (l : List ℕ). RefusesLine l c.in-Err.fault) c.content-content.ensures c.in-Err.ensures.refusal)
 
 pub returns-clause-ok : goal.returns-clause-ok
 returns-clause-ok c =

@@ -6,7 +6,7 @@ use Rattle.pep_tool.proofs.list.merge_lines.Given as goal
 
 abbrev pub invariant-loop-rest : goal.invariant-loop-rest
 invariant-loop-rest l =
-    SoFar l.fn.read (left_parts 10 l.rest) l.initial.sets l.sets
+    SoFar l.fn.read l.number (left_parts 10 l.rest) l.initial.sets l.sets
     × ((l.fits ≡ true) ⊎ IsSome l.rest)
     × (l.number + left_len l.rest ≤ length l.fn.read + 1)
 
