@@ -1,1 +1,2 @@
 pub mod NormalNames
+pub mod NameHeadLemmas

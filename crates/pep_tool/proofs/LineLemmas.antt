@@ -17,7 +17,8 @@ use Rattle.pep_clause.specs.declared.fault.ClauseFault.TheVariants as clause_fau
 use Rattle.pep_clause.specs.declared.op.Op.{Op}
 use Rattle.pep_clause.specs.declared.op.Op.TheVariants as op
 use Rattle.pep_marker.specs.Marker.{begins, is_blank_byte}
-use Rattle.pep_marker.specs.Name.{is_letter_or_digit, is_name, is_name_byte, is_separator, name_of, normalized}
+use Rattle.pep_marker.specs.Name.{IsNormalName, is_letter_or_digit, is_name, is_name_byte, is_separator, name_of, normalized}
+use Rattle.pep_marker.proofs.NormalNames.{IsNormalName-name_of}
 use Rattle.pep_require.specs.Faults.{beginning_fault, name_run, without_leading_blanks}
 use Rattle.pep_require.specs.Reads.{line_limit}
 use Rattle.pep_require.specs.Requirement.{RequirementParts}
@@ -426,6 +427,11 @@ line_read x n cs fits e s =
       reads_bounds = s;
       reads = refl;
     }
+
+-- the name of a line is in its normal form
+pub line_name_normal : (x n : List ℕ) (cs : List Clause) → ReadsLine x (plain_requirement n cs) → IsNormalName n
+line_name_normal x n cs s =
+    subst IsNormalName (sym (ap (λ (r : RequirementParts). r.name) s.reads)) (IsNormalName-name_of s.name s.normal s.reads_name)
 
 -- ---- the line's beginning
 

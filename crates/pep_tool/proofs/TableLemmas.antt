@@ -22,7 +22,7 @@ use Rattle.pep_require.specs.Requirement.{IsAscending}
 use Rattle.pep_table.specs.Demand.{AdmitsBesideTexts, Demand, Demands, HaveSameDemands, RequirementDemands, presence, extra, url, clause, ranges}
 use Rattle.pep_table.specs.Table.{AdmitsPoint, EntryParts, HasExactPoints, IsEntry, IsTable, IsValidEntry, IsValidTable, TableParts, entry_at, names}
 use Rattle.pep_tool.specs.Sets.{HoldsClauses, IsGathered, IsPlainPair, KeepsClauses, Pair, Sets, clauses_on, named_entry, pair_requirement, plain_entry, set_at, table_of}
-use Rattle.pep_tool.specs.NameKey.{name_cmp}
+use Rattle.pep_marker.specs.Name.{name_cmp}
 use Rattle.pep_tool.proofs.DemandLemmas.{Among, PairsDemand, in_none, in_one, one_in, all_from_pairs, all_told, plain_among, some_clause, some_pair}
 
 -- ---- the entry at a name

@@ -11,10 +11,9 @@ use Rattle.pep_clause.specs.Cut.{Cut}
 use Rattle.pep_clause.specs.Inhabited.{HasVersionUnlessEmpty}
 use Rattle.pep_clause.specs.OperatorTable.{set_of}
 use Rattle.pep_clause.specs.VersionSet.{IsNormal, Range, is_in, is_point}
-use Rattle.pep_marker.specs.Name.{IsNormalName}
+use Rattle.pep_marker.specs.Name.{IsNormalName, name_cmp}
 use Rattle.pep_require.specs.Requirement.{RequirementParts}
 use Rattle.pep_tool.specs.Line.{ReadsBound, ReadsBounds, ReadsLine, plain_requirement}
-use Rattle.pep_tool.specs.NameKey.{name_cmp}
 use Rattle.pep_require.specs.Reads.{line_limit}
 use Rattle.pep_require.specs.declared.fault.RequireFault.TheVariants as fault
 use Rattle.pep_tool.specs.Lists.{IsListOf, content, is_skipped}

@@ -1,4 +1,4 @@
--- The numbers of names are in the order of names.
+-- The first bytes of names as numbers are in the order of names.
 use Rattle.std.proofs.Common.{◌≡◌, ◌≢◌, ℕ, zero, suc, ◌+◌, ◌*◌, ◌<◌, ◌≤◌, ◌-◌, ◌^◌, inl, inr, Bool, true, false, List, [], ◌∷◌, drop, get_or, refl, sym, ap, subst, ◌∙◌, arith, ◌&&◌, lit<}
 use Rattle.std.specs.List.{AllByRecursion, list_all}
 use Rattle.std.specs.Ordering.{nat_cmp, ordering_reverse}
@@ -8,8 +8,8 @@ use Rattle.std.proofs.lemmas.Bool.Decides.{nat_tests}
 use Rattle.std.proofs.lemmas.Bool.{cases_lt}
 use Rattle.std.proofs.Math.Nat.{pow-le-pow_right, pow-suc}
 use Rattle.std.specs.Cmp.Lexicographic.{nat_list_cmp_total}
-use Rattle.pep_marker.specs.Name.{IsNormalName, is_letter_or_digit, is_name_byte, is_separator}
-use Rattle.pep_tool.specs.NameKey.{behind, first, head_of, name_cmp, with_digits}
+use Rattle.pep_marker.specs.Name.{IsNormalName, is_letter_or_digit, is_name_byte, is_separator, name_cmp}
+use Rattle.pep_marker.specs.NameHead.{behind, first, head_of, with_digits}
 
 -- ---- one step of the loop
 

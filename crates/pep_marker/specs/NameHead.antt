@@ -1,18 +1,12 @@
 -- THE CODE'S WAY, and no part of any meaning: the first bytes of a name as a number, whose order is that of names.
 use Rattle.std.specs.Prelude.{ℕ, zero, suc, ◌+◌, ◌*◌, List, [], ◌∷◌}
-use Rattle.std.specs.Cmp.Lexicographic.{slice_cmp}
-use Rattle.std.specs.Ordering.{nat_cmp}
-use Rattle.std.specs.declared.cmp.Ordering.{Ordering}
 
--- the order of names: byte by byte
-abbrev pub name_cmp : List ℕ → List ℕ → Ordering
-name_cmp = slice_cmp nat_cmp
-
--- the first byte, 0 where there is none, and what is behind it
+-- the first byte, 0 where there is none
 abbrev pub first : List ℕ → ℕ
 first [] = 0
 first (b ∷ x) = b
 
+-- what is behind the first byte
 abbrev pub behind : List ℕ → List ℕ
 behind [] = []
 behind (b ∷ x) = x
