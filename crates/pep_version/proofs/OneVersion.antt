@@ -9,7 +9,8 @@ use Rattle.std.specs.Str.Parse.{digits_value}
 use Rattle.pep_version.specs.declared.parts.Phase.{Phase}
 use Rattle.pep_version.specs.declared.parts.Phase.TheVariants.{Alpha, Beta, Rc}
 use Rattle.pep_version.specs.Version.{Segment, Version}
-use Rattle.pep_version.specs.Spelling.{DevSpelling, EpochSpelling, IsOneOf, IsOptionalSeparator, LabelSpelling, PostSpelling, PreSpelling, PrecedingVSpelling, SpellsAny, dotted_parts, is_number, is_separator, pre_words, trimmed}
+use Rattle.pep_version.specs.Spelling.{DevSpelling, EpochSpelling, IsOneOf, IsOptionalSeparator, LabelSpelling, PostSpelling, PreSpelling, PrecedingVSpelling, SpellsAny, dotted_parts, is_number, pre_words, trimmed}
+use Rattle.pep_version.specs.Bytes.{is_separator}
 use Rattle.pep_version.specs.Conjunction.{and-first, and-second}
 use Rattle.pep_version.proofs.Readers.{behind-append, front-append, may_follow}
 use Rattle.pep_version.proofs.Suffixes.{suffix-read, tail-worded}

@@ -8,7 +8,8 @@ use Rattle.std.specs.Str.{str_to_ascii_lowercase}
 use Rattle.std.specs.Str.Parse.{digits_value}
 use Rattle.pep_version.specs.declared.parts.Phase.{Phase}
 use Rattle.pep_version.specs.Reading.{bang, behind, behind_epoch, behind_phase, behind_word, epoch_taken, front, is_label_text, number_behind, or_else, passes, phase_or, pre_taken, read_dev, read_epoch, read_label, read_label_text, read_post, read_pre, read_version, read_word_and_number, release_behind, release_front, starts_digit, stripped, table, taken, without_separator, without_v}
-use Rattle.pep_version.specs.Spelling.{DevSpelling, EpochSpelling, IsOneOf, IsOptionalSeparator, LabelSpelling, OptionalNumberSpelling, PostSpelling, PreSpelling, PrecedingVSpelling, SpellsAny, WordAndNumber, dev_words, dotted_parts, ends_in_letter, is_number, is_run, is_separator, post_words, pre_words, separated_parts, trimmed}
+use Rattle.pep_version.specs.Spelling.{DevSpelling, EpochSpelling, IsOneOf, IsOptionalSeparator, LabelSpelling, OptionalNumberSpelling, PostSpelling, PreSpelling, PrecedingVSpelling, SpellsAny, WordAndNumber, dev_words, dotted_parts, ends_in_letter, is_number, is_run, post_words, pre_words, separated_parts, trimmed}
+use Rattle.pep_version.specs.Bytes.{is_separator}
 use Rattle.pep_version.proofs.OneVersion.{first_ok, numbers-first}
 use Rattle.pep_version.specs.Conjunction.{and-first, and-second}
 use Rattle.pep_version.proofs.Tails.{whole-of}
