@@ -1,14 +1,15 @@
 -- The first bytes of names as numbers are in the order of names.
-use Rattle.std.proofs.Common.{◌≡◌, ◌≢◌, ℕ, zero, suc, ◌+◌, ◌*◌, ◌<◌, ◌≤◌, ◌-◌, ◌^◌, inl, inr, Bool, true, false, List, [], ◌∷◌, drop, get_or, refl, sym, ap, subst, ◌∙◌, arith, ◌&&◌, lit<}
+use Rattle.std.proofs.Common.{◌≡◌, ◌≢◌, ℕ, zero, suc, ◌+◌, ◌*◌, ◌<◌, ◌≤◌, ◌-◌, ◌^◌, inl, inr, true, List, [], ◌∷◌, drop, get_or, refl, sym, ap, subst, ◌∙◌, arith, lit<}
 use Rattle.std.specs.List.{AllByRecursion, list_all}
 use Rattle.std.specs.Ordering.{nat_cmp, ordering_reverse}
 use Rattle.std.specs.Cmp.{nat_cmp_is}
 use Rattle.std.specs.declared.cmp.Ordering.TheVariants.{Less, Equal, Greater}
-use Rattle.std.proofs.lemmas.Bool.Decides.{nat_tests}
 use Rattle.std.proofs.lemmas.Bool.{cases_lt}
 use Rattle.std.proofs.Math.Nat.{pow-le-pow_right, pow-suc}
 use Rattle.std.specs.Cmp.Lexicographic.{nat_list_cmp_total}
-use Rattle.pep_marker.specs.Name.{IsNormalName, is_letter_or_digit, is_name_byte, is_separator, name_cmp}
+use Rattle.pep_marker.specs.Name.{IsNormalName, is_name_byte, name_cmp}
+use Rattle.pep_version.specs.Conjunction.{and-first as and_first, and-second as and_second}
+use Rattle.pep_marker.proofs.NormalNames.{name_byte_small}
 use Rattle.pep_marker.specs.NameHead.{behind, first, head_of, with_digits}
 
 -- ---- one step of the loop
@@ -98,21 +99,15 @@ below (suc k) n x y h g lt =
       ]
     ]
 
-name_byte-small : (b : ℕ) → is_name_byte b ≡ true → b < 256
-unfolding is_letter_or_digit is_separator
-name_byte-small b h = grind (arith, nat_tests)
-
-both_of : (a b : Bool) → (a && b) ≡ true → (a ≡ true) × (b ≡ true)
-both_of true b e = (refl, e)
-both_of false b e = cc e
-
 all-small : (x : List ℕ) → list_all is_name_byte x ≡ true → Small x
 unfolding Small
 all-small [] h = tt
-all-small (b ∷ x) h = let both = both_of (is_name_byte b) (list_all is_name_byte x) h in (name_byte-small b both.0, all-small x both.1)
+all-small (b ∷ x) h =
+    let small = name_byte_small b (and_first _ _ h) in
+    (omega (arith, small), all-small x (and_second _ _ h))
 
 name-small : (x : List ℕ) → IsNormalName x → Small x
-name-small x h = all-small x (both_of _ _ (both_of _ _ (both_of _ _ h.0).0).0).1
+name-small x h = all-small x (and_second _ _ (and_first _ _ (and_first _ _ h.0)))
 
 head_below : (x y : List ℕ) (m n : ℕ) → IsNormalName x → IsNormalName y → m ≡ head_of x → n ≡ head_of y → m < n → name_cmp x y ≡ Less
 head_below x y m n h g e f lt =

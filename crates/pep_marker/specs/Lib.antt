@@ -1,4 +1,5 @@
 pub mod Name
+pub mod Runs
 pub mod NameHead
 pub mod Environment
 pub mod Marker

@@ -1,6 +1,5 @@
 pub mod Appended
 pub mod Refusals
-pub mod RunLemmas
 pub mod LineLemmas
 pub mod GatherLemmas
 pub mod ListLemmas

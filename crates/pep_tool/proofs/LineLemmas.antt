@@ -16,26 +16,22 @@ use Rattle.pep_clause.specs.declared.fault.ClauseFault.{ClauseFault}
 use Rattle.pep_clause.specs.declared.fault.ClauseFault.TheVariants as clause_fault
 use Rattle.pep_clause.specs.declared.op.Op.{Op}
 use Rattle.pep_clause.specs.declared.op.Op.TheVariants as op
-use Rattle.pep_marker.specs.Marker.{begins, is_blank_byte}
-use Rattle.pep_marker.specs.Name.{IsNormalName, is_letter_or_digit, is_name, is_name_byte, is_separator, name_of, normalized}
-use Rattle.pep_marker.proofs.NormalNames.{IsNormalName-name_of}
-use Rattle.pep_require.specs.Faults.{beginning_fault, name_run, without_leading_blanks}
+use Rattle.pep_marker.specs.Name.{IsNormalName, is_letter_or_digit, is_name, is_name_byte, name_of, normalized}
+use Rattle.pep_marker.proofs.NormalNames.{IsNormalName-name_of, name_byte_small}
+use Rattle.pep_marker.specs.Runs.{begins, is_blank_byte, without_leading_blanks}
+use Rattle.pep_require.specs.Faults.{beginning_fault, name_run}
 use Rattle.pep_require.specs.Reads.{line_limit}
 use Rattle.pep_require.specs.Requirement.{RequirementParts}
 use Rattle.pep_require.specs.declared.fault.RequireFault.{RequireFault}
 use Rattle.pep_require.specs.declared.fault.RequireFault.TheVariants as fault
 use Rattle.pep_tool.specs.Line.{IsOperand, ReadsBound, ReadsBounds, ReadsLine, RefusesBound, RefusesBounds, RefusesFound, RefusesLine, RefusesLineAs, RefusesOperand, RefusesPieces, after_operator, after_run, behind_name, clause_run, pieces_of, plain_requirement}
 use Rattle.pep_version.specs.Conjunction.{and-first as and_first, and-second as and_second}
-use Rattle.pep_tool.proofs.RunLemmas.{all-rest, all-run, ascii-class, rest-all, rest-span, run-span}
+use Rattle.pep_marker.proofs.RunLemmas.{all-rest, all-run, ascii-class, rest-all, rest-span, run-span}
 
 -- ---- classes of bytes
 
 pub clause_byte_small : (b : ℕ) → is_clause_byte b ≡ true → b < 128
 clause_byte_small b h = grind (arith, nat_tests)
-
-pub name_byte_small : (b : ℕ) → is_name_byte b ≡ true → b < 128
-unfolding is_letter_or_digit is_separator
-name_byte_small b h = grind (arith, nat_tests)
 
 pub clause_no_blank : (b : ℕ) → is_clause_byte b ≡ true → is_blank_byte b ≡ false
 clause_no_blank b h = grind (arith, nat_tests)
@@ -44,7 +40,7 @@ pub blank_no_clause : (b : ℕ) → is_blank_byte b ≡ true → is_clause_byte 
 blank_no_clause b h = grind (arith, nat_tests)
 
 pub blank_no_name : (b : ℕ) → is_blank_byte b ≡ true → is_name_byte b ≡ false
-unfolding is_letter_or_digit is_separator
+unfolding is_letter_or_digit
 blank_no_name b h = grind (arith, nat_tests)
 
 pub letter_no_blank : (b : ℕ) → is_letter_or_digit b ≡ true → is_blank_byte b ≡ false
@@ -343,7 +339,7 @@ begins_name p off [] rest h = cc h
 begins_name p off (b ∷ x) rest h = off b (and_second _ _ (and_first _ _ h))
 
 name_off : OffOperators is_name_byte
-unfolding is_letter_or_digit is_separator
+unfolding is_letter_or_digit
 name_off = (refl, refl, refl, refl, refl)
 
 -- ---- the line

@@ -7,8 +7,8 @@ ghost use Rattle.pep_tool.specs.Sets.{MergesLine, MergesList, RefusesList, Spoil
 
 use crate::fault::{Cause, LineFault};
 use crate::line::{LINE_LIMIT, read_line};
-use crate::runs::{blank_end, blank_run};
 use crate::sets::{Sets, gather};
+use pep_marker::without_outer_blanks;
 use pep_require::RequireFault;
 use pep_version::first_part;
 use std::alloc::Global;
@@ -24,8 +24,7 @@ fn content(line: &[u8]) -> &[u8]
         [front @ .., b'\r'] => front,
         _ => line,
     };
-    let line = &line[blank_run(line)..];
-    &line[..line.len() - blank_end(line)]
+    without_outer_blanks(line)
 }
 
 /// Whether a line with this content is empty or a comment.
