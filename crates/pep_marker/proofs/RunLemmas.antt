@@ -3,7 +3,7 @@ use Rattle.std.proofs.Common.{◌≡◌, ℕ, zero, suc, ◌+◌, ◌<◌, Bool,
 use Rattle.std.proofs.Math.Seq.{take-append_seam, drop-append_seam}
 use Rattle.std.specs.List.{list_all, prefix_len}
 use Rattle.std.specs.Str.{IsAscii}
-use Rattle.pep_version.specs.Conjunction.{and-first as and_first, and-second as and_second}
+use Rattle.pep_version.proofs.Connectives.{and_first, and_second}
 use Rattle.pep_marker.specs.Runs.{begins}
 
 -- the run of a list that is a run and then something that does not begin with an element of the class

@@ -12,7 +12,7 @@ use Rattle.pep_version.specs.Reading.{behind, front, goes_on, release_behind, re
 use Rattle.pep_version.specs.Spelling.{is_run, segment_of_run, separated_parts}
 use Rattle.pep_version.specs.Bytes.{is_separator}
 use Rattle.pep_version.specs.Version.{Segment, SegmentFits, number, is_empty, is_word_byte, word}
-use Rattle.pep_version.specs.Conjunction.{and-first, and-second}
+use Rattle.pep_version.proofs.Connectives.{and_first, and_second}
 use Rattle.pep_version.proofs.SplitLemmas.{split-at, split-whole}
 use Rattle.pep_version.proofs.Readers.{behind-append, front-append}
 
@@ -28,7 +28,7 @@ no-digit-lower b h = grind (arith, nat_tests)
 
 pub digits-lower : (ds : List ℕ) → list_all is_ascii_digit ds ≡ true → lower ds ≡ ds
 digits-lower [] h = refl
-digits-lower (d ∷ ds) h = λ i. digit-lower d (and-first (is_ascii_digit d) (list_all is_ascii_digit ds) h) i ∷ digits-lower ds (and-second (is_ascii_digit d) (list_all is_ascii_digit ds) h) i
+digits-lower (d ∷ ds) h = λ i. digit-lower d (and_first (is_ascii_digit d) (list_all is_ascii_digit ds) h) i ∷ digits-lower ds (and_second (is_ascii_digit d) (list_all is_ascii_digit ds) h) i
 
 -- the digits at the front end at the first byte that is none
 pub digits-until : (t : List ℕ) (i : ℕ) → list_all is_ascii_digit (take i t) ≡ true → starts_digit (lower (drop i t)) ≡ false
@@ -148,8 +148,8 @@ run-ascii run i h lt = all-ascii run i (run-all (lower run) h) lt
   where
     all-ascii : (xs : List ℕ) (k : ℕ) → list_all is_word_byte (lower xs) ≡ true → k < length xs → to_ascii_lowercase (get_or xs k 0) < 128
     all-ascii [] k h lt = absurd (omega arith)
-    all-ascii (x ∷ xs) zero h lt = word-ascii (to_ascii_lowercase x) (and-first (is_word_byte (to_ascii_lowercase x)) (list_all is_word_byte (lower xs)) h)
-    all-ascii (x ∷ xs) (suc k) h lt = all-ascii xs k (and-second (is_word_byte (to_ascii_lowercase x)) (list_all is_word_byte (lower xs)) h) (omega arith)
+    all-ascii (x ∷ xs) zero h lt = word-ascii (to_ascii_lowercase x) (and_first (is_word_byte (to_ascii_lowercase x)) (list_all is_word_byte (lower xs)) h)
+    all-ascii (x ∷ xs) (suc k) h lt = all-ascii xs k (and_second (is_word_byte (to_ascii_lowercase x)) (list_all is_word_byte (lower xs)) h) (omega arith)
 
 pub lower-more : (run : List ℕ) (i : ℕ) → i < length run → lower (take (i + 1) run) ≡ lower (take i run) ++ to_ascii_lowercase (get_or run i 0) ∷ []
 lower-more run i lt = ap lower (take_more run i 0 lt) ∙ map-append to_ascii_lowercase (take i run) (get_or run i 0 ∷ [])
