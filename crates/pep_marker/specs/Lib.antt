@@ -5,3 +5,4 @@ pub mod Environment
 pub mod Marker
 pub mod MarkerText
 pub mod Holds
+pub mod Code
