@@ -13,11 +13,11 @@ use Rattle.std.specs.Str.{str_to_ascii_lowercase}
 use Rattle.std.specs.Str.Parse.{AllDigits, digits_value}
 use Rattle.pep_version.specs.declared.parts.Phase.{Phase}
 use Rattle.pep_version.specs.declared.parts.Phase.TheVariants.{Alpha, Beta, Rc}
-use Rattle.pep_version.specs.Spelling.{DevSpelling, EpochSpelling, IsOneOf, LabelSpelling, NumberSpelling, OptionalNumberSpelling, PostSpelling, PreSpelling, ReleaseSpelling, Spells, dotted_parts, is_number, is_run, pre_words, segment_of_run, separated_parts, trimmed, without_leading_space, without_trailing_space}
+use Rattle.pep_version.specs.Spelling.{DevSpelling, EpochSpelling, IsOneOf, IsOptionalSeparator, LabelSpelling, NumberSpelling, OptionalNumberSpelling, PostSpelling, PreSpelling, ReleaseSpelling, Spells, WordAndNumber, dev_words, dotted_parts, is_number, is_run, post_words, pre_words, segment_of_run, separated_parts, trimmed, without_leading_space, without_trailing_space}
 use Rattle.pep_version.specs.Bytes.{is_separator, is_white_space}
 use Rattle.pep_version.specs.Text.{dev_text, epoch_text, is_text_byte, label_text, normal_text, phase_text, post_text, pre_text, release_text, segment_text}
 use Rattle.pep_version.specs.Version.{Fits, IsSegment, IsVersion, Segment, SegmentFits, number, Version, is_empty, is_word_byte, word}
-use Rattle.pep_version.proofs.Connectives.{and_first, and_second}
+use Rattle.pep_version.proofs.Connectives.{and-false, and_first, and_second}
 
 -- ---- numbers
 
@@ -170,19 +170,24 @@ phase-plain Alpha = refl
 phase-plain Beta = refl
 phase-plain Rc = refl
 
+-- a word and a number, with or without a separator before them
+numbered-spells : (words : List (List ℕ)) (before letters : List ℕ) (n : ℕ) → IsOptionalSeparator before → IsOneOf words letters → Fits n
+    → WordAndNumber words (before ++ (letters ++ decimal n)) n
+numbered-spells words before letters n separator one fits = record {
+  before = before;
+  letters = letters;
+  after = [];
+  digits = decimal n;
+  pieces = ap (λ (t : List ℕ). before ++ (letters ++ t)) (sym (append-nil (decimal n)));
+  before_is = separator;
+  letters_is = one;
+  after_is = tt;
+  digits_is = optional-spells (decimal n) n (decimal-spells n fits);
+}
+
 pre-spells : (pre : Option (Phase × ℕ)) → IfSome pre (λ p. Fits p.1) → PreSpelling (pre_text pre) pre
 pre-spells None fits = refl
-pre-spells (Some p) fits = record {
-  before = [];
-  letters = phase_text p.0;
-  after = [];
-  digits = decimal p.1;
-  pieces = ap (λ (t : List ℕ). phase_text p.0 ++ t) (sym (append-nil (decimal p.1)));
-  before_is = tt;
-  letters_is = phase-word p.0;
-  after_is = tt;
-  digits_is = optional-spells (decimal p.1) p.1 (decimal-spells p.1 fits);
-}
+pre-spells (Some p) fits = numbered-spells (pre_words p.0) [] (phase_text p.0) p.1 tt (phase-word p.0) fits
 
 pre-plain : (pre : Option (Phase × ℕ)) → IfSome pre (λ p. Fits p.1) → list_all is_text_byte (pre_text pre) ≡ true
 pre-plain None fits = refl
@@ -190,17 +195,7 @@ pre-plain (Some p) fits = plain-append (phase_text p.0) (decimal p.1) (phase-pla
 
 post-spells : (pre : List ℕ) (post : Option ℕ) → IfSome post Fits → PostSpelling pre (post_text post) post
 post-spells pre None fits = refl
-post-spells pre (Some n) fits = inl (record {
-  before = codes ".";
-  letters = codes "post";
-  after = [];
-  digits = decimal n;
-  pieces = ap (λ (t : List ℕ). codes ".post" ++ t) (sym (append-nil (decimal n)));
-  before_is = refl;
-  letters_is = inl refl;
-  after_is = tt;
-  digits_is = optional-spells (decimal n) n (decimal-spells n fits);
-})
+post-spells pre (Some n) fits = inl (numbered-spells post_words (codes ".") (codes "post") n refl (inl refl) fits)
 
 post-plain : (post : Option ℕ) → IfSome post Fits → list_all is_text_byte (post_text post) ≡ true
 post-plain None fits = refl
@@ -208,17 +203,7 @@ post-plain (Some n) fits = plain-append (codes ".post") (decimal n) refl (decima
 
 dev-spells : (dev : Option ℕ) → IfSome dev Fits → DevSpelling (dev_text dev) dev
 dev-spells None fits = refl
-dev-spells (Some n) fits = record {
-  before = codes ".";
-  letters = codes "dev";
-  after = [];
-  digits = decimal n;
-  pieces = ap (λ (t : List ℕ). codes ".dev" ++ t) (sym (append-nil (decimal n)));
-  before_is = refl;
-  letters_is = inl refl;
-  after_is = tt;
-  digits_is = optional-spells (decimal n) n (decimal-spells n fits);
-}
+dev-spells (Some n) fits = numbered-spells dev_words (codes ".") (codes "dev") n refl (inl refl) fits
 
 dev-plain : (dev : Option ℕ) → IfSome dev Fits → list_all is_text_byte (dev_text dev) ≡ true
 dev-plain None fits = refl
@@ -260,12 +245,8 @@ not-digits : (letters : List ℕ) → list_any is_ascii_lowercase letters ≡ tr
 not-digits [] h = cc
 not-digits (b ∷ rest) h = elim (cases_Bool (is_ascii_lowercase b)) [
   | inl letter ↦ rw (letter-no-digit b letter) refl
-  | inr other ↦ let more = not-digits rest (rw other at h) in rw more (never (is_ascii_digit b))
+  | inr other ↦ let more = not-digits rest (rw other at h) in rw more (and-false (is_ascii_digit b))
 ]
-  where
-    never : (a : Bool) → (a && false) ≡ false
-    never true = refl
-    never false = refl
 
 segment-read : (s : Segment) → IsSegment s → SegmentFits s → s ≡ segment_of_run (segment_text s)
 segment-read (number n) is fits = let digits = decimal-digits n fits in rw digits (ap number (decimal-spells n fits).1)

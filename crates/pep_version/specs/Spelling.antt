@@ -140,7 +140,7 @@ LabelSpelling (b ∷ text) label = (b ≡ 43) × IsTrue (list_all is_run (separa
 
 -- The text, white space at both ends dropped ("Leading and Trailing Whitespace") and in lower case ("Case
 -- sensitivity"), is the pieces in this order, and they have the values of the version's parts, however large
--- its numbers are. Where a text can be cut into pieces in two ways, as `1.0a-post1`, both give one version.
+-- its numbers are. Where a text can be split into pieces in two ways, as `1.0a-post1`, both give one version.
 pub record SpellsAny (text : List ℕ) (v : Version) : Type 0 where
   pub preceding_v : List ℕ
   pub epoch : List ℕ

@@ -1,4 +1,4 @@
--- The slices that a text is cut into before a number is read. A contract sees each slice as it is, and what is
+-- The slices that a text is split into before a number is read. A contract sees each slice as it is, and what is
 -- left of the text in lower case. This is the code's way, as `Reading` is.
 use Rattle.std.specs.Prelude.{ℕ, List, [], Option, Some, None, IsTrue, map}
 use Rattle.std.specs.Borrow.{Bor}
@@ -7,7 +7,7 @@ use Rattle.std.specs.List.{list_all}
 use Rattle.std.specs.Option.{IfSome}
 use Rattle.std.specs.Str.{str_to_ascii_lowercase}
 use Rattle.std.specs.Str.Parse.{digits_value}
-use Rattle.pep_version.specs.declared.cut.Cut.{Cut}
+use Rattle.pep_version.specs.declared.slices.Slices.{Slices}
 use Rattle.pep_version.specs.declared.parts.Phase.{Phase}
 use Rattle.pep_version.specs.Spelling.{dotted_parts, is_number, is_run, segment_of_run, separated_parts}
 use Rattle.pep_version.specs.Version.{Segment, Version}
@@ -54,8 +54,8 @@ abbrev pub label_of : Option (Bor (List ℕ)) → List Segment
 label_of label = map segment_of_run (left_runs label)
 
 -- the version that the slices write
-abbrev pub version_of_cut : Cut → Version
-version_of_cut c = record {
+abbrev pub version_of_slices : Slices → Version
+version_of_slices c = record {
   epoch = value_of c.epoch;
   release = map (digits_value 10) (dotted_parts c.release.now);
   pre = pre_of c.pre;
@@ -65,7 +65,7 @@ version_of_cut c = record {
 }
 
 -- each slice that a number is read from is digits, and the label is runs
-pub record IsCut (c : Cut) : Type 0 where
+pub record AreReadable (c : Slices) : Type 0 where
   pub epoch : IsDigits c.epoch
   pub release : IsTrue (list_all is_number (dotted_parts c.release.now))
   pub pre : IfSome c.pre (λ p. IsDigits p.1)

@@ -1,7 +1,7 @@
 // The normal text of each part of a version.
 
 ghost use Rattle.std.specs.Prelude.{◌≡◌, ◌++◌, ◌==◌, [], codes, decimal, if◌then◌else◌, map, string_bytes, OnOk, IfErr};
-ghost use Rattle.pep_version.specs.Text.{dev_text, epoch_text, label_text, phase_text, post_text, pre_text, release_text, segment_text};
+ghost use Rattle.pep_version.specs.Text.{epoch_text, label_text, part_text, phase_text, pre_text, release_text, segment_text};
 ghost use Rattle.pep_version.specs.View.{segment_of};
 
 use crate::fault::VersionFault;
@@ -74,25 +74,17 @@ pub(crate) fn push_pre(text: &mut String, pre: Option<(Phase, u64)>) -> Result<(
     Ok(())
 }
 
-/// Appends the post-release part.
-pub(crate) fn push_post(text: &mut String, post: Option<u64>) -> Result<(), VersionFault>
-    ensures ok { OnOk result (string_bytes text.new ≡ string_bytes text.old ++ post_text post) }
+/// Appends the word and the number of a part, if the part is there.
+pub(crate) fn push_part(
+    text: &mut String,
+    word: &str,
+    number: Option<u64>,
+) -> Result<(), VersionFault>
+    ensures ok { OnOk result (string_bytes text.new ≡ string_bytes text.old ++ part_text word.now number) }
     ensures faults { IfErr result (λ e. e ≡ VersionFault.NoMemory) }
 {
-    if let Some(n) = post {
-        text.push_str(".post")?;
-        push_number(text, n)?;
-    }
-    Ok(())
-}
-
-/// Appends the developmental release part.
-pub(crate) fn push_dev(text: &mut String, dev: Option<u64>) -> Result<(), VersionFault>
-    ensures ok { OnOk result (string_bytes text.new ≡ string_bytes text.old ++ dev_text dev) }
-    ensures faults { IfErr result (λ e. e ≡ VersionFault.NoMemory) }
-{
-    if let Some(n) = dev {
-        text.push_str(".dev")?;
+    if let Some(n) = number {
+        text.push_str(word)?;
         push_number(text, n)?;
     }
     Ok(())

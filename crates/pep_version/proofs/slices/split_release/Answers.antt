@@ -1,9 +1,9 @@
 use Rattle.std.proofs.Common.{◌∙◌, ◌-◌, ap, arith, drop, length, length-drop, sym}
 use Rattle.std.proofs.lemmas.List.{take_all}
-use Rattle.pep_version.specs.Cut.{lower}
+use Rattle.pep_version.specs.Slices.{lower}
 use Rattle.pep_version.specs.Reading.{goes_on}
-use Rattle.pep_version.proofs.CutLemmas.{release-more}
-use Rattle.pep_version.proofs.cut.cut_release.Goals as goal
+use Rattle.pep_version.proofs.SliceLemmas.{release-more}
+use Rattle.pep_version.proofs.slices.split_release.Goals as goal
 
 pub bytes-preserved : goal.bytes-preserved
 bytes-preserved c =

@@ -1,9 +1,9 @@
 use Rattle.std.proofs.Common.{◌≡◌, ◌∙◌, ◌-◌, ◌≤◌, ap, arith, drop, false, length, length-drop, sym, take}
 use Rattle.std.proofs.lemmas.List.{drop_all, take_all}
-use Rattle.pep_version.specs.Cut.{lower}
+use Rattle.pep_version.specs.Slices.{lower}
 use Rattle.pep_version.specs.Reading.{starts_digit}
-use Rattle.pep_version.proofs.CutLemmas.{digits-until, no-digit-at}
-use Rattle.pep_version.proofs.cut.split_digits.Goals as goal
+use Rattle.pep_version.proofs.SliceLemmas.{digits-until, no-digit-at}
+use Rattle.pep_version.proofs.slices.split_digits.Goals as goal
 
 pub returns-then-not-is_ascii_digit-clause-digits : goal.returns-then-not-is_ascii_digit-clause-digits
 returns-then-not-is_ascii_digit-clause-digits c =

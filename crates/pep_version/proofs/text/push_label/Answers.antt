@@ -4,7 +4,7 @@ use Rattle.std.specs.Prelude.{string_bytes}
 use Rattle.pep_version.specs.Text.{segment_text}
 use Rattle.pep_version.specs.View.{segment_of}
 use Rattle.pep_version.proofs.TextLemmas.{dot_before, segments-push, text-more}
-use Rattle.pep_version.proofs.writing.push_label.Goals as goal
+use Rattle.pep_version.proofs.text.push_label.Goals as goal
 
 pub loop-i-preserved : goal.loop-i-preserved
 loop-i-preserved c =

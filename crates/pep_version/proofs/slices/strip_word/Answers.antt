@@ -1,6 +1,6 @@
 use Rattle.std.proofs.Common.{◌<◌, ◌∙◌, arith, length, sym}
-use Rattle.pep_version.proofs.CutLemmas.{letter-none}
-use Rattle.pep_version.proofs.cut.strip_word.Goals as goal
+use Rattle.pep_version.proofs.SliceLemmas.{letter-none}
+use Rattle.pep_version.proofs.slices.strip_word.Goals as goal
 
 pub returns-in_default : goal.returns-in_default
 returns-in_default c =

@@ -1,10 +1,10 @@
-// The cutting of a text into the digits and words of a version, before any number is read. Letters are taken
+// The splitting of a text into the digits and words of a version, before any number is read. Letters are taken
 // without regard to case (PEP 440, "Case sensitivity").
 
 ghost use Rattle.std.specs.Prelude.{◌≡◌, ◌&&◌, false, true, IfSome, IsTrue, MatchOption, codes, Some};
 ghost use Rattle.std.specs.Char.{is_ascii_alphanumeric};
 ghost use Rattle.std.specs.List.{list_all};
-ghost use Rattle.pep_version.specs.Cut.{IsCut, IsDigits, label_of, left_of, left_runs, lower, number_of, optional_of, phase_left_of, pre_of, value_of, version_of_cut};
+ghost use Rattle.pep_version.specs.Slices.{AreReadable, IsDigits, label_of, left_of, left_runs, lower, number_of, optional_of, phase_left_of, pre_of, value_of, version_of_slices};
 ghost use Rattle.pep_version.specs.Reading.{behind, behind_phase, behind_word, front, goes_on, implicit_number, is_label_text, number_behind, or_else, passes, read_dev, read_epoch, read_label, read_post, read_pre, read_version, read_word_and_number, release_behind, release_front, starts_digit, stripped, table, without_separator, without_v};
 ghost use Rattle.pep_version.specs.Spelling.{dev_words, dotted_parts, is_number, is_run, post_words, separated_parts};
 
@@ -14,7 +14,7 @@ use crate::parts::Phase;
 /// The slices of a text that write a version: digits where a number stands, and the label behind its `+`. A
 /// number that is not written is no digits.
 #[derive(Clone, Copy)]
-pub(crate) struct Cut<'a> {
+pub(crate) struct Slices<'a> {
     pub(crate) epoch: &'a [u8],
     pub(crate) release: &'a [u8],
     pub(crate) pre: Option<(Phase, &'a [u8])>,
@@ -146,7 +146,7 @@ fn implicit_number(text: &[u8]) -> Option<(&[u8], &[u8])>
 }
 
 // The pre-release part (PEP 440, "Pre-releases"), and what is behind it.
-fn cut_pre(text: &[u8]) -> (Option<(Phase, &[u8])>, &[u8])
+fn split_pre(text: &[u8]) -> (Option<(Phase, &[u8])>, &[u8])
     ensures part { (pre_of result.0, lower result.1.now) ≡ read_pre (lower text.now) }
     ensures digits { IfSome result.0 (λ p. IsDigits p.1) }
 {
@@ -158,7 +158,7 @@ fn cut_pre(text: &[u8]) -> (Option<(Phase, &[u8])>, &[u8])
 }
 
 // The post-release part (PEP 440, "Post-releases"), and what is behind it.
-fn cut_post(text: &[u8]) -> (Option<&[u8]>, &[u8])
+fn split_post(text: &[u8]) -> (Option<&[u8]>, &[u8])
     ensures part { (optional_of result.0, lower result.1.now) ≡ read_post (lower text.now) }
     ensures digits { IfSome result.0 IsDigits }
 {
@@ -172,7 +172,7 @@ fn cut_post(text: &[u8]) -> (Option<&[u8]>, &[u8])
 }
 
 // The developmental release part (PEP 440, "Developmental releases"), and what is behind it.
-fn cut_dev(text: &[u8]) -> (Option<&[u8]>, &[u8])
+fn split_dev(text: &[u8]) -> (Option<&[u8]>, &[u8])
     ensures part { (optional_of result.0, lower result.1.now) ≡ read_dev (lower text.now) }
     ensures digits { IfSome result.0 IsDigits }
 {
@@ -193,7 +193,7 @@ fn without_v(text: &[u8]) -> &[u8]
 }
 
 // The digits of the epoch, if one is written, and what is behind it (PEP 440, "Version epochs").
-fn cut_epoch(text: &[u8]) -> (&[u8], &[u8])
+fn split_epoch(text: &[u8]) -> (&[u8], &[u8])
     ensures part { (value_of result.0, lower result.1.now) ≡ read_epoch (lower text.now) }
     ensures digits { IsDigits result.0 }
 {
@@ -215,7 +215,7 @@ fn goes_on(text: &[u8]) -> bool
 }
 
 // The release, and what is behind it.
-fn cut_release(text: &[u8]) -> (&[u8], &[u8])
+fn split_release(text: &[u8]) -> (&[u8], &[u8])
     ensures release { result.0.now ≡ release_front (lower text.now) }
     ensures rest { lower result.1.now ≡ release_behind (lower text.now) }
 {
@@ -235,7 +235,7 @@ fn has_run_bytes(run: &[u8]) -> bool
 }
 
 // Whether the text is one or more letters and digits.
-#[tactic(auto, using(crate::proofs::CutLemmas::is_empty_lower, crate::proofs::CutLemmas::run_bytes))]
+#[tactic(auto, using(crate::proofs::SliceLemmas::is_empty_lower, crate::proofs::SliceLemmas::run_bytes))]
 fn is_run(run: &[u8]) -> bool
     ensures { result ≡ is_run (lower run.now) }
 {
@@ -250,7 +250,7 @@ fn is_label(text: &[u8]) -> bool
 }
 
 // What is left behind the last part: nothing, or `+` and a label, whose text is handed back.
-fn cut_label(text: &[u8]) -> Option<Option<&[u8]>>
+fn split_label(text: &[u8]) -> Option<Option<&[u8]>>
     ensures found { MatchOption result (is_label_text (lower text.now) ≡ false) (λ label. (is_label_text (lower text.now) ≡ true) × (label_of label ≡ read_label (lower text.now))) }
     ensures runs { IfSome result (λ label. IsTrue (list_all is_run (left_runs label))) }
 {
@@ -262,24 +262,24 @@ fn cut_label(text: &[u8]) -> Option<Option<&[u8]>>
 }
 
 /// The slices of a text that is a version in its spelling, or `None` where the text spells no version.
-pub(crate) fn cut_version(text: &[u8]) -> Option<Cut<'_>>
-    ensures found { MatchOption result (passes (lower text.now) ≡ false) (λ c. (passes (lower text.now) ≡ true) × (version_of_cut c ≡ read_version (lower text.now))) }
-    ensures right { IfSome result IsCut }
+pub(crate) fn slices_of(text: &[u8]) -> Option<Slices<'_>>
+    ensures found { MatchOption result (passes (lower text.now) ≡ false) (λ c. (passes (lower text.now) ≡ true) × (version_of_slices c ≡ read_version (lower text.now))) }
+    ensures right { IfSome result AreReadable }
 {
     let text = without_v(text);
     if !starts_digit(text) {
         return None;
     }
-    let (epoch, text) = cut_epoch(text);
+    let (epoch, text) = split_epoch(text);
     if !starts_digit(text) {
         return None;
     }
-    let (release, text) = cut_release(text);
-    let (pre, text) = cut_pre(text);
-    let (post, text) = cut_post(text);
-    let (dev, text) = cut_dev(text);
-    let label = cut_label(text)?;
-    Some(Cut {
+    let (release, text) = split_release(text);
+    let (pre, text) = split_pre(text);
+    let (post, text) = split_post(text);
+    let (dev, text) = split_dev(text);
+    let label = split_label(text)?;
+    Some(Slices {
         epoch,
         release,
         pre,

@@ -2,7 +2,7 @@ use Rattle.std.proofs.Common.{decimal, get_or, take}
 use Rattle.pep_version.specs.Text.{release_text}
 use Rattle.pep_version.proofs.TextLemmas.{dot_before, numbers-push, text-more}
 use Rattle.std.specs.Prelude.{string_bytes}
-use Rattle.pep_version.proofs.writing.push_release.Goals as goal
+use Rattle.pep_version.proofs.text.push_release.Goals as goal
 
 pub loop-i-preserved : goal.loop-i-preserved
 loop-i-preserved c =

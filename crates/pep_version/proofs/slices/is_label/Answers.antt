@@ -1,10 +1,10 @@
 use Rattle.std.proofs.Common.{◌∙◌, rules, sym, tests}
 use Rattle.std.proofs.lemmas.Iterator.Search.{all_from_yields_List}
 use Rattle.std.proofs.lemmas.Iterator.Splits.{YieldsList-from_slice_split}
-use Rattle.pep_version.specs.Cut.{lower}
+use Rattle.pep_version.specs.Slices.{lower}
 use Rattle.pep_version.specs.Spelling.{is_run}
-use Rattle.pep_version.proofs.CutLemmas.{label-lower}
-use Rattle.pep_version.proofs.cut.is_label.Goals as goal
+use Rattle.pep_version.proofs.SliceLemmas.{label-lower}
+use Rattle.pep_version.proofs.slices.is_label.Goals as goal
 
 pub returns : goal.returns
 returns c = all_from_yields_List (λ part. is_run (lower part)) _ _ _ c.all.ensures.ran
