@@ -14,3 +14,4 @@ pub mod PrefixRows
 mod RaisedRelease
 mod SetLemmas
 mod SameVersions
+mod CutOrderLemmas

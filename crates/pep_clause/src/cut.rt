@@ -1,13 +1,15 @@
 // Cuts: places in the order of versions.
 
-ghost use Rattle.std.specs.Prelude.{◌≡◌, ◌<◌, ◌∷◌, ◌++◌, [], length, refl, string_bytes, IfErr, IfOk};
+ghost use Rattle.std.specs.Prelude.{◌≡◌, ◌<◌, ◌↔◌, ◌∷◌, ◌++◌, [], length, refl, string_bytes, IfErr, IfOk, IsTrue};
 ghost use Rattle.std.specs.Cmp.{eq_by_cmp_equiv, partial_equiv_from_equiv, partial_order_from_total};
 ghost use Rattle.std.specs.List.{AllByRecursion};
-ghost use Rattle.std.specs.Ordering.{as_partial_cmp, eq_by_cmp};
+ghost use Rattle.std.specs.Ordering.{as_partial_cmp, eq_by_cmp, is_le};
+ghost use Rattle.std.specs.declared.cmp.Ordering.TheVariants.{Less, Equal, Greater};
 ghost use Rattle.pep_version.specs.Order.{place_of};
 ghost use Rattle.pep_version.specs.Text.{normal_text};
 ghost use Rattle.pep_version.specs.Version.{Fits};
 ghost use Rattle.pep_clause.specs.Cut.{IsCut, after, before, cut_cmp, cut_text, end, final_version, is_under, least};
+ghost use Rattle.pep_clause.specs.CutOrder.{LiesIn, LiesStrictlyIn, SameUnder};
 ghost use Rattle.pep_clause.specs.Laws.{cut_total};
 ghost use Rattle.pep_clause.specs.OperatorTable.{before_dev, before_place, past_release};
 
@@ -177,6 +179,32 @@ impl Cut {
         };
         Ok(Cut { place })
     }
+
+    // How the cuts stand: by their places, and where these tie by their kinds.
+    fn order_to(&self, other: &Cut) -> Ordering
+        ensures order { result ≡ cut_cmp self.now other.now }
+        ensures spelled { IsCut self.now }
+        ensures other_spelled { IsCut other.now }
+    {
+        match (&self.place, &other.place) {
+            (Place::Before(a), Place::Before(b)) => a.cmp(b),
+            (Place::Before(a), Place::After(b)) => a.cmp(b).then(Ordering::Less),
+            (Place::Before(a), Place::Past(b)) => a.cmp_release(b).then(Ordering::Less),
+            (Place::Before(_), Place::End) => Ordering::Less,
+            (Place::After(a), Place::Before(b)) => a.cmp(b).then(Ordering::Greater),
+            (Place::After(a), Place::After(b)) => a.cmp(b),
+            (Place::After(a), Place::Past(b)) => a.cmp_release(b).then(Ordering::Less),
+            (Place::After(_), Place::End) => Ordering::Less,
+            (Place::Past(a), Place::Before(b)) => a.cmp_release(b).then(Ordering::Greater),
+            (Place::Past(a), Place::After(b)) => a.cmp_release(b).then(Ordering::Greater),
+            (Place::Past(a), Place::Past(b)) => a.cmp_release(b),
+            (Place::Past(_), Place::End) => Ordering::Less,
+            (Place::End, Place::Before(_)) => Ordering::Greater,
+            (Place::End, Place::After(_)) => Ordering::Greater,
+            (Place::End, Place::Past(_)) => Ordering::Greater,
+            (Place::End, Place::End) => Ordering::Equal,
+        }
+    }
 }
 
 impl PartialEq for Cut {
@@ -184,7 +212,12 @@ impl PartialEq for Cut {
 
     ghost laws = { partial_equiv_from_equiv (eq_by_cmp_equiv cut_total) };
 
-    fn eq(&self, other: &Cut) -> bool {
+    /// Whether the same versions lie under both.
+    fn eq(&self, other: &Cut) -> bool
+        ensures test { result ≡ eq_by_cmp cut_cmp self.now other.now }
+        ensures same { IsTrue result ↔ SameUnder self.now other.now }
+        ensures one { IsTrue result ↔ (self.now ≡ other.now) }
+    {
         self.cmp(other) == Ordering::Equal
     }
 }
@@ -212,24 +245,15 @@ impl Ord for Cut {
 
     ghost matches_eq = { λ a b. refl };
 
-    fn cmp(&self, other: &Cut) -> Ordering {
-        match (&self.place, &other.place) {
-            (Place::Before(a), Place::Before(b)) => a.cmp(b),
-            (Place::Before(a), Place::After(b)) => a.cmp(b).then(Ordering::Less),
-            (Place::Before(a), Place::Past(b)) => a.cmp_release(b).then(Ordering::Less),
-            (Place::Before(_), Place::End) => Ordering::Less,
-            (Place::After(a), Place::Before(b)) => a.cmp(b).then(Ordering::Greater),
-            (Place::After(a), Place::After(b)) => a.cmp(b),
-            (Place::After(a), Place::Past(b)) => a.cmp_release(b).then(Ordering::Less),
-            (Place::After(_), Place::End) => Ordering::Less,
-            (Place::Past(a), Place::Before(b)) => a.cmp_release(b).then(Ordering::Greater),
-            (Place::Past(a), Place::After(b)) => a.cmp_release(b).then(Ordering::Greater),
-            (Place::Past(a), Place::Past(b)) => a.cmp_release(b),
-            (Place::Past(_), Place::End) => Ordering::Less,
-            (Place::End, Place::Before(_)) => Ordering::Greater,
-            (Place::End, Place::After(_)) => Ordering::Greater,
-            (Place::End, Place::Past(_)) => Ordering::Greater,
-            (Place::End, Place::End) => Ordering::Equal,
-        }
+    /// One cut is less exactly if less lies under it, and two are equal exactly if the same versions lie under both.
+    fn cmp(&self, other: &Cut) -> Ordering
+        ensures order { result ≡ cut_cmp self.now other.now }
+        ensures within { IsTrue (is_le result) ↔ LiesIn self.now other.now }
+        ensures less { (result ≡ Less) ↔ LiesStrictlyIn self.now other.now }
+        ensures greater { (result ≡ Greater) ↔ LiesStrictlyIn other.now self.now }
+        ensures same { (result ≡ Equal) ↔ SameUnder self.now other.now }
+        ensures one { (result ≡ Equal) ↔ (self.now ≡ other.now) }
+    {
+        self.order_to(other)
     }
 }

@@ -117,7 +117,8 @@ fn ranges_copied(alloc: Global, ranges: &[Range]) -> Result<Vec<Range>, ClauseFa
 impl VersionSet {
     /// The set of no version.
     pub fn none(alloc: Global) -> VersionSet
-        ensures { result ≡ [] }
+        ensures ranges { result ≡ [] }
+        ensures versions { (v : Version) → ¬ In result v }
     {
         VersionSet {
             ranges: Vec::new(alloc),
@@ -127,6 +128,7 @@ impl VersionSet {
     /// The set of all versions. The only fault is `NoMemory`.
     pub fn all(alloc: Global) -> Result<VersionSet, ClauseFault>
         ensures all { IfOk result (λ s. s ≡ all_versions) }
+        ensures versions { IfOk result (λ s. (v : Version) → In s v) }
         ensures faults { IfErr result (λ e. e ≡ ClauseFault.NoMemory) }
     {
         let least = Cut::least(alloc)?;

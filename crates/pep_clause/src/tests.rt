@@ -150,10 +150,16 @@ fn has_an_operator(rt: HostRuntime) -> Result<(), Fail> {
     for range in range.ranges() {
         assert!(rt; range.copied(alloc)?.low() < range.high());
     }
-    one_list();
-    one_clause();
-    clause_text_is_read();
     Ok(())
+}
+
+#[test]
+fn laws_stand() {
+    laws::one_list();
+    laws::one_list_of_versions();
+    laws::place_is_in();
+    laws::one_clause();
+    laws::clause_text_is_read();
 }
 
 // What is read of a text: the operator, and what is written behind it.
