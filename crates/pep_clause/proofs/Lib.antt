@@ -1,5 +1,5 @@
-mod MeetingPoints
-mod NormalMeeting
+mod JoinedPoints
+mod NormalJoined
 mod Rows
 pub mod OrderRows
 pub mod NextPlace

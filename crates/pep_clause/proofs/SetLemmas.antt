@@ -6,11 +6,11 @@ use Rattle.std.specs.declared.cmp.Ordering.TheVariants.{Less, Equal, Greater}
 use Rattle.pep_version.specs.Laws.{is_empty-length}
 use Rattle.pep_version.specs.Order.{place_of}
 use Rattle.pep_version.specs.Version.{IsVersion, Version}
-use Rattle.pep_clause.specs.declared.clause.Kind.{Kind}
-use Rattle.pep_clause.specs.declared.clause.Kind.TheVariants as stored
+use Rattle.pep_clause.specs.declared.clause.ClauseForm.{ClauseForm}
+use Rattle.pep_clause.specs.declared.clause.ClauseForm.TheVariants as stored
 use Rattle.pep_clause.specs.declared.fault.ClauseFault.{ClauseFault}
 use Rattle.pep_clause.specs.Admits.{admits}
-use Rattle.pep_clause.specs.Clause.{Clause, compatible, matching, matching_prefix, excluding, excluding_prefix, at_most, at_least, less_than, greater_than, arbitrary, demanded_text, prefix_of}
+use Rattle.pep_clause.specs.Clause.{Clause, compatible, matching, matching_prefix, excluding, excluding_prefix, at_most, at_least, less_than, greater_than, demanded, demanded_text, prefix_of}
 use Rattle.pep_clause.specs.ClauseView.{IsStored, clause_of}
 use Rattle.pep_clause.specs.Cut.{final_version}
 use Rattle.pep_clause.specs.Density.{normal-has_version}
@@ -40,7 +40,7 @@ is_in-set_of (at_most w) h v g none = at_most-row w v g h.1
 is_in-set_of (at_least w) h v g none = at_least-row w v h.1
 is_in-set_of (less_than w) h v g none = less_than_version-row w v h.1
 is_in-set_of (greater_than w) h v g none = greater_than-row w v g h.1
-is_in-set_of (arbitrary text) h v g none = cc none
+is_in-set_of (demanded text) h v g none = cc none
 
 -- all versions are in the one range of all
 pub In-all_versions : (v : Version) → In all_versions v
@@ -53,7 +53,7 @@ all-versions (Err fault) e = e
 
 -- where a text is demanded they hold all versions
 pub demanded-in-set_of : (c : Clause) (v : Version) → IsSome (demanded_text c) → In (set_of c) v
-demanded-in-set_of (arbitrary text) v h = In-all_versions v
+demanded-in-set_of (demanded text) v h = In-all_versions v
 demanded-in-set_of (compatible w) v h = cc h
 demanded-in-set_of (matching w) v h = cc h
 demanded-in-set_of (matching_prefix p) v h = cc h
@@ -75,10 +75,10 @@ IsNormal-set_of (at_most w) h = at_most-normal w h.0
 IsNormal-set_of (at_least w) h = at_least-normal w h.0
 IsNormal-set_of (less_than w) h = less_than_version-normal w h.0
 IsNormal-set_of (greater_than w) h = greater_than-normal w h.0
-IsNormal-set_of (arbitrary text) h = IsNormal-all_versions
+IsNormal-set_of (demanded text) h = IsNormal-all_versions
 
 -- a stored clause is one that some text is read as
-pub stored-valid : (kind : Kind) → IsStored kind → IsValidClause (clause_of kind)
+pub stored-valid : (form : ClauseForm) → IsStored form → IsValidClause (clause_of form)
 stored-valid (stored.Compatible w) h = h
 stored-valid (stored.Matching w) h = h
 stored-valid (stored.MatchingPrefix w) h = h.0
@@ -88,7 +88,7 @@ stored-valid (stored.AtMost w) h = h
 stored-valid (stored.AtLeast w) h = h
 stored-valid (stored.LessThan w) h = h
 stored-valid (stored.GreaterThan w) h = h
-stored-valid (stored.Arbitrary text) h = h
+stored-valid (stored.Demanded text) h = h
 
 -- the same of a call's answer
 pub set_of-versions : (answer : Result (List Range) ClauseFault) (c : Clause) → IsValidClause c → IfOk answer (λ s. s ≡ set_of c)

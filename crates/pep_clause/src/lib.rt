@@ -1,16 +1,13 @@
 //! Version specifier clauses, cuts and version sets, by PEP 440.
 #![tactic(auto)]
 
-mod admission;
 mod clause;
-mod clause_text;
 mod cut;
 mod fault;
 pub mod laws;
 mod op;
-mod places;
 mod range;
-mod reading;
+mod range_ends;
 mod set;
 #[cfg(test)]
 mod set_tests;

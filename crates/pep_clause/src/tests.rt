@@ -115,13 +115,13 @@ fn joins(rt: HostRuntime) -> Result<(), Fail> {
 fn narrows(rt: HostRuntime) -> Result<(), Fail> {
     let alloc = rt.alloc();
     let mut kept = set(alloc, ">=1")?;
-    kept.narrow(alloc, &set(alloc, ">=0.5")?)?;
+    kept.join(alloc, &set(alloc, ">=0.5")?)?;
     expect_cuts(&rt, alloc, &kept, &["before 1", "end"])?;
-    kept.narrow(alloc, &set(alloc, "<2")?)?;
+    kept.join(alloc, &set(alloc, "<2")?)?;
     expect_cuts(&rt, alloc, &kept, &["before 1", "before 2.dev0"])?;
-    kept.narrow(alloc, &set(alloc, "<3")?)?;
+    kept.join(alloc, &set(alloc, "<3")?)?;
     expect_cuts(&rt, alloc, &kept, &["before 1", "before 2.dev0"])?;
-    kept.narrow(alloc, &set(alloc, ">=2")?)?;
+    kept.join(alloc, &set(alloc, ">=2")?)?;
     assert!(rt; kept.is_empty());
     Ok(())
 }
