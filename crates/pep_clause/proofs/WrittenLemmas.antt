@@ -10,8 +10,8 @@ use Rattle.std.specs.Char.{is_ascii_uppercase, to_ascii_lowercase}
 use Rattle.std.specs.List.{ends_with, list_all}
 use Rattle.std.specs.Prelude.{if◌then◌else◌, nat_eq, nat_lt}
 use Rattle.std.specs.Str.{str_to_ascii_lowercase}
-use Rattle.pep_version.specs.SpelledLaws.{spelled-version}
-use Rattle.pep_version.specs.Conjunction.{and-first, and-second}
+use Rattle.pep_version.proofs.SpelledLaws.{spelled-version}
+use Rattle.pep_version.proofs.Connectives.{and_first as and-first, and_second as and-second}
 use Rattle.pep_version.specs.Spelling.{Reads, trimmed}
 use Rattle.pep_version.specs.Text.{is_text_byte, normal_text}
 use Rattle.pep_version.specs.Version.{IsVersion, Segment, Version, is_empty}

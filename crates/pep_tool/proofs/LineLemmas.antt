@@ -24,7 +24,7 @@ use Rattle.pep_require.specs.Requirement.{RequirementParts}
 use Rattle.pep_require.specs.declared.fault.RequireFault.{RequireFault}
 use Rattle.pep_require.specs.declared.fault.RequireFault.TheVariants as fault
 use Rattle.pep_tool.specs.Line.{IsOperand, ReadsBound, ReadsBounds, ReadsLine, RefusesBound, RefusesBounds, RefusesFound, RefusesLine, RefusesLineAs, RefusesOperand, RefusesPieces, after_operator, after_run, behind_name, clause_run, pieces_of, plain_requirement}
-use Rattle.pep_version.specs.Conjunction.{and-first as and_first, and-second as and_second}
+use Rattle.pep_version.proofs.Connectives.{and_first, and_second}
 use Rattle.pep_tool.proofs.RunLemmas.{all-rest, all-run, ascii-class, rest-all, rest-span, run-span}
 
 -- ---- classes of bytes

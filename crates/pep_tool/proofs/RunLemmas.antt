@@ -1,11 +1,9 @@
 -- The longest run of elements of one class at the front of a list.
-use Rattle.std.proofs.Common.{◌≡◌, ℕ, zero, suc, ◌+◌, ◌<◌, Bool, true, false, ◌&&◌, ◌==◌, get_or, sym, List, [], ◌∷◌, ◌++◌, length, take, drop, refl, ap, ◌∙◌, arith, lit<}
+use Rattle.std.proofs.Common.{◌≡◌, ℕ, zero, suc, ◌+◌, ◌<◌, Bool, true, false, List, [], ◌∷◌, ◌++◌, length, take, drop, refl, ap, ◌∙◌, arith, lit<}
 use Rattle.std.proofs.Math.Seq.{take-append_seam, drop-append_seam}
-use Rattle.std.proofs.lemmas.List.{drop_more, take-append-drop}
-use Rattle.std.proofs.lemmas.List.Splits.{slice_split_at, slice_split_none}
-use Rattle.std.specs.List.{All, list_all, prefix_len, slice_split}
+use Rattle.std.specs.List.{list_all, prefix_len}
 use Rattle.std.specs.Str.{IsAscii}
-use Rattle.pep_version.specs.Conjunction.{and-first as and_first, and-second as and_second}
+use Rattle.pep_version.proofs.Connectives.{and_first, and_second}
 use Rattle.pep_marker.specs.Marker.{begins}
 
 -- the run of a list that is a run and then something that does not begin with an element of the class
@@ -62,18 +60,3 @@ begins-rest p (b ∷ x) = by (p b) refl (begins-rest p x)
     by : (q : Bool) → p b ≡ q → begins p (drop (prefix_len p x) x) ≡ false → begins p (drop (prefix_len p (b ∷ x)) (b ∷ x)) ≡ false
     by true e rest = let n : 1 + prefix_len p x ≡ suc (prefix_len p x) = omega arith in rw (e, n) rest
     by false e rest = rw e e
-
--- ---- a text cut at one byte
-
--- the first part of a text that has the byte
-pub parts-at : (byte : ℕ) (xs : List ℕ) (i : ℕ) → i < length xs → All (λ b. (b == byte) ≡ false) (take i xs) → (get_or xs i 0 == byte) ≡ true
-    → slice_split (λ b. b == byte) xs ≡ take i xs ∷ slice_split (λ b. b == byte) (drop (i + 1) xs)
-parts-at byte xs i lt none at =
-    let shape : xs ≡ take i xs ++ get_or xs i 0 ∷ drop (i + 1) xs = sym (take-append-drop i xs) ∙ ap (λ (t : List ℕ). take i xs ++ t) (drop_more xs i 0 lt) in
-    ap (slice_split (λ b. b == byte)) shape ∙ slice_split_at (λ b. b == byte) (take i xs) (get_or xs i 0) (drop (i + 1) xs) none at
-
-pub parts-whole : (byte : ℕ) (xs : List ℕ) → All (λ b. (b == byte) ≡ false) xs → slice_split (λ b. b == byte) xs ≡ xs ∷ []
-parts-whole byte xs none = slice_split_none (λ b. b == byte) xs none
-
-pub same_byte : (a b : ℕ) → a ≡ b → (a == b) ≡ true
-same_byte a b e = grind (arith, e)

@@ -8,11 +8,12 @@ ghost use Rattle.pep_marker.specs.Name.{is_name_byte, name_of};
 ghost use Rattle.pep_tool.specs.Line.{IsOperand, ReadsBound, RefusesBound, RefusesBounds, RefusesLine, RefusesOperand};
 ghost use Rattle.pep_tool.specs.Sets.{MeansBound, MeansBounds, MeansLine};
 
-use crate::runs::{blank_run, clause_run, first_part, name_run};
+use crate::runs::{blank_run, clause_run, name_run};
 use crate::sets::narrow;
 use pep_clause::{Clause, ClauseFault, Op, VersionSet};
 use pep_marker::{MarkerFault, Name};
 use pep_require::RequireFault;
+use pep_version::first_part;
 use std::alloc::Global;
 
 /// The longest line, in bytes.

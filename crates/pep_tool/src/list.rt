@@ -7,9 +7,10 @@ ghost use Rattle.pep_tool.specs.Sets.{MergesLine, MergesList, RefusesList, Spoil
 
 use crate::fault::{Cause, LineFault};
 use crate::line::{LINE_LIMIT, read_line};
-use crate::runs::{blank_end, blank_run, first_part};
+use crate::runs::{blank_end, blank_run};
 use crate::sets::{Sets, gather};
 use pep_require::RequireFault;
+use pep_version::first_part;
 use std::alloc::Global;
 
 /// The largest input, in bytes.

@@ -4,15 +4,16 @@ use Rattle.std.proofs.lemmas.Bool.{cases_Bool}
 use Rattle.std.proofs.lemmas.Bool.Decides.{nat_tests}
 use Rattle.std.proofs.lemmas.List.{drop_more, map-append, take-append-drop, take_more}
 use Rattle.std.proofs.lemmas.List.Folds.{list_all-map}
-use Rattle.std.proofs.lemmas.List.Splits.{slice_split_at, slice_split_none}
 use Rattle.std.specs.Char.{is_ascii_alphanumeric, is_ascii_digit, to_ascii_lowercase}
 use Rattle.std.specs.List.{All, AllByRecursion, list_all, onto_first}
 use Rattle.std.specs.Str.Parse.{digits_value}
 use Rattle.pep_version.specs.Cut.{lower}
 use Rattle.pep_version.specs.Reading.{behind, front, goes_on, release_behind, release_front, starts_digit, stripped}
-use Rattle.pep_version.specs.Spelling.{is_run, is_separator, segment_of_run, separated_parts}
+use Rattle.pep_version.specs.Spelling.{is_run, segment_of_run, separated_parts}
+use Rattle.pep_version.specs.Bytes.{is_separator}
 use Rattle.pep_version.specs.Version.{Segment, SegmentFits, number, is_empty, is_word_byte, word}
-use Rattle.pep_version.specs.Conjunction.{and-first, and-second}
+use Rattle.pep_version.proofs.Connectives.{and_first, and_second}
+use Rattle.pep_version.proofs.SplitLemmas.{split-at, split-whole}
 use Rattle.pep_version.proofs.Readers.{behind-append, front-append}
 
 pub is_empty_lower : (xs : List ℕ) → is_empty (lower xs) ≡ (length xs == 0)
@@ -27,7 +28,7 @@ no-digit-lower b h = grind (arith, nat_tests)
 
 pub digits-lower : (ds : List ℕ) → list_all is_ascii_digit ds ≡ true → lower ds ≡ ds
 digits-lower [] h = refl
-digits-lower (d ∷ ds) h = λ i. digit-lower d (and-first (is_ascii_digit d) (list_all is_ascii_digit ds) h) i ∷ digits-lower ds (and-second (is_ascii_digit d) (list_all is_ascii_digit ds) h) i
+digits-lower (d ∷ ds) h = λ i. digit-lower d (and_first (is_ascii_digit d) (list_all is_ascii_digit ds) h) i ∷ digits-lower ds (and_second (is_ascii_digit d) (list_all is_ascii_digit ds) h) i
 
 -- the digits at the front end at the first byte that is none
 pub digits-until : (t : List ℕ) (i : ℕ) → list_all is_ascii_digit (take i t) ≡ true → starts_digit (lower (drop i t)) ≡ false
@@ -126,19 +127,13 @@ pub label-lower : (t : List ℕ) → list_all is_run (separated_parts (lower t))
 label-lower t = ap (list_all is_run) (parts-lower t) ∙ list_all-map is_run lower (separated_parts t)
 
 -- the first run of a label
-separated-at : (xs : List ℕ) (i : ℕ) → i < length xs → All (λ b. is_separator b ≡ false) (take i xs) → is_separator (get_or xs i 0) ≡ true
-    → separated_parts xs ≡ take i xs ∷ separated_parts (drop (i + 1) xs)
-separated-at xs i lt none here =
-    let shape : xs ≡ take i xs ++ get_or xs i 0 ∷ drop (i + 1) xs = sym (take-append-drop i xs) ∙ ap (λ (l : List ℕ). take i xs ++ l) (drop_more xs i 0 lt) in
-    ap separated_parts shape ∙ slice_split_at is_separator (take i xs) (get_or xs i 0) (drop (i + 1) xs) none here
-
 pub run-at : (xs : List ℕ) (i : ℕ) → i < length xs → All (λ b. is_separator b ≡ false) (take i xs) → is_separator (get_or xs i 0) ≡ true
     → separated_parts (lower xs) ≡ lower (take i xs) ∷ separated_parts (lower (drop (i + 1) xs))
 run-at xs i lt none here =
-    parts-lower xs ∙ ap (map lower) (separated-at xs i lt none here) ∙ ap (λ (l : List (List ℕ)). lower (take i xs) ∷ l) (sym (parts-lower (drop (i + 1) xs)))
+    parts-lower xs ∙ ap (map lower) (split-at is_separator xs i lt none here) ∙ ap (λ (l : List (List ℕ)). lower (take i xs) ∷ l) (sym (parts-lower (drop (i + 1) xs)))
 
 pub run-whole : (xs : List ℕ) → All (λ b. is_separator b ≡ false) xs → separated_parts (lower xs) ≡ lower xs ∷ []
-run-whole xs none = parts-lower xs ∙ ap (map lower) (slice_split_none is_separator xs none)
+run-whole xs none = parts-lower xs ∙ ap (map lower) (split-whole is_separator xs none)
 
 -- bytes of a run are ASCII, also in lower case
 word-ascii : (b : ℕ) → is_word_byte b ≡ true → b < 128
@@ -153,8 +148,8 @@ run-ascii run i h lt = all-ascii run i (run-all (lower run) h) lt
   where
     all-ascii : (xs : List ℕ) (k : ℕ) → list_all is_word_byte (lower xs) ≡ true → k < length xs → to_ascii_lowercase (get_or xs k 0) < 128
     all-ascii [] k h lt = absurd (omega arith)
-    all-ascii (x ∷ xs) zero h lt = word-ascii (to_ascii_lowercase x) (and-first (is_word_byte (to_ascii_lowercase x)) (list_all is_word_byte (lower xs)) h)
-    all-ascii (x ∷ xs) (suc k) h lt = all-ascii xs k (and-second (is_word_byte (to_ascii_lowercase x)) (list_all is_word_byte (lower xs)) h) (omega arith)
+    all-ascii (x ∷ xs) zero h lt = word-ascii (to_ascii_lowercase x) (and_first (is_word_byte (to_ascii_lowercase x)) (list_all is_word_byte (lower xs)) h)
+    all-ascii (x ∷ xs) (suc k) h lt = all-ascii xs k (and_second (is_word_byte (to_ascii_lowercase x)) (list_all is_word_byte (lower xs)) h) (omega arith)
 
 pub lower-more : (run : List ℕ) (i : ℕ) → i < length run → lower (take (i + 1) run) ≡ lower (take i run) ++ to_ascii_lowercase (get_or run i 0) ∷ []
 lower-more run i lt = ap lower (take_more run i 0 lt) ∙ map-append to_ascii_lowercase (take i run) (get_or run i 0 ∷ [])

@@ -13,10 +13,11 @@ use Rattle.std.specs.Str.{str_to_ascii_lowercase}
 use Rattle.std.specs.Str.Parse.{AllDigits, digits_value}
 use Rattle.pep_version.specs.declared.parts.Phase.{Phase}
 use Rattle.pep_version.specs.declared.parts.Phase.TheVariants.{Alpha, Beta, Rc}
-use Rattle.pep_version.specs.Spelling.{DevSpelling, EpochSpelling, IsOneOf, LabelSpelling, NumberSpelling, OptionalNumberSpelling, PostSpelling, PreSpelling, ReleaseSpelling, Spells, dotted_parts, is_number, is_run, is_separator, is_white_space, pre_words, segment_of_run, separated_parts, trimmed, without_leading_space, without_trailing_space}
+use Rattle.pep_version.specs.Spelling.{DevSpelling, EpochSpelling, IsOneOf, LabelSpelling, NumberSpelling, OptionalNumberSpelling, PostSpelling, PreSpelling, ReleaseSpelling, Spells, dotted_parts, is_number, is_run, pre_words, segment_of_run, separated_parts, trimmed, without_leading_space, without_trailing_space}
+use Rattle.pep_version.specs.Bytes.{is_separator, is_white_space}
 use Rattle.pep_version.specs.Text.{dev_text, epoch_text, is_text_byte, label_text, normal_text, phase_text, post_text, pre_text, release_text, segment_text}
 use Rattle.pep_version.specs.Version.{Fits, IsSegment, IsVersion, Segment, SegmentFits, number, Version, is_empty, is_word_byte, word}
-use Rattle.pep_version.specs.Conjunction.{and-first, and-second}
+use Rattle.pep_version.proofs.Connectives.{and_first, and_second}
 
 -- ---- numbers
 
@@ -48,11 +49,11 @@ optional-spells (c ∷ cs) n s = s
 
 list_all-weaker : (p q : ℕ → Bool) → ((b : ℕ) → p b ≡ true → q b ≡ true) → (xs : List ℕ) → list_all p xs ≡ true → list_all q xs ≡ true
 list_all-weaker p q w [] h = refl
-list_all-weaker p q w (x ∷ xs) h = rw (w x (and-first (p x) (list_all p xs) h), list_all-weaker p q w xs (and-second (p x) (list_all p xs) h)) refl
+list_all-weaker p q w (x ∷ xs) h = rw (w x (and_first (p x) (list_all p xs) h), list_all-weaker p q w xs (and_second (p x) (list_all p xs) h)) refl
 
 none-pass : (p q : ℕ → Bool) → ((b : ℕ) → p b ≡ true → q b ≡ false) → (xs : List ℕ) → list_all p xs ≡ true → AllByRecursion (λ b. q b ≡ false) xs
 none-pass p q w [] h = tt
-none-pass p q w (x ∷ xs) h = (w x (and-first (p x) (list_all p xs) h), none-pass p q w xs (and-second (p x) (list_all p xs) h))
+none-pass p q w (x ∷ xs) h = (w x (and_first (p x) (list_all p xs) h), none-pass p q w xs (and_second (p x) (list_all p xs) h))
 
 -- the parts of a text that was joined of parts
 join-split : (p : ℕ → Bool) (c : ℕ) (parts : List (List ℕ)) → p c ≡ true → 0 < length parts → AllByRecursion (AllByRecursion (λ b. p b ≡ false)) parts
@@ -73,19 +74,19 @@ byte-lower b h = grind (arith, nat_tests)
 
 plain-front : (xs : List ℕ) → list_all is_text_byte xs ≡ true → without_leading_space xs ≡ xs
 plain-front [] h = refl
-plain-front (x ∷ xs) h = rw (byte-white x (and-first (is_text_byte x) (list_all is_text_byte xs) h)) refl
+plain-front (x ∷ xs) h = rw (byte-white x (and_first (is_text_byte x) (list_all is_text_byte xs) h)) refl
 
 plain-end : (xs : List ℕ) → list_all is_text_byte xs ≡ true → without_trailing_space xs ≡ xs
 plain-end [] h = refl
 plain-end (x ∷ xs) h =
-    let more = plain-end xs (and-second (is_text_byte x) (list_all is_text_byte xs) h) in
-    rw (byte-white x (and-first (is_text_byte x) (list_all is_text_byte xs) h)) (ap (λ (l : List ℕ). x ∷ l) more)
+    let more = plain-end xs (and_second (is_text_byte x) (list_all is_text_byte xs) h) in
+    rw (byte-white x (and_first (is_text_byte x) (list_all is_text_byte xs) h)) (ap (λ (l : List ℕ). x ∷ l) more)
 
 plain-lower : (xs : List ℕ) → list_all is_text_byte xs ≡ true → str_to_ascii_lowercase xs ≡ xs
 plain-lower [] h = refl
 plain-lower (x ∷ xs) h =
-    let same : to_ascii_lowercase x ≡ x = byte-lower x (and-first (is_text_byte x) (list_all is_text_byte xs) h) in
-    let more = plain-lower xs (and-second (is_text_byte x) (list_all is_text_byte xs) h) in
+    let same : to_ascii_lowercase x ≡ x = byte-lower x (and_first (is_text_byte x) (list_all is_text_byte xs) h) in
+    let more = plain-lower xs (and_second (is_text_byte x) (list_all is_text_byte xs) h) in
     λ i. same i ∷ more i
 
 pub plain-trimmed : (xs : List ℕ) → list_all is_text_byte xs ≡ true → trimmed xs ≡ xs
@@ -233,7 +234,7 @@ word-no-separator b h = grind arith
 
 segment-bytes : (s : Segment) → IsSegment s → SegmentFits s → list_all is_word_byte (segment_text s) ≡ true
 segment-bytes (number n) is fits = list_all-weaker is_ascii_digit is_word_byte digit-word (decimal n) (decimal-digits n fits)
-segment-bytes (word letters) is fits = and-first (list_all is_word_byte letters) (list_any is_ascii_lowercase letters) is
+segment-bytes (word letters) is fits = and_first (list_all is_word_byte letters) (list_any is_ascii_lowercase letters) is
 
 some-run : (run : List ℕ) → is_empty run ≡ false → list_all is_word_byte run ≡ true → is_run run ≡ true
 some-run [] e h = cc
@@ -250,7 +251,7 @@ letters-some (b ∷ rest) h = refl
 segment-run : (s : Segment) → IsSegment s → SegmentFits s → is_run (segment_text s) ≡ true
 segment-run (number n) is fits = some-run (decimal n) (number-some (decimal n) (decimal-number n fits)) (segment-bytes (number n) is fits)
 segment-run (word letters) is fits =
-    some-run letters (letters-some letters (and-second (list_all is_word_byte letters) (list_any is_ascii_lowercase letters) is)) (segment-bytes (word letters) is fits)
+    some-run letters (letters-some letters (and_second (list_all is_word_byte letters) (list_any is_ascii_lowercase letters) is)) (segment-bytes (word letters) is fits)
 
 letter-no-digit : (b : ℕ) → is_ascii_lowercase b ≡ true → is_ascii_digit b ≡ false
 letter-no-digit b h = grind arith
@@ -268,7 +269,7 @@ not-digits (b ∷ rest) h = elim (cases_Bool (is_ascii_lowercase b)) [
 
 segment-read : (s : Segment) → IsSegment s → SegmentFits s → s ≡ segment_of_run (segment_text s)
 segment-read (number n) is fits = let digits = decimal-digits n fits in rw digits (ap number (decimal-spells n fits).1)
-segment-read (word letters) is fits = let other = not-digits letters (and-second (list_all is_word_byte letters) (list_any is_ascii_lowercase letters) is) in rw other refl
+segment-read (word letters) is fits = let other = not-digits letters (and_second (list_all is_word_byte letters) (list_any is_ascii_lowercase letters) is) in rw other refl
 
 segments-apart : (label : List Segment) → AllByRecursion IsSegment label → AllByRecursion SegmentFits label → AllByRecursion (AllByRecursion (λ b. is_separator b ≡ false)) (map segment_text label)
 segments-apart [] is fits = tt

@@ -10,7 +10,7 @@ use Rattle.pep_version.specs.Segments.{VersionOf}
 use Rattle.pep_version.specs.Spelling.{Reads, SpellsAny, trimmed}
 use Rattle.pep_version.specs.Version.{IsVersion, NumbersFit, Version}
 use Rattle.pep_version.proofs.OneVersion.{one-version, spelled-passes}
-use Rattle.pep_version.specs.SpelledLaws.{runs-segments, some-part}
+use Rattle.pep_version.proofs.SpelledLaws.{runs-segments, some-part}
 use Rattle.pep_version.proofs.Sound.{read-spelled}
 
 -- the slices of a text write a version, where their numbers fit

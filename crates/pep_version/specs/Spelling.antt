@@ -2,7 +2,6 @@
 -- version strings with regular expressions"). A text is a list of bytes.
 use Rattle.std.specs.Prelude.{◌≡◌, ℕ, ◌==◌, ◌&&◌, ◌||◌, ◌⊎◌, Bool, false, not, List, [], ◌∷◌, ◌++◌, Option, Some, None, Result, Ok, Err, IsTrue, codes, if◌then◌else◌, map, ⊤}
 use Rattle.std.specs.Char.{is_ascii_alphabetic, is_ascii_digit}
-use Rattle.std.specs.Int.{is_in_range}
 use Rattle.std.specs.List.{concat, list_all, slice_split}
 use Rattle.std.specs.Str.{str_to_ascii_lowercase}
 use Rattle.std.specs.Str.Parse.{digits_value}
@@ -10,11 +9,8 @@ use Rattle.pep_version.specs.declared.parts.Phase.{Phase}
 use Rattle.pep_version.specs.declared.parts.Phase.TheVariants.{Alpha, Beta, Rc}
 use Rattle.pep_version.specs.declared.fault.VersionFault.{VersionFault}
 use Rattle.pep_version.specs.declared.fault.VersionFault.TheVariants.{NotAVersion, NumberTooLarge, NoMemory}
+use Rattle.pep_version.specs.Bytes.{is_separator, is_white_space}
 use Rattle.pep_version.specs.Version.{NumbersFit, Segment, number, Version, is_empty, is_word_byte, word}
-
--- space, tab, line feed, vertical tab, form feed, carriage return ("Leading and Trailing Whitespace")
-abbrev pub is_white_space : ℕ → Bool
-is_white_space b = b == 32 || is_in_range 9 13 b
 
 -- a text without the white space at its front, at its end, and at both
 abbrev pub without_leading_space : List ℕ → List ℕ
@@ -28,10 +24,6 @@ without_trailing_space (b ∷ rest) =
 
 abbrev pub trimmed : List ℕ → List ℕ
 trimmed text = without_trailing_space (without_leading_space text)
-
--- `-`, `_` or `.` ("Pre-release separators" and its kin)
-abbrev pub is_separator : ℕ → Bool
-is_separator b = b == 45 || b == 95 || b == 46
 
 -- nothing, or one separator
 abbrev pub IsOptionalSeparator : List ℕ → Type 0

@@ -6,8 +6,9 @@ ghost use Rattle.std.specs.Char.{is_ascii_alphanumeric};
 ghost use Rattle.std.specs.List.{list_all};
 ghost use Rattle.pep_version.specs.Cut.{IsCut, IsDigits, label_of, left_of, left_runs, lower, number_of, optional_of, phase_left_of, pre_of, value_of, version_of_cut};
 ghost use Rattle.pep_version.specs.Reading.{behind, behind_phase, behind_word, front, goes_on, implicit_number, is_label_text, number_behind, or_else, passes, read_dev, read_epoch, read_label, read_post, read_pre, read_version, read_word_and_number, release_behind, release_front, starts_digit, stripped, table, without_separator, without_v};
-ghost use Rattle.pep_version.specs.Spelling.{dev_words, dotted_parts, is_number, is_run, is_separator, post_words, separated_parts};
+ghost use Rattle.pep_version.specs.Spelling.{dev_words, dotted_parts, is_number, is_run, post_words, separated_parts};
 
+use crate::bytes::is_separator;
 use crate::parts::Phase;
 
 /// The slices of a text that write a version: digits where a number stands, and the label behind its `+`. A
@@ -40,12 +41,6 @@ fn split_digits(text: &[u8]) -> (&[u8], &[u8])
         }
     }
     (text, &text[text.len()..])
-}
-
-pub(crate) fn is_separator(b: u8) -> bool
-    ensures { result ≡ is_separator b }
-{
-    matches!(b, b'-' | b'_' | b'.')
 }
 
 // The text without a separator at its front.

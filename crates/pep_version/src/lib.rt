@@ -1,6 +1,7 @@
 //! Python versions by PEP 440: reading, the normal text, and the order.
 #![tactic(auto)]
 
+mod bytes;
 mod cut;
 mod fault;
 mod key;
@@ -10,13 +11,16 @@ mod parts;
 mod release;
 mod segments;
 mod space;
+mod split;
 mod version;
 mod writing;
 
+pub use crate::bytes::is_separator;
 pub use crate::fault::VersionFault;
 pub use crate::key::Key;
 pub use crate::parts::{Label, Phase};
 pub use crate::space::{trimmed, without_trailing_space};
+pub use crate::split::first_part;
 pub use crate::version::Version;
 
 #[cfg(test)]

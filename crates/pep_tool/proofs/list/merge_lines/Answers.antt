@@ -1,5 +1,5 @@
 use Rattle.std.proofs.Common.{◌≡◌, ◌+◌, ◌≤◌, inl, inr, List, ℕ, suc, length, Option, None, Bor, ap, subst, ◌∙◌, rules}
-use Rattle.pep_tool.specs.Sets.{left_parts}
+use Rattle.pep_version.specs.Split.{left_parts}
 use Rattle.pep_tool.proofs.ListLemmas.{SoFar, left_len, left_less, line_spoils_list, so_far_all, so_far_more}
 use Rattle.pep_tool.proofs.list.merge_lines.Goals as goal
 use Rattle.pep_tool.proofs.list.merge_lines.Goals.{else-not-fits-via-then-not-fits+else-is_none, else-not-fits-via-else-not-fits}

@@ -2,7 +2,8 @@ use Rattle.std.proofs.Common.{◌≡◌, ◌∙◌, ◌-◌, ◌+◌, ◌∷◌,
 use Rattle.std.proofs.lemmas.List.{take_all}
 use Rattle.std.proofs.lemmas.List.Elements.{All-more}
 use Rattle.pep_version.specs.Cut.{lower}
-use Rattle.pep_version.specs.Spelling.{is_separator, separated_parts}
+use Rattle.pep_version.specs.Spelling.{separated_parts}
+use Rattle.pep_version.specs.Bytes.{is_separator}
 use Rattle.pep_version.proofs.CutLemmas.{run-at, run-whole}
 use Rattle.pep_version.proofs.segments.first_run.Goals as goal
 

@@ -4,7 +4,7 @@ use Rattle.std.proofs.lemmas.Bool.{cases_Bool}
 use Rattle.std.specs.Char.{is_ascii_digit, is_ascii_lowercase}
 use Rattle.std.specs.List.{AllByRecursion, list_all, list_any}
 use Rattle.std.specs.Str.Parse.{digits_value}
-use Rattle.pep_version.specs.Conjunction.{and-first, and-second}
+use Rattle.pep_version.proofs.Connectives.{and_first, and_second}
 use Rattle.pep_version.specs.Spelling.{LabelSpelling, Spells, dotted_parts, is_run, segment_of_run, separated_parts}
 use Rattle.pep_version.specs.Version.{IsSegment, IsVersion, Segment, Version, is_word, is_word_byte}
 
@@ -15,9 +15,9 @@ some-letter : (run : List ℕ) → list_all is_word_byte run ≡ true → list_a
 some-letter [] h n = cc
 some-letter (b ∷ rest) h n = elim (cases_Bool (is_ascii_digit b)) [
   | inl digit ↦
-      let more = some-letter rest (and-second (is_word_byte b) (list_all is_word_byte rest) h) (rw digit at n) in
+      let more = some-letter rest (and_second (is_word_byte b) (list_all is_word_byte rest) h) (rw digit at n) in
       rw more (either_true (is_ascii_lowercase b))
-  | inr other ↦ rw (letter-or-digit b (and-first (is_word_byte b) (list_all is_word_byte rest) h) other) refl
+  | inr other ↦ rw (letter-or-digit b (and_first (is_word_byte b) (list_all is_word_byte rest) h) other) refl
 ]
   where
     either_true : (a : Bool) → (a || true) ≡ true
@@ -40,7 +40,7 @@ run-segment run h = elim (cases_Bool (list_all is_ascii_digit run)) [
 
 pub runs-segments : (runs : List (List ℕ)) → list_all is_run runs ≡ true → AllByRecursion IsSegment (map segment_of_run runs)
 runs-segments [] h = tt
-runs-segments (run ∷ runs) h = (run-segment run (and-first (is_run run) (list_all is_run runs) h), runs-segments runs (and-second (is_run run) (list_all is_run runs) h))
+runs-segments (run ∷ runs) h = (run-segment run (and_first (is_run run) (list_all is_run runs) h), runs-segments runs (and_second (is_run run) (list_all is_run runs) h))
 
 -- a text has a part
 pub some-part : (text : List ℕ) → 0 < length (map (digits_value 10) (dotted_parts text))
