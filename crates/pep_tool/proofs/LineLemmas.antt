@@ -9,7 +9,7 @@ use Rattle.std.proofs.lemmas.List.{take-append-drop}
 use Rattle.std.proofs.lemmas.List.Folds.{length-prefix_len}
 use Rattle.std.proofs.lemmas.List.Splits.{length-slice_split, slice_split-cons_no, slice_split-cons_yes}
 use Rattle.std.proofs.lemmas.Str.{IsUtf8-from_ascii}
-use Rattle.pep_clause.specs.Clause.{Clause, ClauseOf, arbitrary, demanded_text, is_clause_byte, operator_of, operator_text}
+use Rattle.pep_clause.specs.Clause.{Clause, ClauseOf, demanded, demanded_text, is_clause_byte, operator_of, operator_text}
 use Rattle.pep_clause.specs.OneAnswer.{clause_told, no-clause-of-nothing, one-answer}
 use Rattle.pep_clause.specs.OperatorLaws.{operator_shape}
 use Rattle.pep_clause.specs.declared.fault.ClauseFault.{ClauseFault}
@@ -205,7 +205,7 @@ is_told o run c s told e = by (subst (λ (p : Op). ClauseOf p run (Ok c)) e s)
     text_in (Ok d) = demanded_text d
     text_in (Err f) = None
 
-    exact : (t : Bool) (text : List ℕ) → Ok c ≡ (if t then Ok (arbitrary text) else Err clause_fault.BadVersion) → ⊥
+    exact : (t : Bool) (text : List ℕ) → Ok c ≡ (if t then Ok (demanded text) else Err clause_fault.BadVersion) → ⊥
     exact true text h = cc (sym told ∙ ap text_in h)
     exact false text h = cc h
 

@@ -21,7 +21,7 @@ pub(crate) fn narrow(alloc: Global, kept: &mut VersionSet, set: &VersionSet) -> 
     ensures ok { OnOk result (Meets kept.old set.now kept.new) }
     ensures faults { IfErr result (λ fault. fault ≡ no_memory) }
 {
-    match kept.narrow(alloc, set) {
+    match kept.join(alloc, set) {
         Ok(()) => Ok(()),
         Err(_) => Err(Fault::no_memory()),
     }
