@@ -16,7 +16,7 @@ use Rattle.pep_clause.specs.Laws.{is_under-cut_cmp}
 use Rattle.pep_clause.specs.OperatorTable.{before_place, greater_from, less_to, matching_to, next, set_of}
 use Rattle.pep_clause.specs.VersionSet.{IsNormal, is_in}
 use Rattle.pep_clause.proofs.NextPlace.{next-under}
-use Rattle.pep_clause.proofs.NormalMeeting.{IsNormal-range}
+use Rattle.pep_clause.proofs.NormalJoined.{IsNormal-range}
 use Rattle.pep_clause.proofs.PlaceCuts.{IsCut-greater_from, IsCut-least, IsCut-less_to, IsCut-matching_to, IsCut-next}
 use Rattle.pep_clause.proofs.RangeRows.{IsNormal-outside, outside-row, range-row}
 use Rattle.pep_clause.proofs.Rows.{IsCut-before_place, IsVersion-place_of, is_below-place_of, is_below-public, is_in-from_least, release_cmp-short}

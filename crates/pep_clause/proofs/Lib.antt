@@ -1,5 +1,5 @@
-mod MeetingPoints
-mod NormalMeeting
+mod JoinedPoints
+mod NormalJoined
 mod Rows
 pub mod OrderRows
 pub mod NextPlace
@@ -14,3 +14,4 @@ pub mod PrefixRows
 mod RaisedRelease
 mod SetLemmas
 mod SameVersions
+mod CutOrderLemmas

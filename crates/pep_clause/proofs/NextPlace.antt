@@ -15,7 +15,7 @@ use Rattle.pep_version.specs.Version.{Fits, IsVersion, NumbersFit, Segment, Vers
 use Rattle.pep_clause.specs.Cut.{is_under}
 use Rattle.pep_clause.specs.Laws.{is_under-cut_cmp}
 use Rattle.pep_clause.specs.OperatorTable.{after_last_dev, before_place, done, done_at, last, next, next_phase, past_release, with_dev, with_post, with_pre}
-use Rattle.pep_clause.proofs.OrderRows.{Turned, dev-not_below_first, joined_turned, label-not_below, nat_turned, next_number, no_dev-not_below, none-above_last, option_turned, post-not_above_last, post-not_below, stage_turned, then_assoc, then_neither, then_turned, zero-above_none}
+use Rattle.pep_clause.proofs.OrderRows.{Turned, dev-not_below_first, pair_turned, label-not_below, nat_turned, next_number, no_dev-not_below, none-above_last, option_turned, post-not_above_last, post-not_below, stage_turned, then_assoc, then_neither, then_turned, zero-above_none}
 use Rattle.pep_clause.proofs.Rows.{is_below-place_of, release_cmp-short}
 
 -- what is behind the place, of two versions with these parts
@@ -137,7 +137,7 @@ PreFits pre = IfSome pre (λ p. Fits p.1)
 next_pre : (phase : Phase) (k n : ℕ) (pre : Option (Phase × ℕ)) (post dev : Option ℕ) (label : List Segment) → nat_lt n last ≡ false → IfSome post Fits
     → Turned (behind pre post dev (Some (phase, k + 1)) None (Some 0) (labelled label)) (behind (Some (phase, k)) (Some n) None pre post dev Equal)
 next_pre phase k n pre post dev label e h =
-    joined_turned (nat_cmp (stage_of pre post dev) (phase_rank phase)) (nat_cmp (pre_number_of pre) (k + 1)) (nat_cmp (phase_rank phase) (stage_of pre post dev)) (nat_cmp k (pre_number_of pre)) _ _
+    pair_turned (nat_cmp (stage_of pre post dev) (phase_rank phase)) (nat_cmp (pre_number_of pre) (k + 1)) (nat_cmp (phase_rank phase) (stage_of pre post dev)) (nat_cmp k (pre_number_of pre)) _ _
     (nat_turned (stage_of pre post dev) (phase_rank phase) _ _
     (next_number (pre_number_of pre) k _ _
     (then_neither (option_cmp nat_cmp post None) _ (post-not_below post)

@@ -38,13 +38,13 @@ then_assoc Equal b x = refl
 then_assoc Greater b x = refl
 
 -- two steps that stand together
-pub joined_turned : (a b c d x y : Ordering) → Turned (ordering_then a (ordering_then b x)) (ordering_then c (ordering_then d y))
+pub pair_turned : (a b c d x y : Ordering) → Turned (ordering_then a (ordering_then b x)) (ordering_then c (ordering_then d y))
     → Turned (ordering_then (ordering_then a b) x) (ordering_then (ordering_then c d) y)
-joined_turned a b c d x y e = ap is_lt (then_assoc a b x) ∙ e ∙ ap (λ r. not (is_lt r)) (sym (then_assoc c d y))
+pair_turned a b c d x y e = ap is_lt (then_assoc a b x) ∙ e ∙ ap (λ r. not (is_lt r)) (sym (then_assoc c d y))
 
 pub stage_turned : (s t m n : ℕ) (x y : Ordering) → Turned x y
     → Turned (ordering_then (ordering_then (nat_cmp s t) (nat_cmp m n)) x) (ordering_then (ordering_then (nat_cmp t s) (nat_cmp n m)) y)
-stage_turned s t m n x y e = joined_turned (nat_cmp s t) (nat_cmp m n) (nat_cmp t s) (nat_cmp n m) x y (nat_turned s t _ _ (nat_turned m n x y e))
+stage_turned s t m n x y e = pair_turned (nat_cmp s t) (nat_cmp m n) (nat_cmp t s) (nat_cmp n m) x y (nat_turned s t _ _ (nat_turned m n x y e))
 
 -- ---- numbers
 

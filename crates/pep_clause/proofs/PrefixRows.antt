@@ -16,7 +16,7 @@ use Rattle.pep_clause.specs.Cut.{IsCut, before, end, cut_cmp, final_version, is_
 use Rattle.pep_clause.specs.Laws.{cut_total, is_under-cut_cmp}
 use Rattle.pep_clause.specs.OperatorTable.{before_dev, before_place, before_prefix, last, prefix_end, prefix_end_at, raised, raised_first, set_of, with_dev}
 use Rattle.pep_clause.specs.VersionSet.{IsNormal, is_in}
-use Rattle.pep_clause.proofs.NormalMeeting.{IsNormal-range}
+use Rattle.pep_clause.proofs.NormalJoined.{IsNormal-range}
 use Rattle.pep_clause.proofs.PrefixPlace.{prefix-under}
 use Rattle.pep_clause.proofs.RangeRows.{IsNormal-outside, outside-row, range-row}
 use Rattle.pep_clause.proofs.Rows.{IsCut-before_place, IsVersion-place_of, IsVersion-with_dev, is_below-place_of, is_below-public}

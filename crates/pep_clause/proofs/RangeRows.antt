@@ -11,8 +11,8 @@ use Rattle.pep_clause.specs.LeastCut.{IsNormal-all_versions, none-under_least}
 use Rattle.pep_clause.specs.NormalLists.{AllAbove, Apart-append, IsNormal-from, NoneBeyond, Spelled-append}
 use Rattle.pep_clause.specs.OperatorTable.{outside, range}
 use Rattle.pep_clause.specs.VersionSet.{IsNormal, Range, is_in}
-use Rattle.pep_clause.proofs.MeetingPoints.{is_point-append, is_point-range}
-use Rattle.pep_clause.proofs.NormalMeeting.{Apart-range, Spelled-range}
+use Rattle.pep_clause.proofs.JoinedPoints.{is_point-append, is_point-range}
+use Rattle.pep_clause.proofs.NormalJoined.{Apart-range, Spelled-range}
 
 -- a version is in a range exactly if it is under the high cut and not under the low one
 pub range-row : (low high : Cut) (v : Version) → is_in (range low high) v ≡ (is_under high v && not (is_under low v))

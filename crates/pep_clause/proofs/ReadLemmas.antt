@@ -21,7 +21,7 @@ use Rattle.pep_clause.specs.declared.op.Op.{Op}
 use Rattle.pep_clause.specs.declared.op.Op.TheVariants as op
 use Rattle.pep_clause.specs.Clause.{Clause, TargetAnswers, VersionAnswers, ends_in_space, is_clause_byte, is_demanded_text, operator_of, operator_text, prefix_answer, version_answer}
 use Rattle.pep_clause.specs.OperatorLaws.{operator_shape}
-use Rattle.pep_version.specs.Conjunction.{and-first, and-second}
+use Rattle.pep_version.proofs.Connectives.{and_first as and-first, and_second as and-second}
 
 or-true : (a : Bool) → (a || true) ≡ true
 or-true true = refl

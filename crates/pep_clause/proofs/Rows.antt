@@ -1,10 +1,10 @@
 -- The ranges of `>=` and of `<` hold what these clauses admit.
-use Rattle.std.proofs.Common.{◌≡◌, ℕ, zero, suc, ◌<◌, ◌&&◌, ◌||◌, ◌==◌, Bool, true, false, not, List, [], ◌∷◌, length, Option, Some, None, is_some, refl, sym, ap, ◌∙◌, arith}
+use Rattle.std.proofs.Common.{◌≡◌, ℕ, zero, suc, ◌<◌, ◌&&◌, ◌||◌, ◌==◌, Bool, true, false, not, List, [], ◌∷◌, length, Option, Some, None, is_some, nat_lt, refl, sym, ap, ◌∙◌, arith}
 use Rattle.std.specs.Cmp.{nat_cmp_is}
 use Rattle.std.specs.Cmp.Lexicographic.{slice_cmp}
 use Rattle.std.specs.List.{AllByRecursion}
 use Rattle.std.specs.Option.{option_cmp}
-use Rattle.std.specs.Ordering.{is_eq, is_lt, nat_cmp, ordering_then}
+use Rattle.std.specs.Ordering.{is_eq, is_le, is_lt, nat_cmp, ordering_then}
 use Rattle.std.specs.Prelude.{if◌then◌else◌}
 use Rattle.std.specs.declared.cmp.Ordering.{Ordering}
 use Rattle.std.specs.declared.cmp.Ordering.TheVariants.{Less, Equal, Greater}
@@ -16,7 +16,7 @@ use Rattle.pep_version.specs.Version.{Fits, IsVersion, Segment, Version, is_empt
 use Rattle.pep_clause.specs.Admits.{admits}
 use Rattle.pep_clause.specs.Between.{by_answer, not_above-test}
 use Rattle.pep_clause.specs.Clause.{Prefix, at_least, less_than}
-use Rattle.pep_clause.specs.Cut.{Cut, IsCut, before, cut_cmp, final_version, is_under, least}
+use Rattle.pep_clause.specs.Cut.{Cut, IsCut, before, after, past, end, cut_cmp, final_version, is_under, least}
 use Rattle.pep_clause.specs.LeastCut.{none-below_least, none-under_least}
 use Rattle.pep_clause.specs.Laws.{cut_total, is_under-cut_cmp}
 use Rattle.pep_clause.specs.OperatorTable.{before_place, less_to, range, set_of, with_dev}
@@ -59,6 +59,20 @@ release_cmp-short xs ys =
 -- being below a version looks at its place alone
 pub is_below-place_of : (v w : Version) → is_below v (place_of w) ≡ is_below v w
 is_below-place_of v w = λ i. is_lt (ordering_then (ordering_then (nat_cmp v.epoch w.epoch) (release_cmp-short v.release w.release i)) (suffix_cmp v w))
+
+-- the same of the release before the short form
+short-release_cmp : (xs ys : List ℕ) → release_cmp (short_release xs) ys ≡ release_cmp xs ys
+short-release_cmp xs ys =
+    release_cmp-lists (short_release xs) ys
+    ∙ (λ i. slice_cmp nat_cmp (zeros-short xs i) (without_end_zeros ys))
+    ∙ sym (release_cmp-lists xs ys)
+
+-- a version is under a cut exactly if its place is
+pub is_under-place_of : (c : Cut) (v : Version) → is_under c (place_of v) ≡ is_under c v
+is_under-place_of (before w) v = λ i. is_lt (ordering_then (ordering_then (nat_cmp v.epoch w.epoch) (short-release_cmp v.release w.release i)) (suffix_cmp v w))
+is_under-place_of (after w) v = λ i. is_le (ordering_then (ordering_then (nat_cmp v.epoch w.epoch) (short-release_cmp v.release w.release i)) (suffix_cmp v w))
+is_under-place_of (past r) v = λ i. nat_lt v.epoch r.epoch || ((v.epoch == r.epoch) && is_le (short-release_cmp v.release r.release i))
+is_under-place_of end v = refl
 
 fits_by : (b : Bool) (n : ℕ) (rest : List ℕ) → Fits n → AllByRecursion Fits rest → AllByRecursion Fits (if b then [] else n ∷ rest)
 fits_by true n rest h g = tt

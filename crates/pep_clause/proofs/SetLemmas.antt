@@ -1,15 +1,16 @@
 -- What the ranges of a clause hold.
-use Rattle.std.proofs.Common.{◌≡◌, ◌==◌, ◌↔◌, Bool, false, length, List, [], ◌∷◌, None, Result, Ok, Err, IfOk, IsSome, ◌||◌, not, refl, ◌∙◌, sym, subst, is_ge}
+use Rattle.std.proofs.Common.{◌≡◌, ◌==◌, ◌↔◌, Bool, false, length, List, [], ◌∷◌, None, Result, Ok, Err, IfOk, IsSome, ◌&&◌, ◌||◌, not, refl, ◌∙◌, sym, subst, is_ge}
 use Rattle.std.specs.Prelude.{IsTrue}
 use Rattle.std.specs.declared.cmp.Ordering.{Ordering}
 use Rattle.std.specs.declared.cmp.Ordering.TheVariants.{Less, Equal, Greater}
 use Rattle.pep_version.specs.Laws.{is_empty-length}
+use Rattle.pep_version.specs.Order.{place_of}
 use Rattle.pep_version.specs.Version.{IsVersion, Version}
-use Rattle.pep_clause.specs.declared.clause.Kind.{Kind}
-use Rattle.pep_clause.specs.declared.clause.Kind.TheVariants as stored
+use Rattle.pep_clause.specs.declared.clause.ClauseForm.{ClauseForm}
+use Rattle.pep_clause.specs.declared.clause.ClauseForm.TheVariants as stored
 use Rattle.pep_clause.specs.declared.fault.ClauseFault.{ClauseFault}
 use Rattle.pep_clause.specs.Admits.{admits}
-use Rattle.pep_clause.specs.Clause.{Clause, compatible, matching, matching_prefix, excluding, excluding_prefix, at_most, at_least, less_than, greater_than, arbitrary, demanded_text, prefix_of}
+use Rattle.pep_clause.specs.Clause.{Clause, compatible, matching, matching_prefix, excluding, excluding_prefix, at_most, at_least, less_than, greater_than, demanded, demanded_text, prefix_of}
 use Rattle.pep_clause.specs.ClauseView.{IsStored, clause_of}
 use Rattle.pep_clause.specs.Cut.{final_version}
 use Rattle.pep_clause.specs.Density.{normal-has_version}
@@ -17,10 +18,10 @@ use Rattle.pep_clause.specs.Inhabited.{HasVersionUnlessEmpty}
 use Rattle.pep_clause.specs.LeastCut.{IsNormal-all_versions, none-under_least}
 use Rattle.pep_clause.specs.OperatorTable.{set_of}
 use Rattle.pep_clause.specs.Valid.{IsValidClause}
-use Rattle.pep_clause.specs.VersionSet.{In, IsNormal, Range, is_in}
+use Rattle.pep_clause.specs.VersionSet.{In, IsNormal, Range, all_versions, is_in}
 use Rattle.pep_clause.proofs.ClauseRows.{at_most-normal, at_most-row, excluding-normal, excluding-row, greater_than-normal, greater_than-row, less_than_version-normal, less_than_version-row, matching-normal, matching-row}
 use Rattle.pep_clause.proofs.PrefixRows.{compatible-normal, compatible-row, excluding_prefix-normal, excluding_prefix-row, matching_prefix-normal, matching_prefix-row}
-use Rattle.pep_clause.proofs.Rows.{at_least-normal, at_least-row}
+use Rattle.pep_clause.proofs.Rows.{at_least-normal, at_least-row, is_under-place_of}
 
 -- what is not at least another is below it
 pub below_told : (r : Ordering) → is_ge r ≡ false → r ≡ Less
@@ -39,11 +40,20 @@ is_in-set_of (at_most w) h v g none = at_most-row w v g h.1
 is_in-set_of (at_least w) h v g none = at_least-row w v h.1
 is_in-set_of (less_than w) h v g none = less_than_version-row w v h.1
 is_in-set_of (greater_than w) h v g none = greater_than-row w v g h.1
-is_in-set_of (arbitrary text) h v g none = cc none
+is_in-set_of (demanded text) h v g none = cc none
+
+-- all versions are in the one range of all
+pub In-all_versions : (v : Version) → In all_versions v
+In-all_versions v = (λ i. not (none-under_least v i) || false)
+
+-- the same of a call's answer
+pub all-versions : (answer : Result (List Range) ClauseFault) → IfOk answer (λ s. s ≡ all_versions) → IfOk answer (λ s. (v : Version) → In s v)
+all-versions (Ok s) e = λ v. subst (λ (list : List Range). In list v) (sym e) (In-all_versions v)
+all-versions (Err fault) e = e
 
 -- where a text is demanded they hold all versions
 pub demanded-in-set_of : (c : Clause) (v : Version) → IsSome (demanded_text c) → In (set_of c) v
-demanded-in-set_of (arbitrary text) v h = (λ i. not (none-under_least v i) || false)
+demanded-in-set_of (demanded text) v h = In-all_versions v
 demanded-in-set_of (compatible w) v h = cc h
 demanded-in-set_of (matching w) v h = cc h
 demanded-in-set_of (matching_prefix p) v h = cc h
@@ -65,10 +75,10 @@ IsNormal-set_of (at_most w) h = at_most-normal w h.0
 IsNormal-set_of (at_least w) h = at_least-normal w h.0
 IsNormal-set_of (less_than w) h = less_than_version-normal w h.0
 IsNormal-set_of (greater_than w) h = greater_than-normal w h.0
-IsNormal-set_of (arbitrary text) h = IsNormal-all_versions
+IsNormal-set_of (demanded text) h = IsNormal-all_versions
 
 -- a stored clause is one that some text is read as
-pub stored-valid : (kind : Kind) → IsStored kind → IsValidClause (clause_of kind)
+pub stored-valid : (form : ClauseForm) → IsStored form → IsValidClause (clause_of form)
 stored-valid (stored.Compatible w) h = h
 stored-valid (stored.Matching w) h = h
 stored-valid (stored.MatchingPrefix w) h = h.0
@@ -78,7 +88,7 @@ stored-valid (stored.AtMost w) h = h
 stored-valid (stored.AtLeast w) h = h
 stored-valid (stored.LessThan w) h = h
 stored-valid (stored.GreaterThan w) h = h
-stored-valid (stored.Arbitrary text) h = h
+stored-valid (stored.Demanded text) h = h
 
 -- the same of a call's answer
 pub set_of-versions : (answer : Result (List Range) ClauseFault) (c : Clause) → IsValidClause c → IfOk answer (λ s. s ≡ set_of c)
@@ -115,3 +125,9 @@ IsVersion-prefix_of v h = record {
   label = tt;
   numbers = record { epoch = h.numbers.epoch; release = h.numbers.release; pre = tt; post = tt; dev = tt; label = tt };
 }
+
+-- a list has a version exactly if it has its place
+pub is_in-place_of : (ranges : List Range) (v : Version) → is_in ranges (place_of v) ≡ is_in ranges v
+is_in-place_of [] v = refl
+is_in-place_of (r ∷ rest) v =
+    λ i. (is_under-place_of r.high v i && not (is_under-place_of r.low v i)) || is_in-place_of rest v i

@@ -10,8 +10,8 @@ use Rattle.std.specs.Char.{is_ascii_uppercase, to_ascii_lowercase}
 use Rattle.std.specs.List.{ends_with, list_all}
 use Rattle.std.specs.Prelude.{if◌then◌else◌, nat_eq, nat_lt}
 use Rattle.std.specs.Str.{str_to_ascii_lowercase}
-use Rattle.pep_version.specs.SpelledLaws.{spelled-version}
-use Rattle.pep_version.specs.Conjunction.{and-first, and-second}
+use Rattle.pep_version.proofs.SpelledLaws.{spelled-version}
+use Rattle.pep_version.proofs.Connectives.{and_first as and-first, and_second as and-second}
 use Rattle.pep_version.specs.Spelling.{Reads, trimmed}
 use Rattle.pep_version.specs.Text.{is_text_byte, normal_text}
 use Rattle.pep_version.specs.Version.{IsVersion, Segment, Version, is_empty}
@@ -19,7 +19,7 @@ use Rattle.pep_clause.specs.declared.fault.ClauseFault.{ClauseFault}
 use Rattle.pep_clause.specs.declared.fault.ClauseFault.TheVariants as fault
 use Rattle.pep_clause.specs.declared.op.Op.{Op}
 use Rattle.pep_clause.specs.declared.op.Op.TheVariants as op
-use Rattle.pep_clause.specs.Clause.{Clause, IsClause, Prefix, PrefixAnswers, ReadsClauseAs, ReadsThen, TargetAnswers, VersionAnswers, compatible, matching, matching_prefix, excluding, excluding_prefix, at_most, at_least, less_than, greater_than, arbitrary, arbitrary_of, clause_text, ends_in_space, fault_of, is_clause_byte, is_demanded_text, is_final, operator_of, operator_text, prefix_answer, prefix_clause, prefix_of, prefix_text, version_answer, version_clause}
+use Rattle.pep_clause.specs.Clause.{Clause, IsClause, Prefix, PrefixAnswers, ReadsClauseAs, ReadsThen, TargetAnswers, VersionAnswers, compatible, matching, matching_prefix, excluding, excluding_prefix, at_most, at_least, less_than, greater_than, demanded, demanded_of, clause_text, ends_in_space, fault_of, is_clause_byte, is_demanded_text, is_final, operator_of, operator_text, prefix_answer, prefix_clause, prefix_of, prefix_text, version_answer, version_clause}
 use Rattle.pep_clause.specs.Cut.{final_version}
 use Rattle.pep_clause.specs.Valid.{IsPrefix, IsValidClause}
 use Rattle.pep_clause.specs.OneAnswer.{one-clause-of}
@@ -122,11 +122,11 @@ answers-valid o x c = outer (ends_with nat_eq x (codes ".*"))
     outer true h = inner (ends_in_space (take (length x - 2) x)) h
     outer false h = read-valid o x c h
 
-demanded-valid : (x : List ℕ) (c : Clause) → Ok c ≡ arbitrary_of x → IsValidClause c
+demanded-valid : (x : List ℕ) (c : Clause) → Ok c ≡ demanded_of x → IsValidClause c
 demanded-valid x c h = tested (not (is_empty x) && list_all is_clause_byte x) refl h
   where
-    tested : (b : Bool) → (not (is_empty x) && list_all is_clause_byte x) ≡ b → Ok c ≡ (if b then Ok (arbitrary (str_to_ascii_lowercase x)) else Err fault.BadVersion) → IsValidClause c
-    tested true t e = let same : c ≡ arbitrary (str_to_ascii_lowercase x) = cc e in subst IsValidClause (sym same) (lower-demanded x t)
+    tested : (b : Bool) → (not (is_empty x) && list_all is_clause_byte x) ≡ b → Ok c ≡ (if b then Ok (demanded (str_to_ascii_lowercase x)) else Err fault.BadVersion) → IsValidClause c
+    tested true t e = let same : c ≡ demanded (str_to_ascii_lowercase x) = cc e in subst IsValidClause (sym same) (lower-demanded x t)
     tested false t e = absurd (bad-apart c e)
 
 target-valid : (o : Op) (x : List ℕ) (c : Clause) → TargetAnswers o x (Ok c) → IsValidClause c
@@ -221,12 +221,12 @@ demanded-lower (b ∷ xs) h =
 demanded-bytes : (xs : List ℕ) → list_all (λ b. is_clause_byte b && not (is_ascii_uppercase b)) xs ≡ true → list_all is_clause_byte xs ≡ true
 demanded-bytes = weaker (λ b. is_clause_byte b && not (is_ascii_uppercase b)) is_clause_byte (λ b h. and-first (is_clause_byte b) (not (is_ascii_uppercase b)) h)
 
-demanded-written : (xs : List ℕ) → is_demanded_text xs ≡ true → Ok (arbitrary xs) ≡ arbitrary_of xs
+demanded-written : (xs : List ℕ) → is_demanded_text xs ≡ true → Ok (demanded xs) ≡ demanded_of xs
 demanded-written xs h =
     let some = and-first (not (is_empty xs)) (list_all (λ b. is_clause_byte b && not (is_ascii_uppercase b)) xs) h in
     let small = and-second (not (is_empty xs)) (list_all (λ b. is_clause_byte b && not (is_ascii_uppercase b)) xs) h in
     let bytes = demanded-bytes xs small in
-    rw (some, bytes) (ap (λ (t : List ℕ). Ok (arbitrary t)) (sym (demanded-lower xs small)))
+    rw (some, bytes) (ap (λ (t : List ℕ). Ok (demanded t)) (sym (demanded-lower xs small)))
 
 -- the clause of an operator and a version that has no label
 public-gives : (label : List Segment) (answer : Result Clause ClauseFault) → label ≡ [] → answer ≡ (if is_empty label then answer else Err fault.LocalNotAllowed)
@@ -274,8 +274,8 @@ valid-written back has (at_most v) is = normal-written back has op.AtMost v (at_
 valid-written back has (at_least v) is = normal-written back has op.AtLeast v (at_least v) is.0 (λ h. h) (public-gives v.label _ is.1)
 valid-written back has (less_than v) is = normal-written back has op.Less v (less_than v) is.0 (λ h. h) (public-gives v.label _ is.1)
 valid-written back has (greater_than v) is = normal-written back has op.More v (greater_than v) is.0 (λ h. h) (public-gives v.label _ is.1)
-valid-written back has (arbitrary text) is =
-    written op.Exact text (arbitrary text) (demanded-bytes text (and-second (not (is_empty text)) (list_all (λ b. is_clause_byte b && not (is_ascii_uppercase b)) text) is)) (demanded-written text is)
+valid-written back has (demanded text) is =
+    written op.Exact text (demanded text) (demanded-bytes text (and-second (not (is_empty text)) (list_all (λ b. is_clause_byte b && not (is_ascii_uppercase b)) text) is)) (demanded-written text is)
 
 -- what some text is read as is read back from its own text
 pub clause-written : ReadsBack → HasTextBytes → (text : List ℕ) (c : Clause) → IsClause text c → IsClause (clause_text c) c

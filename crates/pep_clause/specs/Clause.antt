@@ -25,7 +25,7 @@ pub record Prefix : Type 0 where
 --     excluding  !=V, excluding_prefix  !=R.*      "Version exclusion"
 --     at_most  <=V, at_least  >=V      "Inclusive ordered comparison"
 --     less_than  <V, greater_than  >V      "Exclusive ordered comparison"
---     arbitrary  ===T      "Arbitrary equality", with T in lower case
+--     demanded  ===T      "Arbitrary equality", with T in lower case
 pub data Clause : Type 0 where
   compatible : Version → Clause
   matching : Version → Clause
@@ -36,11 +36,11 @@ pub data Clause : Type 0 where
   at_least : Version → Clause
   less_than : Version → Clause
   greater_than : Version → Clause
-  arbitrary : List ℕ → Clause
+  demanded : List ℕ → Clause
 
 -- the text of a clause with `===`
 abbrev pub demanded_text : Clause → Option (List ℕ)
-demanded_text (arbitrary text) = Some text
+demanded_text (demanded text) = Some text
 demanded_text c = None
 
 -- ---- how a clause is read
@@ -81,9 +81,9 @@ abbrev pub is_demanded_text : List ℕ → Bool
 is_demanded_text text = not (is_empty text) && list_all (λ b. is_clause_byte b && not (is_ascii_uppercase b)) text
 
 -- behind `===`: one or more such bytes, kept in lower case ("Arbitrary equality")
-abbrev pub arbitrary_of : List ℕ → Result Clause ClauseFault
-arbitrary_of text = if not (is_empty text) && list_all is_clause_byte text
-    then Ok (arbitrary (str_to_ascii_lowercase text)) else Err fault.BadVersion
+abbrev pub demanded_of : List ℕ → Result Clause ClauseFault
+demanded_of text = if not (is_empty text) && list_all is_clause_byte text
+    then Ok (demanded (str_to_ascii_lowercase text)) else Err fault.BadVersion
 
 -- a fault of reading a version, as one of reading a clause
 abbrev pub fault_of : VersionFault → ClauseFault
@@ -150,7 +150,7 @@ VersionAnswers o text answer = MatchBool (ends_with nat_eq text (codes ".*"))
 -- check that fails. Of want of memory it says nothing.
 abbrev pub TargetAnswers : Op → List ℕ → Result Clause ClauseFault → Type 0
 TargetAnswers o text (Err fault.NoMemory) = ⊤
-TargetAnswers op.Exact text answer = answer ≡ arbitrary_of text
+TargetAnswers op.Exact text answer = answer ≡ demanded_of text
 TargetAnswers o text answer = VersionAnswers o text answer
 
 -- `Clause::of`: an operator and a text
@@ -189,4 +189,4 @@ clause_text (at_most v) = operator_text op.AtMost ++ normal_text v
 clause_text (at_least v) = operator_text op.AtLeast ++ normal_text v
 clause_text (less_than v) = operator_text op.Less ++ normal_text v
 clause_text (greater_than v) = operator_text op.More ++ normal_text v
-clause_text (arbitrary text) = operator_text op.Exact ++ text
+clause_text (demanded text) = operator_text op.Exact ++ text

@@ -61,7 +61,7 @@ least-not_above (after v) = least_by v (ordering_then (suffix_cmp least_version 
 least-not_above (past r) = least_by (final_version r) Less refl
 least-not_above end = refl
 
-turned_not_below : (r s : Ordering) → r ≡ ordering_reverse s → is_le s ≡ true → is_lt r ≡ false
+pub turned_not_below : (r s : Ordering) → r ≡ ordering_reverse s → is_le s ≡ true → is_lt r ≡ false
 turned_not_below Less Less e f = cc e
 turned_not_below Less Equal e f = cc e
 turned_not_below Less Greater e f = cc f

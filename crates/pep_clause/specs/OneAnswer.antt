@@ -6,7 +6,7 @@ use Rattle.pep_version.specs.Spelling.{Reads, SpellsAny, dotted_parts, is_number
 use Rattle.pep_version.specs.Version.{Version, is_empty}
 use Rattle.pep_version.specs.declared.fault.VersionFault.{VersionFault}
 use Rattle.pep_version.specs.declared.fault.VersionFault.TheVariants as version_fault
-use Rattle.pep_clause.specs.Clause.{Clause, ClauseOf, Prefix, TargetAnswers, PrefixAnswers, at_least, at_most, compatible, demanded_text, greater_than, is_final, less_than, prefix_clause, prefix_of, version_clause, ReadsThen, VersionAnswers, arbitrary_of, ends_in_space, prefix_answer, version_answer}
+use Rattle.pep_clause.specs.Clause.{Clause, ClauseOf, Prefix, TargetAnswers, PrefixAnswers, at_least, at_most, compatible, demanded_text, greater_than, is_final, less_than, prefix_clause, prefix_of, version_clause, ReadsThen, VersionAnswers, demanded_of, ends_in_space, prefix_answer, version_answer}
 use Rattle.pep_clause.specs.declared.fault.ClauseFault.{ClauseFault}
 use Rattle.pep_clause.specs.declared.fault.ClauseFault.TheVariants as fault
 use Rattle.pep_clause.specs.declared.op.Op.{Op}
@@ -62,7 +62,7 @@ told-version o text (Err fault.OneNumber) other m h = h
 told-version o text (Err fault.NumberTooLarge) other m h = h
 told-version o text (Err fault.NoMemory) other m h = absurd (m refl)
 
-told-exact : (text : List ℕ) (a : Result Clause ClauseFault) → IsAnswer a → TargetAnswers op.Exact text a → a ≡ arbitrary_of text
+told-exact : (text : List ℕ) (a : Result Clause ClauseFault) → IsAnswer a → TargetAnswers op.Exact text a → a ≡ demanded_of text
 told-exact text (Ok c) m h = h
 told-exact text (Err fault.NoOperator) m h = h
 told-exact text (Err fault.BadVersion) m h = h

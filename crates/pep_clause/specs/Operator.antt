@@ -1,5 +1,5 @@
 -- The operator of a clause.
-use Rattle.pep_clause.specs.Clause.{Clause, compatible, matching, matching_prefix, excluding, excluding_prefix, at_most, at_least, less_than, greater_than, arbitrary}
+use Rattle.pep_clause.specs.Clause.{Clause, compatible, matching, matching_prefix, excluding, excluding_prefix, at_most, at_least, less_than, greater_than, demanded}
 use Rattle.pep_clause.specs.declared.op.Op.{Op}
 use Rattle.pep_clause.specs.declared.op.Op.TheVariants as op
 
@@ -13,4 +13,4 @@ operator (at_most v) = op.AtMost
 operator (at_least v) = op.AtLeast
 operator (less_than v) = op.Less
 operator (greater_than v) = op.More
-operator (arbitrary text) = op.Exact
+operator (demanded text) = op.Exact

@@ -7,7 +7,7 @@ use Rattle.pep_version.specs.declared.parts.Phase.TheVariants.{Alpha, Beta, Rc}
 use Rattle.pep_version.specs.Order.{place_of, short_release, without_dev, without_post, without_pre}
 use Rattle.pep_version.specs.Version.{Version, is_empty, is_pre_release}
 use Rattle.pep_clause.specs.Admits.{compatible_prefix}
-use Rattle.pep_clause.specs.Clause.{Clause, Prefix, compatible, matching, matching_prefix, excluding, excluding_prefix, at_most, at_least, less_than, greater_than, arbitrary}
+use Rattle.pep_clause.specs.Clause.{Clause, Prefix, compatible, matching, matching_prefix, excluding, excluding_prefix, at_most, at_least, less_than, greater_than, demanded}
 use Rattle.pep_clause.specs.Cut.{Cut, before, after, past, end, cut_cmp, final_version, least}
 use Rattle.pep_clause.specs.VersionSet.{Range}
 
@@ -122,4 +122,4 @@ set_of (excluding v) = outside (before_place v) (matching_to v)
 set_of (matching_prefix p) = range (before_prefix p) (prefix_end p)
 set_of (excluding_prefix p) = outside (before_prefix p) (prefix_end p)
 set_of (compatible v) = range (before_place v) (prefix_end (compatible_prefix v))
-set_of (arbitrary text) = range least end
+set_of (demanded text) = range least end

@@ -1,7 +1,7 @@
 -- The clauses that some text is read as: what the checks of reading leave of the parts ("Version specifiers").
 use Rattle.std.specs.Prelude.{◌≡◌, ◌<◌, [], IsTrue, length}
 use Rattle.pep_version.specs.Version.{IsVersion, Version}
-use Rattle.pep_clause.specs.Clause.{Clause, Prefix, compatible, matching, matching_prefix, excluding, excluding_prefix, at_most, at_least, less_than, greater_than, arbitrary, is_demanded_text}
+use Rattle.pep_clause.specs.Clause.{Clause, Prefix, compatible, matching, matching_prefix, excluding, excluding_prefix, at_most, at_least, less_than, greater_than, demanded, is_demanded_text}
 use Rattle.pep_clause.specs.Cut.{final_version}
 
 -- a version without a local version label
@@ -23,4 +23,4 @@ IsValidClause (at_most v) = IsPublic v
 IsValidClause (at_least v) = IsPublic v
 IsValidClause (less_than v) = IsPublic v
 IsValidClause (greater_than v) = IsPublic v
-IsValidClause (arbitrary text) = IsTrue (is_demanded_text text)
+IsValidClause (demanded text) = IsTrue (is_demanded_text text)

@@ -5,8 +5,9 @@ use Rattle.std.proofs.Math.Seq.{drop-append_seam}
 use Rattle.std.proofs.lemmas.Bool.Decides.{nat_tests}
 use Rattle.std.proofs.lemmas.List.Folds.{list_all-append}
 use Rattle.std.specs.List.{list_all}
-use Rattle.pep_version.specs.Conjunction.{and-first, and-second}
-use Rattle.pep_version.specs.Spelling.{is_white_space, trimmed, without_leading_space, without_trailing_space}
+use Rattle.pep_version.proofs.Connectives.{and_first as and-first, and_second as and-second}
+use Rattle.pep_version.specs.Spelling.{trimmed, without_leading_space, without_trailing_space}
+use Rattle.pep_version.specs.Bytes.{is_white_space}
 use Rattle.pep_clause.specs.declared.op.Op.{Op}
 use Rattle.pep_clause.specs.declared.op.Op.TheVariants as op
 use Rattle.pep_clause.specs.Clause.{Clause, ClauseOf, IsClause, IsClauseOf, ReadsClauseAs, TargetAnswers, is_clause_byte, operator_of, operator_text}

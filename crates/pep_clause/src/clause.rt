@@ -1,5 +1,9 @@
 // Version specifier clauses.
 
+mod admits;
+mod read;
+mod text;
+
 use crate::fault::ClauseFault;
 use crate::op::Op;
 use pep_version::Version;
@@ -8,7 +12,7 @@ use std::marker::Model;
 
 /// A prefix is kept as the version that is its epoch and release.
 #[derive(Drop)]
-pub(crate) enum Kind {
+pub(crate) enum ClauseForm {
     Compatible(Version),
     Matching(Version),
     MatchingPrefix(Version),
@@ -18,14 +22,14 @@ pub(crate) enum Kind {
     AtLeast(Version),
     LessThan(Version),
     GreaterThan(Version),
-    Arbitrary(String),
+    Demanded(String),
 }
 
 /// A version specifier clause (PEP 440, "Version specifiers"): an operator, and the version, the prefix or the text
 /// that stands behind it.
 #[derive(Drop)]
 pub struct Clause {
-    kind: Kind,
+    form: ClauseForm,
 }
 
 impl Model for Clause {
@@ -34,9 +38,9 @@ impl Model for Clause {
 
     ghost Value = { Clause };
 
-    ghost view = { λ a. clause_of a.kind };
+    ghost view = { λ a. clause_of a.form };
 
-    ghost invariant = { λ a. IsStored a.kind };
+    ghost invariant = { λ a. IsStored a.form };
 }
 
 impl Clause {
@@ -46,12 +50,12 @@ impl Clause {
     ghost use Rattle.pep_clause.specs.Valid.{IsPublic, IsValidClause};
 
     /// The clause that is kept so.
-    pub(crate) fn of_kind(kind: Kind) -> Clause
-        requires { IsStored kind }
-        ensures clause { result ≡ clause_of kind }
+    pub(crate) fn of_form(form: ClauseForm) -> Clause
+        requires { IsStored form }
+        ensures clause { result ≡ clause_of form }
         ensures valid { IsValidClause result }
     {
-        Clause { kind }
+        Clause { form }
     }
 
     /// The operator (PEP 440, "Version specifiers").
@@ -59,24 +63,24 @@ impl Clause {
         ensures operator { result ≡ operator self.now }
         ensures valid { IsValidClause self.now }
     {
-        match &self.kind {
-            Kind::Compatible(_) => Op::Compatible,
-            Kind::Matching(_) | Kind::MatchingPrefix(_) => Op::Equal,
-            Kind::Excluding(_) | Kind::ExcludingPrefix(_) => Op::NotEqual,
-            Kind::AtMost(_) => Op::AtMost,
-            Kind::AtLeast(_) => Op::AtLeast,
-            Kind::LessThan(_) => Op::Less,
-            Kind::GreaterThan(_) => Op::More,
-            Kind::Arbitrary(_) => Op::Exact,
+        match &self.form {
+            ClauseForm::Compatible(_) => Op::Compatible,
+            ClauseForm::Matching(_) | ClauseForm::MatchingPrefix(_) => Op::Equal,
+            ClauseForm::Excluding(_) | ClauseForm::ExcludingPrefix(_) => Op::NotEqual,
+            ClauseForm::AtMost(_) => Op::AtMost,
+            ClauseForm::AtLeast(_) => Op::AtLeast,
+            ClauseForm::LessThan(_) => Op::Less,
+            ClauseForm::GreaterThan(_) => Op::More,
+            ClauseForm::Demanded(_) => Op::Exact,
         }
     }
 
-    /// The kind, with what it keeps.
-    pub(crate) fn kind(&self) -> &Kind
-        ensures kind { clause_of result.now ≡ self.now }
+    /// The form, with what it keeps.
+    pub(crate) fn form(&self) -> &ClauseForm
+        ensures form { clause_of result.now ≡ self.now }
         ensures stored { IsStored result.now }
     {
-        &self.kind
+        &self.form
     }
 
     /// An equal clause in storage of its own. The only fault is `NoMemory`.
@@ -84,18 +88,25 @@ impl Clause {
         ensures same { IfOk result (λ c. c ≡ self.now) }
         ensures faults { IfErr result (λ e. e ≡ ClauseFault.NoMemory) }
     {
-        let kind = match &self.kind {
-            Kind::Compatible(version) => Kind::Compatible(version.copied(alloc)?),
-            Kind::Matching(version) => Kind::Matching(version.copied(alloc)?),
-            Kind::MatchingPrefix(version) => Kind::MatchingPrefix(version.copied(alloc)?),
-            Kind::Excluding(version) => Kind::Excluding(version.copied(alloc)?),
-            Kind::ExcludingPrefix(version) => Kind::ExcludingPrefix(version.copied(alloc)?),
-            Kind::AtMost(version) => Kind::AtMost(version.copied(alloc)?),
-            Kind::AtLeast(version) => Kind::AtLeast(version.copied(alloc)?),
-            Kind::LessThan(version) => Kind::LessThan(version.copied(alloc)?),
-            Kind::GreaterThan(version) => Kind::GreaterThan(version.copied(alloc)?),
-            Kind::Arbitrary(text) => Kind::Arbitrary(String::from_str(alloc, text.as_str())?),
+        let form = match &self.form {
+            ClauseForm::Compatible(version) => ClauseForm::Compatible(version.copied(alloc)?),
+            ClauseForm::Matching(version) => ClauseForm::Matching(version.copied(alloc)?),
+            ClauseForm::MatchingPrefix(version) => ClauseForm::MatchingPrefix(version.copied(
+                alloc,
+            )?),
+            ClauseForm::Excluding(version) => ClauseForm::Excluding(version.copied(alloc)?),
+            ClauseForm::ExcludingPrefix(version) => ClauseForm::ExcludingPrefix(version.copied(
+                alloc,
+            )?),
+            ClauseForm::AtMost(version) => ClauseForm::AtMost(version.copied(alloc)?),
+            ClauseForm::AtLeast(version) => ClauseForm::AtLeast(version.copied(alloc)?),
+            ClauseForm::LessThan(version) => ClauseForm::LessThan(version.copied(alloc)?),
+            ClauseForm::GreaterThan(version) => ClauseForm::GreaterThan(version.copied(alloc)?),
+            ClauseForm::Demanded(text) => ClauseForm::Demanded(String::from_str(
+                alloc,
+                text.as_str(),
+            )?),
         };
-        Ok(Clause { kind })
+        Ok(Clause { form })
     }
 }

@@ -1,13 +1,17 @@
 // Cuts: places in the order of versions.
 
-ghost use Rattle.std.specs.Prelude.{◌≡◌, ◌<◌, ◌∷◌, ◌++◌, [], length, refl, string_bytes, IfErr, IfOk};
+mod text;
+
+ghost use Rattle.std.specs.Prelude.{◌≡◌, ◌<◌, ◌↔◌, ◌∷◌, ◌++◌, [], length, refl, string_bytes, IfErr, IfOk, IsTrue};
 ghost use Rattle.std.specs.Cmp.{eq_by_cmp_equiv, partial_equiv_from_equiv, partial_order_from_total};
 ghost use Rattle.std.specs.List.{AllByRecursion};
-ghost use Rattle.std.specs.Ordering.{as_partial_cmp, eq_by_cmp};
+ghost use Rattle.std.specs.Ordering.{as_partial_cmp, eq_by_cmp, is_le};
+ghost use Rattle.std.specs.declared.cmp.Ordering.TheVariants.{Less, Equal, Greater};
 ghost use Rattle.pep_version.specs.Order.{place_of};
 ghost use Rattle.pep_version.specs.Text.{normal_text};
 ghost use Rattle.pep_version.specs.Version.{Fits};
 ghost use Rattle.pep_clause.specs.Cut.{IsCut, after, before, cut_cmp, cut_text, end, final_version, is_under, least};
+ghost use Rattle.pep_clause.specs.CutOrder.{LiesIn, LiesStrictlyIn, SameUnder};
 ghost use Rattle.pep_clause.specs.Laws.{cut_total};
 ghost use Rattle.pep_clause.specs.OperatorTable.{before_dev, before_place, past_release};
 
@@ -18,7 +22,7 @@ use std::cmp::Ordering;
 use std::marker::Model;
 
 #[derive(Drop)]
-enum Place {
+enum CutForm {
     Before(Key),
     After(Key),
     Past(Key),
@@ -30,7 +34,7 @@ enum Place {
 /// after them, past everything of a release, or the end of all versions.
 #[derive(Drop)]
 pub struct Cut {
-    place: Place,
+    form: CutForm,
 }
 
 impl Model for Cut {
@@ -39,20 +43,9 @@ impl Model for Cut {
 
     ghost Value = { Cut };
 
-    ghost view = { λ a. cut_of a.place };
+    ghost view = { λ a. cut_of a.form };
 
-    ghost invariant = { λ a. IsStored a.place };
-}
-
-// The text, and behind it the normal text of the version at this place.
-fn kind_and_version(alloc: Global, kind: &str, place: &Key) -> Result<String, ClauseFault>
-    ensures text { IfOk result (λ t. string_bytes t ≡ kind.now ++ normal_text place.now) }
-    ensures faults { IfErr result (λ e. e ≡ ClauseFault.NoMemory) }
-{
-    let mut text = String::from_str(alloc, kind)?;
-    let version = place.version(alloc)?.text(alloc)?;
-    text.push_str(version.as_str())?;
-    Ok(text)
+    ghost invariant = { λ a. IsStored a.form };
 }
 
 impl Cut {
@@ -80,7 +73,7 @@ impl Cut {
     {
         let suffixed = Key::with_suffixes(alloc, version, pre, post, dev)?;
         Ok(Cut {
-            place: Place::Before(suffixed),
+            form: CutForm::Before(suffixed),
         })
     }
 
@@ -93,7 +86,7 @@ impl Cut {
     {
         let place = Key::of_release(alloc, epoch, release, Some(0))?;
         Ok(Cut {
-            place: Place::Before(place),
+            form: CutForm::Before(place),
         })
     }
 
@@ -106,7 +99,7 @@ impl Cut {
     {
         let place = Key::of(alloc, version)?;
         Ok(Cut {
-            place: Place::After(place),
+            form: CutForm::After(place),
         })
     }
 
@@ -118,7 +111,7 @@ impl Cut {
     {
         let release = Key::of_release(alloc, version.epoch(), version.release(), None)?;
         Ok(Cut {
-            place: Place::Past(release),
+            form: CutForm::Past(release),
         })
     }
 
@@ -126,7 +119,7 @@ impl Cut {
     pub fn end() -> Cut
         ensures { result ≡ end }
     {
-        Cut { place: Place::End }
+        Cut { form: CutForm::End }
     }
 
     /// The cut under all versions. The only fault is `NoMemory`.
@@ -141,25 +134,11 @@ impl Cut {
     pub(crate) fn is_above(&self, key: &Key) -> bool
         ensures { result ≡ is_under self.now key.now }
     {
-        match &self.place {
-            Place::Before(place) => key < place,
-            Place::After(place) => key <= place,
-            Place::Past(release) => key.cmp_release(release) != Ordering::Greater,
-            Place::End => true,
-        }
-    }
-
-    /// The text of the cut: its kind, which is `before`, `after` or `past`, and the normal text of the version
-    /// (PEP 440, "Normalization"), for `past` of the release with its epoch; or `end`. The only fault is `NoMemory`.
-    pub fn text(&self, alloc: Global) -> Result<String, ClauseFault>
-        ensures text { IfOk result (λ t. string_bytes t ≡ cut_text self.now) }
-        ensures faults { IfErr result (λ e. e ≡ ClauseFault.NoMemory) }
-    {
-        match &self.place {
-            Place::Before(place) => kind_and_version(alloc, "before ", place),
-            Place::After(place) => kind_and_version(alloc, "after ", place),
-            Place::Past(release) => kind_and_version(alloc, "past ", release),
-            Place::End => Ok(String::from_str(alloc, "end")?),
+        match &self.form {
+            CutForm::Before(place) => key < place,
+            CutForm::After(place) => key <= place,
+            CutForm::Past(release) => key.cmp_release(release) != Ordering::Greater,
+            CutForm::End => true,
         }
     }
 
@@ -169,13 +148,39 @@ impl Cut {
         ensures spelled { IsCut self.now }
         ensures faults { IfErr result (λ e. e ≡ ClauseFault.NoMemory) }
     {
-        let place = match &self.place {
-            Place::Before(place) => Place::Before(place.copied(alloc)?),
-            Place::After(place) => Place::After(place.copied(alloc)?),
-            Place::Past(release) => Place::Past(release.copied(alloc)?),
-            Place::End => Place::End,
+        let form = match &self.form {
+            CutForm::Before(place) => CutForm::Before(place.copied(alloc)?),
+            CutForm::After(place) => CutForm::After(place.copied(alloc)?),
+            CutForm::Past(release) => CutForm::Past(release.copied(alloc)?),
+            CutForm::End => CutForm::End,
         };
-        Ok(Cut { place })
+        Ok(Cut { form })
+    }
+
+    // How the cuts stand: by their places, and where these tie by their kinds.
+    fn order_to(&self, other: &Cut) -> Ordering
+        ensures order { result ≡ cut_cmp self.now other.now }
+        ensures spelled { IsCut self.now }
+        ensures other_spelled { IsCut other.now }
+    {
+        match (&self.form, &other.form) {
+            (CutForm::Before(a), CutForm::Before(b)) => a.cmp(b),
+            (CutForm::Before(a), CutForm::After(b)) => a.cmp(b).then(Ordering::Less),
+            (CutForm::Before(a), CutForm::Past(b)) => a.cmp_release(b).then(Ordering::Less),
+            (CutForm::Before(_), CutForm::End) => Ordering::Less,
+            (CutForm::After(a), CutForm::Before(b)) => a.cmp(b).then(Ordering::Greater),
+            (CutForm::After(a), CutForm::After(b)) => a.cmp(b),
+            (CutForm::After(a), CutForm::Past(b)) => a.cmp_release(b).then(Ordering::Less),
+            (CutForm::After(_), CutForm::End) => Ordering::Less,
+            (CutForm::Past(a), CutForm::Before(b)) => a.cmp_release(b).then(Ordering::Greater),
+            (CutForm::Past(a), CutForm::After(b)) => a.cmp_release(b).then(Ordering::Greater),
+            (CutForm::Past(a), CutForm::Past(b)) => a.cmp_release(b),
+            (CutForm::Past(_), CutForm::End) => Ordering::Less,
+            (CutForm::End, CutForm::Before(_)) => Ordering::Greater,
+            (CutForm::End, CutForm::After(_)) => Ordering::Greater,
+            (CutForm::End, CutForm::Past(_)) => Ordering::Greater,
+            (CutForm::End, CutForm::End) => Ordering::Equal,
+        }
     }
 }
 
@@ -184,7 +189,12 @@ impl PartialEq for Cut {
 
     ghost laws = { partial_equiv_from_equiv (eq_by_cmp_equiv cut_total) };
 
-    fn eq(&self, other: &Cut) -> bool {
+    /// Whether the same versions lie under both.
+    fn eq(&self, other: &Cut) -> bool
+        ensures test { result ≡ eq_by_cmp cut_cmp self.now other.now }
+        ensures same { IsTrue result ↔ SameUnder self.now other.now }
+        ensures one { IsTrue result ↔ (self.now ≡ other.now) }
+    {
         self.cmp(other) == Ordering::Equal
     }
 }
@@ -212,24 +222,15 @@ impl Ord for Cut {
 
     ghost matches_eq = { λ a b. refl };
 
-    fn cmp(&self, other: &Cut) -> Ordering {
-        match (&self.place, &other.place) {
-            (Place::Before(a), Place::Before(b)) => a.cmp(b),
-            (Place::Before(a), Place::After(b)) => a.cmp(b).then(Ordering::Less),
-            (Place::Before(a), Place::Past(b)) => a.cmp_release(b).then(Ordering::Less),
-            (Place::Before(_), Place::End) => Ordering::Less,
-            (Place::After(a), Place::Before(b)) => a.cmp(b).then(Ordering::Greater),
-            (Place::After(a), Place::After(b)) => a.cmp(b),
-            (Place::After(a), Place::Past(b)) => a.cmp_release(b).then(Ordering::Less),
-            (Place::After(_), Place::End) => Ordering::Less,
-            (Place::Past(a), Place::Before(b)) => a.cmp_release(b).then(Ordering::Greater),
-            (Place::Past(a), Place::After(b)) => a.cmp_release(b).then(Ordering::Greater),
-            (Place::Past(a), Place::Past(b)) => a.cmp_release(b),
-            (Place::Past(_), Place::End) => Ordering::Less,
-            (Place::End, Place::Before(_)) => Ordering::Greater,
-            (Place::End, Place::After(_)) => Ordering::Greater,
-            (Place::End, Place::Past(_)) => Ordering::Greater,
-            (Place::End, Place::End) => Ordering::Equal,
-        }
+    /// One cut is less exactly if less lies under it, and two are equal exactly if the same versions lie under both.
+    fn cmp(&self, other: &Cut) -> Ordering
+        ensures order { result ≡ cut_cmp self.now other.now }
+        ensures within { IsTrue (is_le result) ↔ LiesIn self.now other.now }
+        ensures less { (result ≡ Less) ↔ LiesStrictlyIn self.now other.now }
+        ensures greater { (result ≡ Greater) ↔ LiesStrictlyIn other.now self.now }
+        ensures same { (result ≡ Equal) ↔ SameUnder self.now other.now }
+        ensures one { (result ≡ Equal) ↔ (self.now ≡ other.now) }
+    {
+        self.order_to(other)
     }
 }

@@ -1,9 +1,12 @@
 // Laws of clauses and of version sets, as contracts.
 
 ghost use Rattle.std.specs.Prelude.{◌≡◌, ℕ, List};
+ghost use Rattle.pep_version.specs.Order.{place_of};
+ghost use Rattle.pep_version.specs.Version.{Version};
 ghost use Rattle.pep_clause.specs.Clause.{Clause, IsClause, clause_text};
 ghost use Rattle.pep_clause.specs.PointLaws.{SamePoints};
-ghost use Rattle.pep_clause.specs.VersionSet.{IsNormal, Range};
+ghost use Rattle.pep_clause.specs.SetEquality.{SameVersions};
+ghost use Rattle.pep_clause.specs.VersionSet.{IsNormal, Range, is_in};
 
 use pep_version::laws;
 
@@ -11,6 +14,17 @@ use pep_version::laws;
 pub fn one_list()
     ensures { (ranges others : List Range) → IsNormal ranges → IsNormal others
         → SamePoints ranges others → ranges ≡ others }
+{}
+
+/// Two normal lists of ranges that hold the same versions are one list.
+pub fn one_list_of_versions()
+    ensures { (ranges others : List Range) → IsNormal ranges → IsNormal others
+        → SameVersions ranges others → ranges ≡ others }
+{}
+
+/// Sets hold all versions that are the same in order or none of them: a version is in a set exactly if its place is.
+pub fn place_is_in()
+    ensures { (ranges : List Range) (v : Version) → is_in ranges (place_of v) ≡ is_in ranges v }
 {}
 
 /// A text is read as at most one clause.

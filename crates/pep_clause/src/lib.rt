@@ -1,16 +1,13 @@
 //! Version specifier clauses, cuts and version sets, by PEP 440.
 #![tactic(auto)]
 
-mod admission;
 mod clause;
-mod clause_text;
 mod cut;
 mod fault;
-mod laws;
+pub mod laws;
 mod op;
-mod places;
 mod range;
-mod reading;
+mod range_ends;
 mod set;
 #[cfg(test)]
 mod set_tests;
@@ -20,7 +17,6 @@ mod tests;
 pub use crate::clause::Clause;
 pub use crate::cut::Cut;
 pub use crate::fault::ClauseFault;
-pub use crate::laws::{clause_text_is_read, one_clause, one_list};
 pub use crate::op::Op;
 pub use crate::range::Range;
 pub use crate::set::VersionSet;

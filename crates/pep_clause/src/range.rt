@@ -5,7 +5,7 @@ ghost use Rattle.std.specs.Cmp.{partial_equiv_from_equiv};
 ghost use Rattle.std.specs.declared.cmp.Ordering.TheVariants.{Less};
 ghost use Rattle.pep_clause.specs.Between.{earlier, later};
 ghost use Rattle.pep_clause.specs.Cut.{IsCut, cut_cmp, is_under};
-ghost use Rattle.pep_clause.specs.Meeting.{common, is_within};
+ghost use Rattle.pep_clause.specs.Joined.{range_joined, is_within};
 ghost use Rattle.pep_clause.specs.OperatorTable.{range};
 ghost use Rattle.pep_clause.specs.SetEquality.{same_range, same_range-equiv};
 
@@ -61,8 +61,8 @@ impl Range {
     }
 
     /// The range that both have in common, or none.
-    pub(crate) fn common(&self, alloc: Global, other: &Range) -> Result<Option<Range>, ClauseFault>
-        ensures common { IfOk result (λ r. option_to_list r ≡ common self.now other.now) }
+    pub(crate) fn joined(&self, alloc: Global, other: &Range) -> Result<Option<Range>, ClauseFault>
+        ensures joined { IfOk result (λ r. option_to_list r ≡ range_joined self.now other.now) }
         ensures faults { IfErr result (λ e. e ≡ ClauseFault.NoMemory) }
     {
         let low = later(self.low(), other.low());

@@ -9,16 +9,16 @@ ghost use Rattle.pep_clause.specs.Clause.{compatible, demanded_text, excluding_p
 ghost use Rattle.pep_clause.specs.ClauseView.{IsStored, clause_of};
 ghost use Rattle.pep_clause.specs.Cut.{Cut, IsCut, cut_cmp, least};
 ghost use Rattle.pep_clause.specs.Inhabited.{HasVersionUnlessEmpty};
-ghost use Rattle.pep_clause.specs.Meeting.{all_within, are_within, meet, meet_row};
+ghost use Rattle.pep_clause.specs.Joined.{all_within, are_within, joined, row_joined};
 ghost use Rattle.pep_clause.specs.OperatorTable.{outside, range, set_of};
 ghost use Rattle.pep_clause.specs.SetEquality.{SameVersions, same_ranges, same_ranges-equiv};
 ghost use Rattle.pep_clause.specs.VersionSet.{In, IsNormal, all_versions, is_in, is_point};
 
-use crate::clause::{Clause, Kind};
+use crate::clause::{Clause, ClauseForm};
 use crate::cut::Cut;
 use crate::fault::ClauseFault;
-use crate::places::{greater_from, less_to, matching_to, next, prefix_end};
 use crate::range::Range;
+use crate::range_ends::{greater_from, less_to, matching_to, next, prefix_end};
 use pep_version::{Key, Version};
 use std::alloc::Global;
 use std::marker::Model;
@@ -53,36 +53,36 @@ fn push_range(done: &mut Vec<Range>, low: Cut, high: Cut) -> Result<(), ClauseFa
     Ok(())
 }
 
-fn push_common(
+fn push_joined(
     alloc: Global,
     done: &mut Vec<Range>,
     range: &Range,
     others: &[Range],
 ) -> Result<(), ClauseFault>
-    ensures ok { OnOk result (done.new.items ≡ done.old.items ++ meet_row range.now others.now) }
+    ensures ok { OnOk result (done.new.items ≡ done.old.items ++ row_joined range.now others.now) }
     ensures faults { IfErr result (λ e. e ≡ ClauseFault.NoMemory) }
 {
     for other in others {
-        if let Some(both) = range.common(alloc, other)? {
+        if let Some(both) = range.joined(alloc, other)? {
             done.push(both)?;
         }
     }
     Ok(())
 }
 
-fn common_ranges(
+fn joined_ranges(
     alloc: Global,
     ranges: &[Range],
     others: &[Range],
 ) -> Result<Vec<Range>, ClauseFault>
-    ensures ok { IfOk result (λ done. done.items ≡ meet ranges.now others.now) }
+    ensures ok { IfOk result (λ done. done.items ≡ joined ranges.now others.now) }
     ensures faults { IfErr result (λ e. e ≡ ClauseFault.NoMemory) }
 {
     // Between two ranges in common one of the lists goes on to its next.
     let most = ranges.len().saturating_add(others.len().saturating_sub(1));
     let mut done = Vec::with_capacity(alloc, most)?;
     for range in ranges {
-        push_common(alloc, &mut done, range, others)?;
+        push_joined(alloc, &mut done, range, others)?;
     }
     Ok(done)
 }
@@ -117,7 +117,8 @@ fn ranges_copied(alloc: Global, ranges: &[Range]) -> Result<Vec<Range>, ClauseFa
 impl VersionSet {
     /// The set of no version.
     pub fn none(alloc: Global) -> VersionSet
-        ensures { result ≡ [] }
+        ensures ranges { result ≡ [] }
+        ensures versions { (v : Version) → ¬ In result v }
     {
         VersionSet {
             ranges: Vec::new(alloc),
@@ -127,6 +128,7 @@ impl VersionSet {
     /// The set of all versions. The only fault is `NoMemory`.
     pub fn all(alloc: Global) -> Result<VersionSet, ClauseFault>
         ensures all { IfOk result (λ s. s ≡ all_versions) }
+        ensures versions { IfOk result (λ s. (v : Version) → In s v) }
         ensures faults { IfErr result (λ e. e ≡ ClauseFault.NoMemory) }
     {
         let least = Cut::least(alloc)?;
@@ -190,37 +192,37 @@ impl VersionSet {
         VersionSet::between(alloc, Cut::before(alloc, version)?, high)
     }
 
-    /// The versions that the clause of this kind admits; all versions where it demands a text.
-    fn of_kind(alloc: Global, kind: &Kind) -> Result<VersionSet, ClauseFault>
-        requires { IsStored kind.now }
-        ensures list { IfOk result (λ s. s ≡ set_of (clause_of kind.now)) }
+    /// The versions that the clause of this form admits; all versions where it demands a text.
+    fn of_form(alloc: Global, form: &ClauseForm) -> Result<VersionSet, ClauseFault>
+        requires { IsStored form.now }
+        ensures list { IfOk result (λ s. s ≡ set_of (clause_of form.now)) }
         ensures faults { IfErr result (λ e. e ≡ ClauseFault.NoMemory) }
     {
-        match kind {
-            Kind::Compatible(version) => VersionSet::compatible(alloc, version),
-            Kind::Matching(version) => {
+        match form {
+            ClauseForm::Compatible(version) => VersionSet::compatible(alloc, version),
+            ClauseForm::Matching(version) => {
                 let low = Cut::before(alloc, version)?;
                 VersionSet::between(alloc, low, matching_to(alloc, version)?)
             }
-            Kind::MatchingPrefix(prefix) => VersionSet::with_prefix(alloc, prefix),
-            Kind::Excluding(version) => {
+            ClauseForm::MatchingPrefix(prefix) => VersionSet::with_prefix(alloc, prefix),
+            ClauseForm::Excluding(version) => {
                 let low = Cut::before(alloc, version)?;
                 VersionSet::outside(alloc, low, matching_to(alloc, version)?)
             }
-            Kind::ExcludingPrefix(prefix) => VersionSet::without_prefix(alloc, prefix),
-            Kind::AtMost(version) => {
+            ClauseForm::ExcludingPrefix(prefix) => VersionSet::without_prefix(alloc, prefix),
+            ClauseForm::AtMost(version) => {
                 VersionSet::between(alloc, Cut::least(alloc)?, next(alloc, version)?)
             }
-            Kind::AtLeast(version) => {
+            ClauseForm::AtLeast(version) => {
                 VersionSet::between(alloc, Cut::before(alloc, version)?, Cut::end())
             }
-            Kind::LessThan(version) => {
+            ClauseForm::LessThan(version) => {
                 VersionSet::between(alloc, Cut::least(alloc)?, less_to(alloc, version)?)
             }
-            Kind::GreaterThan(version) => {
+            ClauseForm::GreaterThan(version) => {
                 VersionSet::between(alloc, greater_from(alloc, version)?, Cut::end())
             }
-            Kind::Arbitrary(_) => VersionSet::all(alloc),
+            ClauseForm::Demanded(_) => VersionSet::all(alloc),
         }
     }
 
@@ -234,7 +236,7 @@ impl VersionSet {
         ensures inhabited { IfOk result (λ s. HasVersionUnlessEmpty s) }
         ensures faults { IfErr result (λ e. e ≡ ClauseFault.NoMemory) }
     {
-        VersionSet::of_kind(alloc, clause.kind())
+        VersionSet::of_form(alloc, clause.form())
     }
 
     /// The versions that are in both sets. The only fault is `NoMemory`.
@@ -245,12 +247,12 @@ impl VersionSet {
         ensures inhabited { IfOk result (λ s. HasVersionUnlessEmpty s) }
         ensures faults { IfErr result (λ e. e ≡ ClauseFault.NoMemory) }
     {
-        let ranges = common_ranges(alloc, self.ranges.as_slice(), other.ranges.as_slice())?;
+        let ranges = joined_ranges(alloc, self.ranges.as_slice(), other.ranges.as_slice())?;
         Ok(VersionSet { ranges })
     }
 
     /// Keeps the versions that are in the other set too. The only fault is `NoMemory`, and then the set is as it was.
-    pub fn narrow(&mut self, alloc: Global, other: &VersionSet) -> Result<(), ClauseFault>
+    pub fn join(&mut self, alloc: Global, other: &VersionSet) -> Result<(), ClauseFault>
         ensures points { OnOk result ((c : Cut) → is_point self.new c ≡ (is_point self.old c && is_point other.now c)) }
         ensures versions { OnOk result ((v : Version) → is_in self.new v ≡ (is_in self.old v && is_in other.now v)) }
         ensures normal { OnOk result (IsNormal self.new) }

@@ -238,7 +238,7 @@ fn expect_joined(
         let is_wanted = first.contains(key) && second.contains(key);
         assert_eq!(rt; both.contains(key), is_wanted, "{clauses:?}");
     }
-    first.narrow(alloc, &second)?;
+    first.join(alloc, &second)?;
     assert!(rt; first == both, "{clauses:?}");
     Ok(())
 }

@@ -115,13 +115,13 @@ fn joins(rt: HostRuntime) -> Result<(), Fail> {
 fn narrows(rt: HostRuntime) -> Result<(), Fail> {
     let alloc = rt.alloc();
     let mut kept = set(alloc, ">=1")?;
-    kept.narrow(alloc, &set(alloc, ">=0.5")?)?;
+    kept.join(alloc, &set(alloc, ">=0.5")?)?;
     expect_cuts(&rt, alloc, &kept, &["before 1", "end"])?;
-    kept.narrow(alloc, &set(alloc, "<2")?)?;
+    kept.join(alloc, &set(alloc, "<2")?)?;
     expect_cuts(&rt, alloc, &kept, &["before 1", "before 2.dev0"])?;
-    kept.narrow(alloc, &set(alloc, "<3")?)?;
+    kept.join(alloc, &set(alloc, "<3")?)?;
     expect_cuts(&rt, alloc, &kept, &["before 1", "before 2.dev0"])?;
-    kept.narrow(alloc, &set(alloc, ">=2")?)?;
+    kept.join(alloc, &set(alloc, ">=2")?)?;
     assert!(rt; kept.is_empty());
     Ok(())
 }
@@ -150,10 +150,16 @@ fn has_an_operator(rt: HostRuntime) -> Result<(), Fail> {
     for range in range.ranges() {
         assert!(rt; range.copied(alloc)?.low() < range.high());
     }
-    one_list();
-    one_clause();
-    clause_text_is_read();
     Ok(())
+}
+
+#[test]
+fn laws_stand() {
+    laws::one_list();
+    laws::one_list_of_versions();
+    laws::place_is_in();
+    laws::one_clause();
+    laws::clause_text_is_read();
 }
 
 // What is read of a text: the operator, and what is written behind it.

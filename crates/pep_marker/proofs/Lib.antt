@@ -1,1 +1,3 @@
 pub mod NormalNames
+pub mod NameHeadLemmas
+pub mod RunLemmas

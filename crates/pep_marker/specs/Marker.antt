@@ -1,5 +1,5 @@
 -- Markers and their grammar: PyPA "Dependency specifiers", "Grammar" (PEP 508).
-use Rattle.std.specs.Prelude.{◌≡◌, ℕ, suc, ◌+◌, ◌≤◌, Bool, true, false, not, ◌&&◌, ◌||◌, ◌==◌, IsTrue, List, [], ◌∷◌, ◌++◌, length, codes}
+use Rattle.std.specs.Prelude.{◌≡◌, ℕ, suc, ◌+◌, ◌≤◌, Bool, true, not, ◌&&◌, ◌||◌, ◌==◌, IsTrue, List, [], ◌∷◌, ◌++◌, length, codes}
 use Rattle.std.specs.Char.{is_ascii_alphanumeric}
 use Rattle.std.specs.List.{list_all}
 use Rattle.pep_clause.specs.Clause.{operator_text}
@@ -7,6 +7,7 @@ use Rattle.pep_clause.specs.declared.op.Op.{Op}
 use Rattle.pep_clause.specs.declared.op.Op.TheVariants.{Equal, Less, More}
 use Rattle.pep_marker.specs.declared.environment.Variable.{Variable}
 use Rattle.pep_marker.specs.Environment.{variable_name}
+use Rattle.pep_marker.specs.Runs.{IsBlank, begins}
 
 -- ---- what a marker is
 
@@ -31,14 +32,7 @@ comparisons (compare l o r) = 1
 comparisons (and m n) = comparisons m + comparisons n
 comparisons (or m n) = comparisons m + comparisons n
 
--- ---- white space and tokens
-
--- white space between tokens: spaces and tabs
-abbrev pub is_blank_byte : ℕ → Bool
-is_blank_byte b = b == 32 || b == 9
-
-abbrev pub IsBlank : List ℕ → Type 0
-IsBlank x = IsTrue (list_all is_blank_byte x)
+-- ---- tokens, with white space between them: spaces and tabs
 
 pub data Token : Type 0 where
   open_parenthesis : Token
@@ -71,10 +65,6 @@ IsToken (operator is_not_in) x = (space : List ℕ) × IsBlank space × (1 ≤ l
 -- a word is the longest run of letters, digits, `_` and `.`
 abbrev pub is_word_byte : ℕ → Bool
 is_word_byte b = is_ascii_alphanumeric b || b == 95 || b == 46
-
-abbrev pub begins : (ℕ → Bool) → List ℕ → Bool
-begins test [] = false
-begins test (b ∷ x) = test b
 
 -- a longer word, or a longer operator, doesn't begin where the token begins
 abbrev pub ends_before : Token → List ℕ → Bool

@@ -34,6 +34,28 @@ pub enum MarkerFault {
     NoMemory,
 }
 
+impl MarkerFault {
+    ghost use Rattle.std.specs.Prelude.{◌≡◌};
+    ghost use Rattle.pep_marker.specs.Code.{marker_code};
+
+    /// The code that a refusal is told with: 21 to 29.
+    pub fn code(self) -> u64
+        ensures { result ≡ marker_code self }
+    {
+        match self {
+            MarkerFault::BadName => 21,
+            MarkerFault::UnknownVariable => 22,
+            MarkerFault::MissingVariable(_) => 23,
+            MarkerFault::RepeatedVariable => 24,
+            MarkerFault::BadValue => 25,
+            MarkerFault::BadMarker => 26,
+            MarkerFault::TooDeep => 27,
+            MarkerFault::Undefined => 28,
+            MarkerFault::NoMemory => 29,
+        }
+    }
+}
+
 impl From<AllocError> for MarkerFault {
     ghost use Rattle.std.specs.Prelude.{◌≡◌};
     ghost use Rattle.pep_marker.specs.declared.fault.MarkerFault.TheVariants.{NoMemory};
@@ -41,6 +63,17 @@ impl From<AllocError> for MarkerFault {
     ghost from_gives = { λ _ e. e ≡ NoMemory };
 
     fn from(_: AllocError) -> MarkerFault {
+        MarkerFault::NoMemory
+    }
+}
+
+impl<T: Drop> From<AllocFailed<T>> for MarkerFault {
+    ghost use Rattle.std.specs.Prelude.{◌≡◌};
+    ghost use Rattle.pep_marker.specs.declared.fault.MarkerFault.TheVariants.{NoMemory};
+
+    ghost from_gives = { λ _ e. e ≡ NoMemory };
+
+    fn from(_: AllocFailed<T>) -> MarkerFault {
         MarkerFault::NoMemory
     }
 }

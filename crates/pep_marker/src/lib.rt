@@ -4,7 +4,12 @@
 mod environment;
 mod fault;
 mod name;
+mod runs;
 
 pub use crate::environment::Variable;
 pub use crate::fault::MarkerFault;
 pub use crate::name::Name;
+pub use crate::runs::{
+    blank_end, blank_run, is_blank_byte, is_name_byte, name_run, without_leading_blanks,
+    without_outer_blanks,
+};

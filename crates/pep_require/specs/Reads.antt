@@ -6,7 +6,8 @@ use Rattle.url.specs.Parts.{serialize}
 use Rattle.url.specs.Parts as url
 use Rattle.pep_clause.specs.Clause.{Clause, ReadsClause, is_clause_byte, operator_text}
 use Rattle.pep_clause.specs.declared.op.Op.{Op}
-use Rattle.pep_marker.specs.Marker.{MarkerParts, IsMarker, IsBlank, is_blank_byte, begins}
+use Rattle.pep_marker.specs.Marker.{MarkerParts, IsMarker}
+use Rattle.pep_marker.specs.Runs.{IsBlank, is_blank_byte, begins}
 use Rattle.pep_marker.specs.Name.{name_of}
 use Rattle.pep_require.specs.Requirement.{RequirementParts, TargetParts, bounds, direct, UrlParts, IsAscending}
 

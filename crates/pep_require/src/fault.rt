@@ -1,6 +1,6 @@
 use pep_clause::ClauseFault;
 use pep_marker::MarkerFault;
-use std::alloc::AllocError;
+use std::alloc::{AllocError, AllocFailed};
 use thiserror::Error;
 
 /// Why a line is refused as a requirement.
@@ -46,5 +46,45 @@ impl From<AllocError> for RequireFault {
 
     fn from(_: AllocError) -> RequireFault {
         RequireFault::NoMemory
+    }
+}
+
+impl<T: Drop> From<AllocFailed<T>> for RequireFault {
+    ghost use Rattle.std.specs.Prelude.{◌≡◌};
+    ghost use Rattle.pep_require.specs.declared.fault.RequireFault.TheVariants.{NoMemory};
+
+    ghost from_gives = { λ _ e. e ≡ NoMemory };
+
+    fn from(_: AllocFailed<T>) -> RequireFault {
+        RequireFault::NoMemory
+    }
+}
+
+impl From<ClauseFault> for RequireFault {
+    ghost use Rattle.std.specs.Prelude.{◌≡◌};
+    ghost use Rattle.pep_require.specs.InnerFault.{fault_of_clause};
+
+    ghost from_gives = { λ f e. e ≡ fault_of_clause f };
+
+    fn from(fault: ClauseFault) -> RequireFault {
+        match fault {
+            ClauseFault::NoMemory => RequireFault::NoMemory,
+            fault => RequireFault::BadClause(fault),
+        }
+    }
+}
+
+impl From<MarkerFault> for RequireFault {
+    ghost use Rattle.std.specs.Prelude.{◌≡◌};
+    ghost use Rattle.pep_require.specs.InnerFault.{fault_of_marker};
+
+    ghost from_gives = { λ f e. e ≡ fault_of_marker f };
+
+    fn from(fault: MarkerFault) -> RequireFault {
+        match fault {
+            MarkerFault::BadName => RequireFault::BadName,
+            MarkerFault::NoMemory => RequireFault::NoMemory,
+            fault => RequireFault::BadMarker(fault),
+        }
     }
 }

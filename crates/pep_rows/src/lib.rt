@@ -4,7 +4,11 @@
 #[cfg(test)]
 mod commands;
 #[cfg(test)]
+mod example;
+#[cfg(test)]
 mod large;
+#[cfg(test)]
+mod laws;
 #[cfg(test)]
 mod limits;
 #[cfg(test)]

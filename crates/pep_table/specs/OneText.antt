@@ -10,7 +10,7 @@ use Rattle.std.proofs.lemmas.Slice.Eq.{bytes_eq-Decides}
 use Rattle.pep_clause.specs.Cut.{Cut, IsCut}
 use Rattle.pep_clause.specs.PointLaws.{same_points}
 use Rattle.pep_clause.specs.VersionSet.{IsPoint, all_versions, is_point}
-use Rattle.pep_clause.specs.Clause.{arbitrary}
+use Rattle.pep_clause.specs.Clause.{demanded}
 use Rattle.pep_require.specs.Requirement.{IsAscending}
 use Rattle.pep_table.specs.declared.verdict.Verdict.{Verdict}
 use Rattle.pep_table.specs.declared.verdict.Verdict.TheVariants.{Possible, Nothing, Conflict}
@@ -76,7 +76,7 @@ one_entry : (Q W : Demand → Type 0) (e f : EntryParts) → ((d : Demand) → Q
 one_entry Q W e f same ve vf ie fi pe pf =
     let extras = same_texts e.extras f.extras ve.extras.0 vf.extras.0 (λ x. through (ie.extras x) (same (extra x)) (fi.extras x)) in
     let urls = same_texts e.urls f.urls ve.urls.0 vf.urls.0 (λ u. through (ie.urls u) (same (url u)) (fi.urls u)) in
-    let texts = same_texts e.texts f.texts ve.texts.0 vf.texts.0 (λ t. through (ie.texts t) (same (clause (arbitrary t))) (fi.texts t)) in
+    let texts = same_texts e.texts f.texts ve.texts.0 vf.texts.0 (λ t. through (ie.texts t) (same (clause (demanded t))) (fi.texts t)) in
     let versions = same_points e.versions f.versions ve.versions vf.versions (λ cut is. one_answer_of (is_point e.versions cut) (is_point f.versions cut) (
       (λ m. let q = (pe cut is).0 m in (pf cut is).1 (q.0, λ d w. q.1 d ((same d).1 w))),
       λ m. let w = (pf cut is).0 m in (pe cut is).1 (w.0, λ d q. w.1 d ((same d).0 q)),

@@ -14,7 +14,7 @@ use Rattle.pep_tool.specs.declared.input.Input.{Input}
 use Rattle.pep_tool.specs.declared.input.Kind.{Kind}
 use Rattle.pep_tool.specs.declared.input.Kind.TheVariants as kind
 use Rattle.pep_tool.proofs.LineLemmas.{one_line}
-use Rattle.pep_version.specs.Conjunction.{and-first as and_first, and-second as and_second}
+use Rattle.pep_version.proofs.Connectives.{and_first, and_second}
 
 -- the pair is in the list
 abbrev pub Among : List Pair → Pair → Type 0

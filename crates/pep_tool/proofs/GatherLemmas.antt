@@ -11,8 +11,7 @@ use Rattle.pep_clause.specs.Admits.{admits}
 use Rattle.pep_clause.specs.Clause.{Clause, demanded_text}
 use Rattle.pep_clause.specs.OperatorTable.{set_of}
 use Rattle.pep_clause.specs.VersionSet.{Range, is_point}
-use Rattle.pep_marker.specs.Name.{IsNormalName}
-use Rattle.pep_tool.specs.NameKey.{name_cmp}
+use Rattle.pep_marker.specs.Name.{IsNormalName, name_cmp}
 use Rattle.pep_tool.specs.Sets.{ArePlain, Folds, Gathers, HoldsClauses, IsPlainPair, KeepsClauses, Meets, Pair, Sets, clauses_on, set_at, with_name}
 
 -- ranges that hold what two others hold, of which each holds what clauses admit

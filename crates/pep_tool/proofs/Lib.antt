@@ -1,7 +1,5 @@
 pub mod Appended
 pub mod Refusals
-pub mod RunLemmas
-pub mod NameKeyLemmas
 pub mod LineLemmas
 pub mod GatherLemmas
 pub mod ListLemmas

@@ -9,32 +9,29 @@ use Rattle.std.proofs.lemmas.List.{take-append-drop}
 use Rattle.std.proofs.lemmas.List.Folds.{length-prefix_len}
 use Rattle.std.proofs.lemmas.List.Splits.{length-slice_split, slice_split-cons_no, slice_split-cons_yes}
 use Rattle.std.proofs.lemmas.Str.{IsUtf8-from_ascii}
-use Rattle.pep_clause.specs.Clause.{Clause, ClauseOf, arbitrary, demanded_text, is_clause_byte, operator_of, operator_text}
+use Rattle.pep_clause.specs.Clause.{Clause, ClauseOf, demanded, demanded_text, is_clause_byte, operator_of, operator_text}
 use Rattle.pep_clause.specs.OneAnswer.{clause_told, no-clause-of-nothing, one-answer}
 use Rattle.pep_clause.specs.OperatorLaws.{operator_shape}
 use Rattle.pep_clause.specs.declared.fault.ClauseFault.{ClauseFault}
 use Rattle.pep_clause.specs.declared.fault.ClauseFault.TheVariants as clause_fault
 use Rattle.pep_clause.specs.declared.op.Op.{Op}
 use Rattle.pep_clause.specs.declared.op.Op.TheVariants as op
-use Rattle.pep_marker.specs.Marker.{begins, is_blank_byte}
-use Rattle.pep_marker.specs.Name.{is_letter_or_digit, is_name, is_name_byte, is_separator, name_of, normalized}
-use Rattle.pep_require.specs.Faults.{beginning_fault, name_run, without_leading_blanks}
+use Rattle.pep_marker.specs.Name.{IsNormalName, is_letter_or_digit, is_name, is_name_byte, name_of, normalized}
+use Rattle.pep_marker.proofs.NormalNames.{IsNormalName-name_of, name_byte_small}
+use Rattle.pep_marker.specs.Runs.{begins, is_blank_byte, without_leading_blanks}
+use Rattle.pep_require.specs.Faults.{beginning_fault, name_run}
 use Rattle.pep_require.specs.Reads.{line_limit}
 use Rattle.pep_require.specs.Requirement.{RequirementParts}
 use Rattle.pep_require.specs.declared.fault.RequireFault.{RequireFault}
 use Rattle.pep_require.specs.declared.fault.RequireFault.TheVariants as fault
 use Rattle.pep_tool.specs.Line.{IsOperand, ReadsBound, ReadsBounds, ReadsLine, RefusesBound, RefusesBounds, RefusesFound, RefusesLine, RefusesLineAs, RefusesOperand, RefusesPieces, after_operator, after_run, behind_name, clause_run, pieces_of, plain_requirement}
-use Rattle.pep_version.specs.Conjunction.{and-first as and_first, and-second as and_second}
-use Rattle.pep_tool.proofs.RunLemmas.{all-rest, all-run, ascii-class, rest-all, rest-span, run-span}
+use Rattle.pep_version.proofs.Connectives.{and_first, and_second}
+use Rattle.pep_marker.proofs.RunLemmas.{all-rest, all-run, ascii-class, rest-all, rest-span, run-span}
 
 -- ---- classes of bytes
 
 pub clause_byte_small : (b : ℕ) → is_clause_byte b ≡ true → b < 128
 clause_byte_small b h = grind (arith, nat_tests)
-
-pub name_byte_small : (b : ℕ) → is_name_byte b ≡ true → b < 128
-unfolding is_letter_or_digit is_separator
-name_byte_small b h = grind (arith, nat_tests)
 
 pub clause_no_blank : (b : ℕ) → is_clause_byte b ≡ true → is_blank_byte b ≡ false
 clause_no_blank b h = grind (arith, nat_tests)
@@ -43,7 +40,7 @@ pub blank_no_clause : (b : ℕ) → is_blank_byte b ≡ true → is_clause_byte 
 blank_no_clause b h = grind (arith, nat_tests)
 
 pub blank_no_name : (b : ℕ) → is_blank_byte b ≡ true → is_name_byte b ≡ false
-unfolding is_letter_or_digit is_separator
+unfolding is_letter_or_digit
 blank_no_name b h = grind (arith, nat_tests)
 
 pub letter_no_blank : (b : ℕ) → is_letter_or_digit b ≡ true → is_blank_byte b ≡ false
@@ -208,7 +205,7 @@ is_told o run c s told e = by (subst (λ (p : Op). ClauseOf p run (Ok c)) e s)
     text_in (Ok d) = demanded_text d
     text_in (Err f) = None
 
-    exact : (t : Bool) (text : List ℕ) → Ok c ≡ (if t then Ok (arbitrary text) else Err clause_fault.BadVersion) → ⊥
+    exact : (t : Bool) (text : List ℕ) → Ok c ≡ (if t then Ok (demanded text) else Err clause_fault.BadVersion) → ⊥
     exact true text h = cc (sym told ∙ ap text_in h)
     exact false text h = cc h
 
@@ -342,7 +339,7 @@ begins_name p off [] rest h = cc h
 begins_name p off (b ∷ x) rest h = off b (and_second _ _ (and_first _ _ h))
 
 name_off : OffOperators is_name_byte
-unfolding is_letter_or_digit is_separator
+unfolding is_letter_or_digit
 name_off = (refl, refl, refl, refl, refl)
 
 -- ---- the line
@@ -426,6 +423,11 @@ line_read x n cs fits e s =
       reads_bounds = s;
       reads = refl;
     }
+
+-- the name of a line is in its normal form
+pub line_name_normal : (x n : List ℕ) (cs : List Clause) → ReadsLine x (plain_requirement n cs) → IsNormalName n
+line_name_normal x n cs s =
+    subst IsNormalName (sym (ap (λ (r : RequirementParts). r.name) s.reads)) (IsNormalName-name_of s.name s.normal s.reads_name)
 
 -- ---- the line's beginning
 

@@ -18,7 +18,8 @@ use Rattle.pep_tool.specs.Line.{ReadsLine, RefusesLine}
 use Rattle.pep_tool.specs.Lists.{IsListOf, content, input_limit, is_skipped, lines_of, requirement_lines}
 use Rattle.pep_tool.specs.Refusal.{IsNumbered, IsRefusedLine, IsRefusedList}
 use Rattle.pep_tool.specs.Refusal.{by_content, by_encoding, by_length, by_line, by_size}
-use Rattle.pep_tool.specs.Sets.{Gathers, HasClause, IsGathered, IsGoodLine, IsReadOf, LineGives, LineParts, LinesGive, ListGives, MergesLine, MergesList, Pair, RefusesLineBytes, RefusesList, Sets, left_parts, line_requirement, pairs_of}
+use Rattle.pep_tool.specs.Sets.{Gathers, HasClause, IsGathered, IsGoodLine, IsReadOf, LineGives, LineParts, LinesGive, ListGives, MergesLine, MergesList, Pair, RefusesLineBytes, RefusesList, Sets, line_requirement, pairs_of}
+use Rattle.pep_version.specs.Split.{left_parts}
 use Rattle.pep_tool.proofs.LineLemmas.{line_refused}
 
 -- ---- lines in turn

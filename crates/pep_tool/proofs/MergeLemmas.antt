@@ -2,7 +2,7 @@
 use Rattle.std.proofs.Common.{◌≡◌, ℕ, zero, suc, ◌+◌, ◌<◌, List, [], ◌∷◌, ◌++◌, length, map, take, drop, length-take-le, get_or, refl, sym, ap, subst, ◌∙◌, arith, append_assoc, append-nil, ◌≢◌, inl, inr}
 use Rattle.std.specs.Prelude.{All, slice_index_or}
 use Rattle.std.specs.BTreeMap.{IsOrdered}
-use Rattle.pep_tool.specs.NameKey.{name_cmp}
+use Rattle.pep_marker.specs.Name.{name_cmp}
 use Rattle.std.proofs.lemmas.List.{take-append-drop, take_more}
 use Rattle.pep_require.specs.Requirement.{RequirementParts}
 use Rattle.pep_table.specs.Demand.{HaveSameDemands}

@@ -12,7 +12,7 @@ use Rattle.std.proofs.lemmas.Map.Text.{is_eq-slice_cmp}
 use Rattle.std.proofs.lemmas.Slice.Eq.{bytes_eq-Decides}
 use Rattle.pep_version.specs.Version.{Version}
 use Rattle.pep_clause.specs.Admits.{Admits, admits}
-use Rattle.pep_clause.specs.Clause.{Clause, arbitrary, compatible, matching, matching_prefix, excluding, excluding_prefix, at_most, at_least, less_than, greater_than, demanded_text}
+use Rattle.pep_clause.specs.Clause.{Clause, demanded, compatible, matching, matching_prefix, excluding, excluding_prefix, at_most, at_least, less_than, greater_than, demanded_text}
 use Rattle.pep_clause.specs.Cut.{Cut, IsCut}
 use Rattle.pep_clause.specs.LeastCut.{point-all_versions}
 use Rattle.pep_clause.specs.OperatorTable.{set_of}
@@ -22,7 +22,7 @@ use Rattle.pep_require.specs.Requirement.{IsAscending}
 use Rattle.pep_table.specs.Demand.{AdmitsBesideTexts, Demand, Demands, HaveSameDemands, RequirementDemands, presence, extra, url, clause, ranges}
 use Rattle.pep_table.specs.Table.{AdmitsPoint, EntryParts, HasExactPoints, IsEntry, IsTable, IsValidEntry, IsValidTable, TableParts, entry_at, names}
 use Rattle.pep_tool.specs.Sets.{HoldsClauses, IsGathered, IsPlainPair, KeepsClauses, Pair, Sets, clauses_on, named_entry, pair_requirement, plain_entry, set_at, table_of}
-use Rattle.pep_tool.specs.NameKey.{name_cmp}
+use Rattle.pep_marker.specs.Name.{name_cmp}
 use Rattle.pep_tool.proofs.DemandLemmas.{Among, PairsDemand, in_none, in_one, one_in, all_from_pairs, all_told, plain_among, some_clause, some_pair}
 
 -- ---- the entry at a name
@@ -121,7 +121,7 @@ demand_name p name (ranges l) h = h.0
 
 -- a clause that is told by ranges alone admits the same beside the texts
 beside : (c : Clause) (v : Version) → Admits c v → AdmitsBesideTexts (clause c) v
-beside (arbitrary t) v h = tt
+beside (demanded t) v h = tt
 beside (compatible w) v h = h
 beside (matching w) v h = h
 beside (matching_prefix w) v h = h
@@ -133,7 +133,7 @@ beside (less_than w) v h = h
 beside (greater_than w) v h = h
 
 beside_plain : (c : Clause) (v : Version) → demanded_text c ≡ None → AdmitsBesideTexts (clause c) v → Admits c v
-beside_plain (arbitrary t) v e h = cc e
+beside_plain (demanded t) v e h = cc e
 beside_plain (compatible w) v e h = h
 beside_plain (matching w) v e h = h
 beside_plain (matching_prefix w) v e h = h
@@ -170,9 +170,9 @@ point_demand name ps cut h (clause c) q =
 demands_point : (name : List ℕ) (ps : List Pair) (cut : Cut) → ((d : Demand) → PairsDemand ps name d → AdmitsPoint d cut) → list_all (λ c. is_point (set_of c) cut) (clauses_on name ps) ≡ true
 demands_point name ps cut h = all_from_pairs (λ c. is_point (set_of c) cut) name ps (λ p a e. h (clause p.1) (p, a, (e, one_in p.1)))
 
-no_text : (ps : List Pair) (name t : List ℕ) → AllByRecursion IsPlainPair ps → PairsDemand ps name (clause (arbitrary t)) → ⊥
+no_text : (ps : List Pair) (name t : List ℕ) → AllByRecursion IsPlainPair ps → PairsDemand ps name (clause (demanded t)) → ⊥
 no_text ps name t plain q =
-    let same : q.0.1 ≡ arbitrary t = in_one q.0.1 (arbitrary t) q.2.1 in
+    let same : q.0.1 ≡ demanded t = in_one q.0.1 (demanded t) q.2.1 in
     let told : None ≡ Some t = sym (plain_among ps q.0 plain q.1).1 ∙ ap demanded_text same in
     cc told
 
@@ -243,7 +243,7 @@ same_table Q W t same h = record {
     entry name (Some p) e = record {
       extras = λ x. ((λ m. (same name (extra x)).0 ((e.extras x).0 m)), λ q. (e.extras x).1 ((same name (extra x)).1 q));
       urls = λ u. ((λ m. (same name (url u)).0 ((e.urls u).0 m)), λ q. (e.urls u).1 ((same name (url u)).1 q));
-      texts = λ x. ((λ m. (same name (clause (arbitrary x))).0 ((e.texts x).0 m)), λ q. (e.texts x).1 ((same name (clause (arbitrary x))).1 q));
+      texts = λ x. ((λ m. (same name (clause (demanded x))).0 ((e.texts x).0 m)), λ q. (e.texts x).1 ((same name (clause (demanded x))).1 q));
       versions = λ v is. ((λ m d q. (e.versions v is).0 m d ((same name d).1 q)), λ f. (e.versions v is).1 (λ d q. f d ((same name d).0 q)));
     }
 

@@ -1,5 +1,4 @@
 pub mod Line
-pub mod NameKey
 pub mod Lists
 pub mod Gathered
 pub mod Merge

@@ -6,9 +6,9 @@ use Rattle.pep_clause.specs.Clause.{Clause, ClauseOf, IsClauseOf, demanded_text,
 use Rattle.pep_clause.specs.declared.fault.ClauseFault.TheVariants as clause_fault
 use Rattle.pep_clause.specs.declared.op.Op.{Op}
 use Rattle.pep_clause.specs.declared.op.Op.TheVariants as op
-use Rattle.pep_marker.specs.Marker.{IsBlank}
 use Rattle.pep_marker.specs.Name.{name_of}
-use Rattle.pep_require.specs.Faults.{beginning_fault, name_run, without_leading_blanks}
+use Rattle.pep_marker.specs.Runs.{IsBlank, without_leading_blanks}
+use Rattle.pep_require.specs.Faults.{beginning_fault, name_run}
 use Rattle.pep_require.specs.Reads.{line_limit}
 use Rattle.pep_require.specs.Requirement.{RequirementParts, bounds}
 use Rattle.pep_require.specs.declared.fault.RequireFault.{RequireFault}

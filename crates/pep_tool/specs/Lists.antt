@@ -1,8 +1,8 @@
 -- The requirements of an input: a list, with a requirement on each line.
-use Rattle.std.specs.Prelude.{ℕ, ◌-◌, ◌≤◌, Bool, not, ◌||◌, ◌==◌, List, take, drop, length, map, filter, All, IsUtf8}
-use Rattle.std.specs.List.{AllZip, prefix_len, suffix_len, slice_split}
+use Rattle.std.specs.Prelude.{ℕ, ◌≤◌, Bool, not, ◌||◌, ◌==◌, List, length, map, filter, All, IsUtf8}
+use Rattle.std.specs.List.{AllZip, slice_split}
 use Rattle.std.specs.Str.Lines.{strip_carriage_return}
-use Rattle.pep_marker.specs.Marker.{is_blank_byte, begins}
+use Rattle.pep_marker.specs.Runs.{begins, without_outer_blanks}
 use Rattle.pep_require.specs.Reads.{line_limit}
 use Rattle.pep_require.specs.Requirement.{RequirementParts}
 use Rattle.pep_tool.specs.declared.input.Kind.{Kind}
@@ -17,13 +17,9 @@ input_limit = 16777216
 abbrev pub lines_of : List ℕ → List (List ℕ)
 lines_of bytes = slice_split (λ b. b == 10) bytes
 
--- the text without the white space at both ends
-abbrev pub trimmed : List ℕ → List ℕ
-trimmed x = let y = drop (prefix_len is_blank_byte x) x in take (length y - suffix_len is_blank_byte y) y
-
 -- a line without a carriage return at its end, and then without white space at both ends
 abbrev pub content : List ℕ → List ℕ
-content line = trimmed (strip_carriage_return line)
+content line = without_outer_blanks (strip_carriage_return line)
 
 -- empty lines and comments are skipped
 abbrev pub is_skipped : List ℕ → Bool

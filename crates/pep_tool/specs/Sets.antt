@@ -1,9 +1,8 @@
 -- THE CODE'S WAY, and no part of any meaning: how the code keeps what the lines read so far demand, as a map from
 -- each name to the versions that all clauses on it admit.
-use Rattle.std.specs.Prelude.{◌≡◌, ◌≢◌, ◌==◌, ℕ, ◌&&◌, ◌⊎◌, ⊤, ◌<◌, Bool, true, false, List, [], ◌∷◌, ◌++◌, bytes_eq, map, Option, Some, None, if◌then◌else◌, codes, ◌≤◌, length, IsUtf8}
-use Rattle.std.specs.Borrow.{Bor}
+use Rattle.std.specs.Prelude.{◌≡◌, ◌≢◌, ℕ, ◌&&◌, ◌⊎◌, ⊤, ◌<◌, Bool, true, false, List, [], ◌∷◌, ◌++◌, bytes_eq, map, Option, Some, None, if◌then◌else◌, codes, ◌≤◌, length, IsUtf8}
 use Rattle.std.specs.BTreeMap.{BTreeMap, get}
-use Rattle.std.specs.List.{AllByRecursion, list_all, slice_split}
+use Rattle.std.specs.List.{AllByRecursion, list_all}
 use Rattle.pep_version.specs.Version.{IsVersion, Version}
 use Rattle.pep_clause.specs.Admits.{admits}
 use Rattle.pep_clause.specs.Clause.{Clause, demanded_text}
@@ -11,10 +10,9 @@ use Rattle.pep_clause.specs.Cut.{Cut}
 use Rattle.pep_clause.specs.Inhabited.{HasVersionUnlessEmpty}
 use Rattle.pep_clause.specs.OperatorTable.{set_of}
 use Rattle.pep_clause.specs.VersionSet.{IsNormal, Range, is_in, is_point}
-use Rattle.pep_marker.specs.Name.{IsNormalName}
+use Rattle.pep_marker.specs.Name.{IsNormalName, name_cmp}
 use Rattle.pep_require.specs.Requirement.{RequirementParts}
 use Rattle.pep_tool.specs.Line.{ReadsBound, ReadsBounds, ReadsLine, plain_requirement}
-use Rattle.pep_tool.specs.NameKey.{name_cmp}
 use Rattle.pep_require.specs.Reads.{line_limit}
 use Rattle.pep_require.specs.declared.fault.RequireFault.TheVariants as fault
 use Rattle.pep_tool.specs.Lists.{IsListOf, content, input_limit, is_skipped}
@@ -121,11 +119,6 @@ LinesGive (line ∷ lines) ps = (first : List Pair) × (rest : List Pair) × Lin
 -- the bytes are a list with these pairs
 abbrev pub ListGives : List ℕ → List Pair → Type 0
 ListGives bytes ps = (ls : List LineParts) × IsListOf bytes (map line_requirement ls) × AllByRecursion HasClause ls × (ps ≡ pairs_of ls)
-
--- the parts at a byte of the text that is left, if any
-abbrev pub left_parts : ℕ → Option (Bor (List ℕ)) → List (List ℕ)
-left_parts byte None = []
-left_parts byte (Some rest) = slice_split (λ b. b == byte) rest.now
 
 -- the ranges hold what the clauses that the text is read as admit
 abbrev pub MeansBounds : List ℕ → List Range → Type 0

@@ -8,7 +8,6 @@ pub mod laws;
 mod line;
 mod list;
 mod merge;
-mod name_key;
 mod plan;
 mod print;
 mod program;

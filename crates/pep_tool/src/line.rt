@@ -3,16 +3,16 @@
 ghost use Rattle.std.specs.Prelude.{◌≡◌, ◌≢◌, ◌⊎◌, Err, None, Ok, Some, IfOk, IfErr, IsTrue};
 ghost use Rattle.std.specs.List.{list_all};
 ghost use Rattle.pep_clause.specs.Clause.{ClauseOf, is_clause_byte};
-ghost use Rattle.pep_require.specs.Faults.{without_leading_blanks};
 ghost use Rattle.pep_marker.specs.Name.{is_name_byte, name_of};
 ghost use Rattle.pep_tool.specs.Line.{IsOperand, ReadsBound, RefusesBound, RefusesBounds, RefusesLine, RefusesOperand};
 ghost use Rattle.pep_tool.specs.Sets.{MeansBound, MeansBounds, MeansLine};
 
-use crate::runs::{blank_run, clause_run, first_part, name_run};
+use crate::runs::clause_run;
 use crate::sets::narrow;
 use pep_clause::{Clause, ClauseFault, Op, VersionSet};
-use pep_marker::{MarkerFault, Name};
+use pep_marker::{MarkerFault, Name, name_run, without_leading_blanks};
 use pep_require::RequireFault;
+use pep_version::first_part;
 use std::alloc::Global;
 
 /// The longest line, in bytes.
@@ -23,14 +23,6 @@ pub(crate) const LINE_LIMIT: usize = 65536;
 pub(crate) struct Line {
     pub(crate) name: Name,
     pub(crate) versions: VersionSet,
-}
-
-/// The text without white space in front.
-fn without_leading_blanks(text: &[u8]) -> &[u8]
-    ensures { result.now ≡ without_leading_blanks text.now }
-{
-    let (_, rest) = text.split_at(blank_run(text));
-    rest
 }
 
 /// The name that a text of bytes of names spells.

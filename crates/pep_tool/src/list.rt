@@ -7,9 +7,10 @@ ghost use Rattle.pep_tool.specs.Sets.{IsReadOf, MergesLine, MergesList, RefusesL
 
 use crate::fault::{Cause, LineFault};
 use crate::line::{LINE_LIMIT, read_line};
-use crate::runs::{blank_end, blank_run, first_part};
 use crate::sets::{Sets, gather};
+use pep_marker::without_outer_blanks;
 use pep_require::RequireFault;
+use pep_version::first_part;
 use std::alloc::Global;
 
 /// The largest input, in bytes.
@@ -23,8 +24,7 @@ fn content(line: &[u8]) -> &[u8]
         [front @ .., b'\r'] => front,
         _ => line,
     };
-    let line = &line[blank_run(line)..];
-    &line[..line.len() - blank_end(line)]
+    without_outer_blanks(line)
 }
 
 /// Whether a line with this content is empty or a comment.

@@ -5,7 +5,7 @@ ghost use Rattle.std.specs.BTreeMap.{IsOrdered};
 ghost use Rattle.pep_clause.specs.Cut.{cut_text};
 ghost use Rattle.pep_table.specs.TableText.{IsTableText};
 ghost use Rattle.pep_table.specs.Verdict.{verdict_word};
-ghost use Rattle.pep_tool.specs.NameKey.{name_cmp};
+ghost use Rattle.pep_marker.specs.Name.{name_cmp};
 ghost use Rattle.pep_tool.specs.Run.{no_memory};
 ghost use Rattle.pep_tool.specs.Sets.{plain_entry_text, range_line, range_lines, shown, table_of};
 

@@ -13,10 +13,11 @@ use Rattle.std.specs.Str.{str_to_ascii_lowercase}
 use Rattle.std.specs.Str.Parse.{AllDigits, digits_value}
 use Rattle.pep_version.specs.declared.parts.Phase.{Phase}
 use Rattle.pep_version.specs.declared.parts.Phase.TheVariants.{Alpha, Beta, Rc}
-use Rattle.pep_version.specs.Spelling.{DevSpelling, EpochSpelling, IsOneOf, LabelSpelling, NumberSpelling, OptionalNumberSpelling, PostSpelling, PreSpelling, ReleaseSpelling, Spells, dotted_parts, is_number, is_run, is_separator, is_white_space, pre_words, segment_of_run, separated_parts, trimmed, without_leading_space, without_trailing_space}
+use Rattle.pep_version.specs.Spelling.{DevSpelling, EpochSpelling, IsOneOf, IsOptionalSeparator, LabelSpelling, NumberSpelling, OptionalNumberSpelling, PostSpelling, PreSpelling, ReleaseSpelling, Spells, WordAndNumber, dev_words, dotted_parts, is_number, is_run, post_words, pre_words, segment_of_run, separated_parts, trimmed, without_leading_space, without_trailing_space}
+use Rattle.pep_version.specs.Bytes.{is_separator, is_white_space}
 use Rattle.pep_version.specs.Text.{dev_text, epoch_text, is_text_byte, label_text, normal_text, phase_text, post_text, pre_text, release_text, segment_text}
 use Rattle.pep_version.specs.Version.{Fits, IsSegment, IsVersion, Segment, SegmentFits, number, Version, is_empty, is_word_byte, word}
-use Rattle.pep_version.specs.Conjunction.{and-first, and-second}
+use Rattle.pep_version.proofs.Connectives.{and-false, and_first, and_second}
 
 -- ---- numbers
 
@@ -48,11 +49,11 @@ optional-spells (c ∷ cs) n s = s
 
 list_all-weaker : (p q : ℕ → Bool) → ((b : ℕ) → p b ≡ true → q b ≡ true) → (xs : List ℕ) → list_all p xs ≡ true → list_all q xs ≡ true
 list_all-weaker p q w [] h = refl
-list_all-weaker p q w (x ∷ xs) h = rw (w x (and-first (p x) (list_all p xs) h), list_all-weaker p q w xs (and-second (p x) (list_all p xs) h)) refl
+list_all-weaker p q w (x ∷ xs) h = rw (w x (and_first (p x) (list_all p xs) h), list_all-weaker p q w xs (and_second (p x) (list_all p xs) h)) refl
 
 none-pass : (p q : ℕ → Bool) → ((b : ℕ) → p b ≡ true → q b ≡ false) → (xs : List ℕ) → list_all p xs ≡ true → AllByRecursion (λ b. q b ≡ false) xs
 none-pass p q w [] h = tt
-none-pass p q w (x ∷ xs) h = (w x (and-first (p x) (list_all p xs) h), none-pass p q w xs (and-second (p x) (list_all p xs) h))
+none-pass p q w (x ∷ xs) h = (w x (and_first (p x) (list_all p xs) h), none-pass p q w xs (and_second (p x) (list_all p xs) h))
 
 -- the parts of a text that was joined of parts
 join-split : (p : ℕ → Bool) (c : ℕ) (parts : List (List ℕ)) → p c ≡ true → 0 < length parts → AllByRecursion (AllByRecursion (λ b. p b ≡ false)) parts
@@ -73,19 +74,19 @@ byte-lower b h = grind (arith, nat_tests)
 
 plain-front : (xs : List ℕ) → list_all is_text_byte xs ≡ true → without_leading_space xs ≡ xs
 plain-front [] h = refl
-plain-front (x ∷ xs) h = rw (byte-white x (and-first (is_text_byte x) (list_all is_text_byte xs) h)) refl
+plain-front (x ∷ xs) h = rw (byte-white x (and_first (is_text_byte x) (list_all is_text_byte xs) h)) refl
 
 plain-end : (xs : List ℕ) → list_all is_text_byte xs ≡ true → without_trailing_space xs ≡ xs
 plain-end [] h = refl
 plain-end (x ∷ xs) h =
-    let more = plain-end xs (and-second (is_text_byte x) (list_all is_text_byte xs) h) in
-    rw (byte-white x (and-first (is_text_byte x) (list_all is_text_byte xs) h)) (ap (λ (l : List ℕ). x ∷ l) more)
+    let more = plain-end xs (and_second (is_text_byte x) (list_all is_text_byte xs) h) in
+    rw (byte-white x (and_first (is_text_byte x) (list_all is_text_byte xs) h)) (ap (λ (l : List ℕ). x ∷ l) more)
 
 plain-lower : (xs : List ℕ) → list_all is_text_byte xs ≡ true → str_to_ascii_lowercase xs ≡ xs
 plain-lower [] h = refl
 plain-lower (x ∷ xs) h =
-    let same : to_ascii_lowercase x ≡ x = byte-lower x (and-first (is_text_byte x) (list_all is_text_byte xs) h) in
-    let more = plain-lower xs (and-second (is_text_byte x) (list_all is_text_byte xs) h) in
+    let same : to_ascii_lowercase x ≡ x = byte-lower x (and_first (is_text_byte x) (list_all is_text_byte xs) h) in
+    let more = plain-lower xs (and_second (is_text_byte x) (list_all is_text_byte xs) h) in
     λ i. same i ∷ more i
 
 pub plain-trimmed : (xs : List ℕ) → list_all is_text_byte xs ≡ true → trimmed xs ≡ xs
@@ -169,19 +170,24 @@ phase-plain Alpha = refl
 phase-plain Beta = refl
 phase-plain Rc = refl
 
+-- a word and a number, with or without a separator before them
+numbered-spells : (words : List (List ℕ)) (before letters : List ℕ) (n : ℕ) → IsOptionalSeparator before → IsOneOf words letters → Fits n
+    → WordAndNumber words (before ++ (letters ++ decimal n)) n
+numbered-spells words before letters n separator one fits = record {
+  before = before;
+  letters = letters;
+  after = [];
+  digits = decimal n;
+  pieces = ap (λ (t : List ℕ). before ++ (letters ++ t)) (sym (append-nil (decimal n)));
+  before_is = separator;
+  letters_is = one;
+  after_is = tt;
+  digits_is = optional-spells (decimal n) n (decimal-spells n fits);
+}
+
 pre-spells : (pre : Option (Phase × ℕ)) → IfSome pre (λ p. Fits p.1) → PreSpelling (pre_text pre) pre
 pre-spells None fits = refl
-pre-spells (Some p) fits = record {
-  before = [];
-  letters = phase_text p.0;
-  after = [];
-  digits = decimal p.1;
-  pieces = ap (λ (t : List ℕ). phase_text p.0 ++ t) (sym (append-nil (decimal p.1)));
-  before_is = tt;
-  letters_is = phase-word p.0;
-  after_is = tt;
-  digits_is = optional-spells (decimal p.1) p.1 (decimal-spells p.1 fits);
-}
+pre-spells (Some p) fits = numbered-spells (pre_words p.0) [] (phase_text p.0) p.1 tt (phase-word p.0) fits
 
 pre-plain : (pre : Option (Phase × ℕ)) → IfSome pre (λ p. Fits p.1) → list_all is_text_byte (pre_text pre) ≡ true
 pre-plain None fits = refl
@@ -189,17 +195,7 @@ pre-plain (Some p) fits = plain-append (phase_text p.0) (decimal p.1) (phase-pla
 
 post-spells : (pre : List ℕ) (post : Option ℕ) → IfSome post Fits → PostSpelling pre (post_text post) post
 post-spells pre None fits = refl
-post-spells pre (Some n) fits = inl (record {
-  before = codes ".";
-  letters = codes "post";
-  after = [];
-  digits = decimal n;
-  pieces = ap (λ (t : List ℕ). codes ".post" ++ t) (sym (append-nil (decimal n)));
-  before_is = refl;
-  letters_is = inl refl;
-  after_is = tt;
-  digits_is = optional-spells (decimal n) n (decimal-spells n fits);
-})
+post-spells pre (Some n) fits = inl (numbered-spells post_words (codes ".") (codes "post") n refl (inl refl) fits)
 
 post-plain : (post : Option ℕ) → IfSome post Fits → list_all is_text_byte (post_text post) ≡ true
 post-plain None fits = refl
@@ -207,17 +203,7 @@ post-plain (Some n) fits = plain-append (codes ".post") (decimal n) refl (decima
 
 dev-spells : (dev : Option ℕ) → IfSome dev Fits → DevSpelling (dev_text dev) dev
 dev-spells None fits = refl
-dev-spells (Some n) fits = record {
-  before = codes ".";
-  letters = codes "dev";
-  after = [];
-  digits = decimal n;
-  pieces = ap (λ (t : List ℕ). codes ".dev" ++ t) (sym (append-nil (decimal n)));
-  before_is = refl;
-  letters_is = inl refl;
-  after_is = tt;
-  digits_is = optional-spells (decimal n) n (decimal-spells n fits);
-}
+dev-spells (Some n) fits = numbered-spells dev_words (codes ".") (codes "dev") n refl (inl refl) fits
 
 dev-plain : (dev : Option ℕ) → IfSome dev Fits → list_all is_text_byte (dev_text dev) ≡ true
 dev-plain None fits = refl
@@ -233,7 +219,7 @@ word-no-separator b h = grind arith
 
 segment-bytes : (s : Segment) → IsSegment s → SegmentFits s → list_all is_word_byte (segment_text s) ≡ true
 segment-bytes (number n) is fits = list_all-weaker is_ascii_digit is_word_byte digit-word (decimal n) (decimal-digits n fits)
-segment-bytes (word letters) is fits = and-first (list_all is_word_byte letters) (list_any is_ascii_lowercase letters) is
+segment-bytes (word letters) is fits = and_first (list_all is_word_byte letters) (list_any is_ascii_lowercase letters) is
 
 some-run : (run : List ℕ) → is_empty run ≡ false → list_all is_word_byte run ≡ true → is_run run ≡ true
 some-run [] e h = cc
@@ -250,7 +236,7 @@ letters-some (b ∷ rest) h = refl
 segment-run : (s : Segment) → IsSegment s → SegmentFits s → is_run (segment_text s) ≡ true
 segment-run (number n) is fits = some-run (decimal n) (number-some (decimal n) (decimal-number n fits)) (segment-bytes (number n) is fits)
 segment-run (word letters) is fits =
-    some-run letters (letters-some letters (and-second (list_all is_word_byte letters) (list_any is_ascii_lowercase letters) is)) (segment-bytes (word letters) is fits)
+    some-run letters (letters-some letters (and_second (list_all is_word_byte letters) (list_any is_ascii_lowercase letters) is)) (segment-bytes (word letters) is fits)
 
 letter-no-digit : (b : ℕ) → is_ascii_lowercase b ≡ true → is_ascii_digit b ≡ false
 letter-no-digit b h = grind arith
@@ -259,16 +245,12 @@ not-digits : (letters : List ℕ) → list_any is_ascii_lowercase letters ≡ tr
 not-digits [] h = cc
 not-digits (b ∷ rest) h = elim (cases_Bool (is_ascii_lowercase b)) [
   | inl letter ↦ rw (letter-no-digit b letter) refl
-  | inr other ↦ let more = not-digits rest (rw other at h) in rw more (never (is_ascii_digit b))
+  | inr other ↦ let more = not-digits rest (rw other at h) in rw more (and-false (is_ascii_digit b))
 ]
-  where
-    never : (a : Bool) → (a && false) ≡ false
-    never true = refl
-    never false = refl
 
 segment-read : (s : Segment) → IsSegment s → SegmentFits s → s ≡ segment_of_run (segment_text s)
 segment-read (number n) is fits = let digits = decimal-digits n fits in rw digits (ap number (decimal-spells n fits).1)
-segment-read (word letters) is fits = let other = not-digits letters (and-second (list_all is_word_byte letters) (list_any is_ascii_lowercase letters) is) in rw other refl
+segment-read (word letters) is fits = let other = not-digits letters (and_second (list_all is_word_byte letters) (list_any is_ascii_lowercase letters) is) in rw other refl
 
 segments-apart : (label : List Segment) → AllByRecursion IsSegment label → AllByRecursion SegmentFits label → AllByRecursion (AllByRecursion (λ b. is_separator b ≡ false)) (map segment_text label)
 segments-apart [] is fits = tt

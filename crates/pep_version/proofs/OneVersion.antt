@@ -9,8 +9,9 @@ use Rattle.std.specs.Str.Parse.{digits_value}
 use Rattle.pep_version.specs.declared.parts.Phase.{Phase}
 use Rattle.pep_version.specs.declared.parts.Phase.TheVariants.{Alpha, Beta, Rc}
 use Rattle.pep_version.specs.Version.{Segment, Version}
-use Rattle.pep_version.specs.Spelling.{DevSpelling, EpochSpelling, IsOneOf, IsOptionalSeparator, LabelSpelling, PostSpelling, PreSpelling, PrecedingVSpelling, SpellsAny, dotted_parts, is_number, is_separator, pre_words, trimmed}
-use Rattle.pep_version.specs.Conjunction.{and-first, and-second}
+use Rattle.pep_version.specs.Spelling.{DevSpelling, EpochSpelling, IsOneOf, IsOptionalSeparator, LabelSpelling, PostSpelling, PreSpelling, PrecedingVSpelling, SpellsAny, dotted_parts, is_number, pre_words, trimmed}
+use Rattle.pep_version.specs.Bytes.{is_separator}
+use Rattle.pep_version.proofs.Connectives.{and_first, and_second}
 use Rattle.pep_version.proofs.Readers.{behind-append, front-append, may_follow}
 use Rattle.pep_version.proofs.Suffixes.{suffix-read, tail-worded}
 use Rattle.pep_version.proofs.Tails.{Tail, digits-all, digits-start, whole-of}
@@ -37,14 +38,14 @@ release_front-append : (xs rest : List ℕ) → is_dotted xs ≡ true → starts
 release_front-append [] [] d s t = refl
 release_front-append [] (b ∷ rest) d s t = rw (s, t) refl
 release_front-append (x ∷ xs) rest d s t =
-    let more = release_front-append xs rest (and-second (is_ascii_digit x || ((x == 46) && starts_digit xs)) (is_dotted xs) d) s t in
-    let one = and-first (is_ascii_digit x || ((x == 46) && starts_digit xs)) (is_dotted xs) d in
+    let more = release_front-append xs rest (and_second (is_ascii_digit x || ((x == 46) && starts_digit xs)) (is_dotted xs) d) s t in
+    let one = and_first (is_ascii_digit x || ((x == 46) && starts_digit xs)) (is_dotted xs) d in
     elim (cases_Bool (is_ascii_digit x)) [
       | inl digit ↦ rw digit (ap (λ (l : List ℕ). x ∷ l) more)
       | inr other ↦
           let both = or-second (is_ascii_digit x) ((x == 46) && starts_digit xs) other one in
-          let dot = and-first (x == 46) (starts_digit xs) both in
-          let next = starts-append xs rest (and-second (x == 46) (starts_digit xs) both) in
+          let dot = and_first (x == 46) (starts_digit xs) both in
+          let next = starts-append xs rest (and_second (x == 46) (starts_digit xs) both) in
           rw (other, dot, next) (ap (λ (l : List ℕ). x ∷ l) more)
     ]
 
@@ -52,14 +53,14 @@ release_behind-append : (xs rest : List ℕ) → is_dotted xs ≡ true → start
 release_behind-append [] [] d s t = refl
 release_behind-append [] (b ∷ rest) d s t = rw (s, t) refl
 release_behind-append (x ∷ xs) rest d s t =
-    let more = release_behind-append xs rest (and-second (is_ascii_digit x || ((x == 46) && starts_digit xs)) (is_dotted xs) d) s t in
-    let one = and-first (is_ascii_digit x || ((x == 46) && starts_digit xs)) (is_dotted xs) d in
+    let more = release_behind-append xs rest (and_second (is_ascii_digit x || ((x == 46) && starts_digit xs)) (is_dotted xs) d) s t in
+    let one = and_first (is_ascii_digit x || ((x == 46) && starts_digit xs)) (is_dotted xs) d in
     elim (cases_Bool (is_ascii_digit x)) [
       | inl digit ↦ rw digit more
       | inr other ↦
           let both = or-second (is_ascii_digit x) ((x == 46) && starts_digit xs) other one in
-          let dot = and-first (x == 46) (starts_digit xs) both in
-          let next = starts-append xs rest (and-second (x == 46) (starts_digit xs) both) in
+          let dot = and_first (x == 46) (starts_digit xs) both in
+          let next = starts-append xs rest (and_second (x == 46) (starts_digit xs) both) in
           rw (other, dot, next) more
     ]
 
@@ -72,12 +73,12 @@ first_ok (p ∷ ps) = list_all is_ascii_digit p && list_all is_number ps
 pub numbers-first : (ps : List (List ℕ)) → list_all is_number ps ≡ true → first_ok ps ≡ true
 numbers-first [] h = refl
 numbers-first (p ∷ ps) h =
-    let digits = digits-all p (and-first (is_number p) (list_all is_number ps) h) in
-    rw (digits, and-second (is_number p) (list_all is_number ps) h) refl
+    let digits = digits-all p (and_first (is_number p) (list_all is_number ps) h) in
+    rw (digits, and_second (is_number p) (list_all is_number ps) h) refl
 
 onto-number : (c : ℕ) (ps : List (List ℕ)) → list_all is_number (onto_first c ps) ≡ true → is_ascii_digit c ≡ true
-onto-number c [] h = and-first (is_ascii_digit c) true (and-first (is_number (c ∷ [])) true h)
-onto-number c (p ∷ ps) h = and-first (is_ascii_digit c) (list_all is_ascii_digit p) (and-first (is_number (c ∷ p)) (list_all is_number ps) h)
+onto-number c [] h = and_first (is_ascii_digit c) true (and_first (is_number (c ∷ [])) true h)
+onto-number c (p ∷ ps) h = and_first (is_ascii_digit c) (list_all is_ascii_digit p) (and_first (is_number (c ∷ p)) (list_all is_number ps) h)
 
 numbers-start : (xs : List ℕ) → list_all is_number (dotted_parts xs) ≡ true → starts_digit xs ≡ true
 numbers-start [] h = cc h
@@ -87,14 +88,14 @@ numbers-start (c ∷ rest) h = elim (cases_Bool (c == 46)) [
 ]
 
 onto-digit : (b : ℕ) (ps : List (List ℕ)) → first_ok (onto_first b ps) ≡ true → is_ascii_digit b ≡ true
-onto-digit b [] h = and-first (is_ascii_digit b) true (and-first (is_ascii_digit b && true) true h)
-onto-digit b (p ∷ ps) h = and-first (is_ascii_digit b) (list_all is_ascii_digit p) (and-first (is_ascii_digit b && list_all is_ascii_digit p) (list_all is_number ps) h)
+onto-digit b [] h = and_first (is_ascii_digit b) true (and_first (is_ascii_digit b && true) true h)
+onto-digit b (p ∷ ps) h = and_first (is_ascii_digit b) (list_all is_ascii_digit p) (and_first (is_ascii_digit b && list_all is_ascii_digit p) (list_all is_number ps) h)
 
 onto-rest : (b : ℕ) (ps : List (List ℕ)) → first_ok (onto_first b ps) ≡ true → first_ok ps ≡ true
 onto-rest b [] h = refl
 onto-rest b (p ∷ ps) h =
-    let digits = and-second (is_ascii_digit b) (list_all is_ascii_digit p) (and-first (is_ascii_digit b && list_all is_ascii_digit p) (list_all is_number ps) h) in
-    rw (digits, and-second (is_ascii_digit b && list_all is_ascii_digit p) (list_all is_number ps) h) refl
+    let digits = and_second (is_ascii_digit b) (list_all is_ascii_digit p) (and_first (is_ascii_digit b && list_all is_ascii_digit p) (list_all is_number ps) h) in
+    rw (digits, and_second (is_ascii_digit b && list_all is_ascii_digit p) (list_all is_number ps) h) refl
 
 pub dotted-ok : (xs : List ℕ) → first_ok (dotted_parts xs) ≡ true → is_dotted xs ≡ true
 dotted-ok [] h = refl
@@ -194,12 +195,12 @@ v-read «prefix» text (inr e) s = rw e refl
 bang-behind : (xs rest : List ℕ) → is_dotted xs ≡ true → Head rest → bang (behind (xs ++ rest)) ≡ None
 bang-behind [] rest d h = ap bang (behind-append [] rest refl h.no_digit) ∙ h.no_bang
 bang-behind (x ∷ xs) rest d h =
-    let one = and-first (is_ascii_digit x || ((x == 46) && starts_digit xs)) (is_dotted xs) d in
-    let more = bang-behind xs rest (and-second (is_ascii_digit x || ((x == 46) && starts_digit xs)) (is_dotted xs) d) h in
+    let one = and_first (is_ascii_digit x || ((x == 46) && starts_digit xs)) (is_dotted xs) d in
+    let more = bang-behind xs rest (and_second (is_ascii_digit x || ((x == 46) && starts_digit xs)) (is_dotted xs) d) h in
     elim (cases_Bool (is_ascii_digit x)) [
       | inl digit ↦ rw digit more
       | inr other ↦
-          let dot = and-first (x == 46) (starts_digit xs) (or-second (is_ascii_digit x) ((x == 46) && starts_digit xs) other one) in
+          let dot = and_first (x == 46) (starts_digit xs) (or-second (is_ascii_digit x) ((x == 46) && starts_digit xs) other one) in
           let no : (x == 33) ≡ false = grind arith in
           rw (other, no) refl
     ]

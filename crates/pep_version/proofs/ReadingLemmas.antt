@@ -3,19 +3,19 @@ use Rattle.std.proofs.Common.{◌≡◌, ℕ, true, false, List, Result, Ok, Err
 use Rattle.std.specs.Str.{str_to_ascii_lowercase}
 use Rattle.pep_version.specs.declared.fault.VersionFault.{VersionFault}
 use Rattle.pep_version.specs.declared.fault.VersionFault.TheVariants.{NotAVersion, NumberTooLarge, NoMemory}
-use Rattle.pep_version.specs.declared.cut.Cut.{Cut}
-use Rattle.pep_version.specs.Cut.{IsCut, left_runs, version_of_cut}
+use Rattle.pep_version.specs.declared.slices.Slices.{Slices}
+use Rattle.pep_version.specs.Slices.{AreReadable, left_runs, version_of_slices}
 use Rattle.pep_version.specs.Reading.{passes, read_version}
 use Rattle.pep_version.specs.Segments.{VersionOf}
 use Rattle.pep_version.specs.Spelling.{Reads, SpellsAny, trimmed}
 use Rattle.pep_version.specs.Version.{IsVersion, NumbersFit, Version}
 use Rattle.pep_version.proofs.OneVersion.{one-version, spelled-passes}
-use Rattle.pep_version.specs.SpelledLaws.{runs-segments, some-part}
+use Rattle.pep_version.proofs.SpelledLaws.{runs-segments, some-part}
 use Rattle.pep_version.proofs.Sound.{read-spelled}
 
 -- the slices of a text write a version, where their numbers fit
-pub cut-version : (c : Cut) → IsCut c → NumbersFit (version_of_cut c) → IsVersion (version_of_cut c)
-cut-version c is fits = record { release = some-part c.release.now; label = runs-segments (left_runs c.label) is.label; numbers = fits }
+pub slices-version : (c : Slices) → AreReadable c → NumbersFit (version_of_slices c) → IsVersion (version_of_slices c)
+slices-version c is fits = record { release = some-part c.release.now; label = runs-segments (left_runs c.label) is.label; numbers = fits }
 
 -- ---- the answer for the text
 

@@ -8,9 +8,10 @@ use Rattle.std.specs.Str.{str_to_ascii_lowercase}
 use Rattle.std.specs.Str.Parse.{digits_value}
 use Rattle.pep_version.specs.declared.parts.Phase.{Phase}
 use Rattle.pep_version.specs.Reading.{bang, behind, behind_epoch, behind_phase, behind_word, epoch_taken, front, is_label_text, number_behind, or_else, passes, phase_or, pre_taken, read_dev, read_epoch, read_label, read_label_text, read_post, read_pre, read_version, read_word_and_number, release_behind, release_front, starts_digit, stripped, table, taken, without_separator, without_v}
-use Rattle.pep_version.specs.Spelling.{DevSpelling, EpochSpelling, IsOneOf, IsOptionalSeparator, LabelSpelling, OptionalNumberSpelling, PostSpelling, PreSpelling, PrecedingVSpelling, SpellsAny, WordAndNumber, dev_words, dotted_parts, ends_in_letter, is_number, is_run, is_separator, post_words, pre_words, separated_parts, trimmed}
+use Rattle.pep_version.specs.Spelling.{DevSpelling, EpochSpelling, IsOneOf, IsOptionalSeparator, LabelSpelling, OptionalNumberSpelling, PostSpelling, PreSpelling, PrecedingVSpelling, SpellsAny, WordAndNumber, dev_words, dotted_parts, ends_in_letter, is_number, is_run, post_words, pre_words, separated_parts, trimmed}
+use Rattle.pep_version.specs.Bytes.{is_separator}
 use Rattle.pep_version.proofs.OneVersion.{first_ok, numbers-first}
-use Rattle.pep_version.specs.Conjunction.{and-first, and-second}
+use Rattle.pep_version.proofs.Connectives.{and_first, and_second}
 use Rattle.pep_version.proofs.Tails.{whole-of}
 
 -- ---- digits and separators
@@ -152,8 +153,8 @@ post-spelled : (pre t : List ℕ) → (starts_dash t ≡ true → ends_in_letter
 post-spelled pre [] kept = record { piece = []; piece_is = refl; whole = refl }
 post-spelled pre (b ∷ rest) kept = elim (cases_Bool ((b == 45) && starts_digit rest)) [
   | inl implicit ↦
-      let dash = and-first (b == 45) (starts_digit rest) implicit in
-      let starts = and-second (b == 45) (starts_digit rest) implicit in
+      let dash = and_first (b == 45) (starts_digit rest) implicit in
+      let starts = and_second (b == 45) (starts_digit rest) implicit in
       let same = same-byte b 45 dash in
       rw implicit (record {
         piece = 45 ∷ front rest;
@@ -178,12 +179,12 @@ ends-behind (x ∷ z ∷ xs) y ys = ends-behind (z ∷ xs) y ys
 
 no-letters : (xs : List ℕ) → list_all (λ b. not (is_ascii_alphabetic b)) xs ≡ true → ends_in_letter xs ≡ false
 no-letters [] h = refl
-no-letters (x ∷ []) h = flip (is_ascii_alphabetic x) (and-first (not (is_ascii_alphabetic x)) true h)
+no-letters (x ∷ []) h = flip (is_ascii_alphabetic x) (and_first (not (is_ascii_alphabetic x)) true h)
   where
     flip : (a : Bool) → not a ≡ true → a ≡ false
     flip true e = cc e
     flip false e = refl
-no-letters (x ∷ y ∷ xs) h = no-letters (y ∷ xs) (and-second (not (is_ascii_alphabetic x)) (list_all (λ b. not (is_ascii_alphabetic b)) (y ∷ xs)) h)
+no-letters (x ∷ y ∷ xs) h = no-letters (y ∷ xs) (and_second (not (is_ascii_alphabetic x)) (list_all (λ b. not (is_ascii_alphabetic b)) (y ∷ xs)) h)
 
 digit-no-letter : (b : ℕ) → is_ascii_digit b ≡ true → not (is_ascii_alphabetic b) ≡ true
 digit-no-letter b h = grind arith
@@ -193,7 +194,7 @@ separator-no-letter b h = grind arith
 
 digits-no-letter : (ds : List ℕ) → list_all is_ascii_digit ds ≡ true → list_all (λ b. not (is_ascii_alphabetic b)) (ds ++ []) ≡ true
 digits-no-letter [] h = refl
-digits-no-letter (d ∷ ds) h = rw (digit-no-letter d (and-first (is_ascii_digit d) (list_all is_ascii_digit ds) h), digits-no-letter ds (and-second (is_ascii_digit d) (list_all is_ascii_digit ds) h)) refl
+digits-no-letter (d ∷ ds) h = rw (digit-no-letter d (and_first (is_ascii_digit d) (list_all is_ascii_digit ds) h), digits-no-letter ds (and_second (is_ascii_digit d) (list_all is_ascii_digit ds) h)) refl
 
 dash-separates : (b : ℕ) → (b == 45) ≡ true → is_separator b ≡ true
 dash-separates b h = rw h refl
@@ -268,7 +269,7 @@ no-dot b h = grind arith
 
 onto-ok : (b : ℕ) (ps : List (List ℕ)) → is_ascii_digit b ≡ true → first_ok ps ≡ true → list_all is_number (onto_first b ps) ≡ true
 onto-ok b [] d h = rw d refl
-onto-ok b (p ∷ ps) d h = rw (d, and-first (list_all is_ascii_digit p) (list_all is_number ps) h, and-second (list_all is_ascii_digit p) (list_all is_number ps) h) refl
+onto-ok b (p ∷ ps) d h = rw (d, and_first (list_all is_ascii_digit p) (list_all is_number ps) h, and_second (list_all is_ascii_digit p) (list_all is_number ps) h) refl
 
 -- all parts are numbers, but that the first may be empty where the text does not begin with a digit
 release-both : (t : List ℕ) → (first_ok (dotted_parts (release_front t)) ≡ true) × (starts_digit t ≡ true → list_all is_number (dotted_parts (release_front t)) ≡ true)
@@ -280,8 +281,8 @@ release-both (b ∷ rest) = elim (cases_Bool (is_ascii_digit b)) [
       (rw digit (numbers-first (dotted_parts (b ∷ release_front rest)) all), λ _. rw digit all)
   | inr other ↦ elim (cases_Bool ((b == 46) && starts_digit rest)) [
     | inl dot ↦
-        let numbers = (release-both rest).1 (and-second (b == 46) (starts_digit rest) dot) in
-        (rw (other, dot, and-first (b == 46) (starts_digit rest) dot) numbers, λ s. cc (s, other))
+        let numbers = (release-both rest).1 (and_second (b == 46) (starts_digit rest) dot) in
+        (rw (other, dot, and_first (b == 46) (starts_digit rest) dot) numbers, λ s. cc (s, other))
     | inr none ↦ (rw (other, none) refl, λ s. cc (s, other))
   ]
 ]
@@ -330,14 +331,14 @@ v-spelled (b ∷ rest) = elim (cases_Bool (b == 118)) [
 
 label-spelled : (t : List ℕ) → is_label_text t ≡ true → LabelSpelling t (read_label t)
 label-spelled [] h = refl
-label-spelled (b ∷ t) h = (same-byte b 43 (and-first (b == 43) (list_all is_run (separated_parts t)) h), and-second (b == 43) (list_all is_run (separated_parts t)) h, refl)
+label-spelled (b ∷ t) h = (same-byte b 43 (and_first (b == 43) (list_all is_run (separated_parts t)) h), and_second (b == 43) (list_all is_run (separated_parts t)) h, refl)
 
 pub spelled-as : (text t : List ℕ) → str_to_ascii_lowercase (trimmed text) ≡ t → passes t ≡ true → SpellsAny text (read_version t)
 spelled-as text t is h =
-    let both = and-first (starts_digit (without_v t) && starts_digit (behind_epoch t)) (is_label_text (read_label_text t)) h in
-    let left = and-second (starts_digit (without_v t) && starts_digit (behind_epoch t)) (is_label_text (read_label_text t)) h in
-    let starts = and-first (starts_digit (without_v t)) (starts_digit (behind_epoch t)) both in
-    let starts_release = and-second (starts_digit (without_v t)) (starts_digit (behind_epoch t)) both in
+    let both = and_first (starts_digit (without_v t) && starts_digit (behind_epoch t)) (is_label_text (read_label_text t)) h in
+    let left = and_second (starts_digit (without_v t) && starts_digit (behind_epoch t)) (is_label_text (read_label_text t)) h in
+    let starts = and_first (starts_digit (without_v t)) (starts_digit (behind_epoch t)) both in
+    let starts_release = and_second (starts_digit (without_v t)) (starts_digit (behind_epoch t)) both in
     let v = v-spelled t in
     let epoch = epoch-spelled (without_v t) starts in
     let release = behind_epoch t in

@@ -1,17 +1,10 @@
 -- The numbers of a release as they are read, part by part.
-use Rattle.std.specs.Prelude.{◌≡◌, ℕ, List, [], Option, Some, None, Result, Ok, Err, Vec, ⊤}
-use Rattle.std.specs.Borrow.{Bor}
+use Rattle.std.specs.Prelude.{◌≡◌, ℕ, List, Result, Ok, Err, Vec, ⊤}
 use Rattle.std.specs.List.{AllByRecursion}
 use Rattle.std.specs.declared.alloc.Global.{Global}
 use Rattle.pep_version.specs.declared.fault.VersionFault.{VersionFault}
 use Rattle.pep_version.specs.declared.fault.VersionFault.TheVariants.{NotAVersion, NumberTooLarge, NoMemory}
-use Rattle.pep_version.specs.Spelling.{dotted_parts}
 use Rattle.pep_version.specs.Version.{Fits}
-
--- the parts of the text that is left, if any
-abbrev pub left_parts : Option (Bor (List ℕ)) → List (List ℕ)
-left_parts None = []
-left_parts (Some rest) = dotted_parts rest.now
 
 -- the answer is these numbers; or one of them is too large
 abbrev pub NumbersOf : List ℕ → Result (Vec ℕ Global) VersionFault → Type 0

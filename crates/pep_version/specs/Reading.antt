@@ -6,7 +6,8 @@ use Rattle.std.specs.List.{list_all}
 use Rattle.std.specs.Str.Parse.{digits_value}
 use Rattle.pep_version.specs.declared.parts.Phase.{Phase}
 use Rattle.pep_version.specs.declared.parts.Phase.TheVariants.{Alpha, Beta, Rc}
-use Rattle.pep_version.specs.Spelling.{dev_words, dotted_parts, is_run, is_separator, post_words, segment_of_run, separated_parts}
+use Rattle.pep_version.specs.Spelling.{dev_words, dotted_parts, is_run, post_words, segment_of_run, separated_parts}
+use Rattle.pep_version.specs.Bytes.{is_separator}
 use Rattle.pep_version.specs.Version.{Segment, Version}
 
 -- ---- digits and separators

@@ -1,4 +1,4 @@
--- What reading the numbers and words of a text that was cut answers.
+-- What reading the numbers and words of a text that was sliced answers.
 use Rattle.std.specs.Prelude.{◌≡◌, ℕ, List, Option, Result, Ok, Err, Vec, map, ⊤}
 use Rattle.std.specs.List.{AllByRecursion}
 use Rattle.std.specs.Option.{IfSome}

@@ -2,7 +2,6 @@
 -- version strings with regular expressions"). A text is a list of bytes.
 use Rattle.std.specs.Prelude.{◌≡◌, ℕ, ◌==◌, ◌&&◌, ◌||◌, ◌⊎◌, Bool, false, not, List, [], ◌∷◌, ◌++◌, Option, Some, None, Result, Ok, Err, IsTrue, codes, if◌then◌else◌, map, ⊤}
 use Rattle.std.specs.Char.{is_ascii_alphabetic, is_ascii_digit}
-use Rattle.std.specs.Int.{is_in_range}
 use Rattle.std.specs.List.{concat, list_all, slice_split}
 use Rattle.std.specs.Str.{str_to_ascii_lowercase}
 use Rattle.std.specs.Str.Parse.{digits_value}
@@ -10,11 +9,8 @@ use Rattle.pep_version.specs.declared.parts.Phase.{Phase}
 use Rattle.pep_version.specs.declared.parts.Phase.TheVariants.{Alpha, Beta, Rc}
 use Rattle.pep_version.specs.declared.fault.VersionFault.{VersionFault}
 use Rattle.pep_version.specs.declared.fault.VersionFault.TheVariants.{NotAVersion, NumberTooLarge, NoMemory}
+use Rattle.pep_version.specs.Bytes.{is_separator, is_white_space}
 use Rattle.pep_version.specs.Version.{NumbersFit, Segment, number, Version, is_empty, is_word_byte, word}
-
--- space, tab, line feed, vertical tab, form feed, carriage return ("Leading and Trailing Whitespace")
-abbrev pub is_white_space : ℕ → Bool
-is_white_space b = b == 32 || is_in_range 9 13 b
 
 -- a text without the white space at its front, at its end, and at both
 abbrev pub without_leading_space : List ℕ → List ℕ
@@ -28,10 +24,6 @@ without_trailing_space (b ∷ rest) =
 
 abbrev pub trimmed : List ℕ → List ℕ
 trimmed text = without_trailing_space (without_leading_space text)
-
--- `-`, `_` or `.` ("Pre-release separators" and its kin)
-abbrev pub is_separator : ℕ → Bool
-is_separator b = b == 45 || b == 95 || b == 46
 
 -- nothing, or one separator
 abbrev pub IsOptionalSeparator : List ℕ → Type 0
@@ -148,7 +140,7 @@ LabelSpelling (b ∷ text) label = (b ≡ 43) × IsTrue (list_all is_run (separa
 
 -- The text, white space at both ends dropped ("Leading and Trailing Whitespace") and in lower case ("Case
 -- sensitivity"), is the pieces in this order, and they have the values of the version's parts, however large
--- its numbers are. Where a text can be cut into pieces in two ways, as `1.0a-post1`, both give one version.
+-- its numbers are. Where a text can be split into pieces in two ways, as `1.0a-post1`, both give one version.
 pub record SpellsAny (text : List ℕ) (v : Version) : Type 0 where
   pub preceding_v : List ℕ
   pub epoch : List ℕ

@@ -24,15 +24,18 @@ abbrev pub pre_text : Option (Phase × ℕ) → List ℕ
 pre_text None = []
 pre_text (Some p) = phase_text p.0 ++ decimal p.1
 
+-- a word and the number behind it, if there is one
+abbrev pub part_text : List ℕ → Option ℕ → List ℕ
+part_text letters None = []
+part_text letters (Some n) = letters ++ decimal n
+
 -- the post-release part ("Post-releases")
 abbrev pub post_text : Option ℕ → List ℕ
-post_text None = []
-post_text (Some n) = codes ".post" ++ decimal n
+post_text post = part_text (codes ".post") post
 
 -- the developmental release part ("Developmental releases")
 abbrev pub dev_text : Option ℕ → List ℕ
-dev_text None = []
-dev_text (Some n) = codes ".dev" ++ decimal n
+dev_text dev = part_text (codes ".dev") dev
 
 abbrev pub segment_text : Segment → List ℕ
 segment_text (number n) = decimal n

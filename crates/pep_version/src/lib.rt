@@ -1,7 +1,7 @@
 //! Python versions by PEP 440: reading, the normal text, and the order.
 #![tactic(auto)]
 
-mod cut;
+mod bytes;
 mod fault;
 mod key;
 pub mod laws;
@@ -9,14 +9,18 @@ mod number;
 mod parts;
 mod release;
 mod segments;
+mod slices;
 mod space;
+mod split;
+mod text;
 mod version;
-mod writing;
 
+pub use crate::bytes::is_separator;
 pub use crate::fault::VersionFault;
 pub use crate::key::Key;
 pub use crate::parts::{Label, Phase};
 pub use crate::space::{trimmed, without_trailing_space};
+pub use crate::split::first_part;
 pub use crate::version::Version;
 
 #[cfg(test)]

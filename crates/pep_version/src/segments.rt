@@ -1,14 +1,15 @@
-// The numbers and words of a text that was cut.
+// The numbers and words of a text that was sliced.
 
 ghost use Rattle.std.specs.Prelude.{◌≡◌, ◌∷◌, ◌<◌, ◌++◌, codes, length, map, string_bytes, IfErr, IfOk, IfSome, IsTrue, MatchResult};
 ghost use Rattle.std.specs.Char.{is_ascii_digit};
 ghost use Rattle.std.specs.List.{list_all};
 ghost use Rattle.std.specs.Str.Parse.{digits_value};
-ghost use Rattle.pep_version.specs.Cut.{IsDigits, label_of, left_runs, lower, optional_of, pre_of, value_of};
+ghost use Rattle.pep_version.specs.Bytes.{is_separator};
+ghost use Rattle.pep_version.specs.Slices.{IsDigits, label_of, left_runs, lower, optional_of, pre_of, value_of};
 ghost use Rattle.pep_version.specs.Segments.{NumberOf, OptionalOf, PreOf, SegmentOf, SegmentsOf};
-ghost use Rattle.pep_version.specs.Spelling.{is_run, is_separator, segment_of_run, separated_parts};
+ghost use Rattle.pep_version.specs.Spelling.{is_run, segment_of_run, separated_parts};
 
-use crate::cut::is_separator;
+use crate::bytes::is_separator;
 use crate::fault::VersionFault;
 use crate::number::{all_digits, number};
 use crate::parts::{Label, Phase};

@@ -1,13 +1,9 @@
 // White space at the ends of a text.
 
 ghost use Rattle.std.specs.Prelude.{◌≡◌};
-ghost use Rattle.pep_version.specs.Spelling.{is_white_space, trimmed, without_leading_space, without_trailing_space};
+ghost use Rattle.pep_version.specs.Spelling.{trimmed, without_leading_space, without_trailing_space};
 
-fn is_white_space(b: u8) -> bool
-    ensures { result ≡ is_white_space b }
-{
-    matches!(b, b' ' | b'\t'..=b'\r')
-}
+use crate::bytes::is_white_space;
 
 fn without_leading_space(text: &str) -> &str
     ensures { result.now ≡ without_leading_space text.now }

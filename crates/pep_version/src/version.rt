@@ -3,20 +3,20 @@
 ghost use Rattle.std.specs.Prelude.{◌≡◌, ◌↔◌, map, refl, string_bytes, IfErr, IfOk, IfSome, IsSome, IsTrue};
 ghost use Rattle.std.specs.Char.{is_ascii_lowercase};
 ghost use Rattle.std.specs.List.{All, list_all, list_any};
-ghost use Rattle.pep_version.specs.Cut.{IsCut, version_of_cut};
+ghost use Rattle.pep_version.specs.Slices.{AreReadable, version_of_slices};
 ghost use Rattle.pep_version.specs.Segments.{VersionOf};
 ghost use Rattle.pep_version.specs.Spelling.{Reads};
 ghost use Rattle.pep_version.specs.Text.{normal_text};
 ghost use Rattle.pep_version.specs.Version.{IsSegment, IsVersion, SegmentFits, is_pre_release, is_word, is_word_byte};
 ghost use Rattle.pep_version.specs.View.{segment_of, version_of};
 
-use crate::cut::{Cut, cut_version};
 use crate::fault::VersionFault;
 use crate::parts::{Label, Phase};
 use crate::release::release_numbers;
 use crate::segments::{optional_number, pre_number, read_segments, written_number};
+use crate::slices::{Slices, slices_of};
 use crate::space::trimmed;
-use crate::writing::{push_dev, push_epoch, push_label, push_post, push_pre, push_release};
+use crate::text::{push_epoch, push_label, push_part, push_pre, push_release};
 use std::alloc::Global;
 use std::marker::Model;
 
@@ -126,23 +126,23 @@ impl Version {
     pub fn read(alloc: Global, text: &str) -> Result<Version, VersionFault>
         ensures { Reads text.now result }
     {
-        let Some(cut) = cut_version(trimmed(text).as_bytes()) else {
+        let Some(slices) = slices_of(trimmed(text).as_bytes()) else {
             return Err(VersionFault::NotAVersion);
         };
-        Version::of_cut(alloc, cut)
+        Version::of_slices(alloc, slices)
     }
 
     // The version that the slices write.
-    fn of_cut(alloc: Global, cut: Cut<'_>) -> Result<Version, VersionFault>
-        requires { IsCut cut }
-        ensures { VersionOf (version_of_cut cut.entry) result }
+    fn of_slices(alloc: Global, slices: Slices<'_>) -> Result<Version, VersionFault>
+        requires { AreReadable slices }
+        ensures { VersionOf (version_of_slices slices.entry) result }
     {
-        let epoch = written_number(cut.epoch)?;
-        let release = release_numbers(alloc, cut.release)?;
-        let pre = pre_number(cut.pre)?;
-        let post = optional_number(cut.post)?;
-        let dev = optional_number(cut.dev)?;
-        let label = read_segments(alloc, cut.label)?;
+        let epoch = written_number(slices.epoch)?;
+        let release = release_numbers(alloc, slices.release)?;
+        let pre = pre_number(slices.pre)?;
+        let post = optional_number(slices.post)?;
+        let dev = optional_number(slices.dev)?;
+        let label = read_segments(alloc, slices.label)?;
         Ok(Version {
             epoch,
             release,
@@ -262,8 +262,8 @@ impl Version {
         push_epoch(&mut text, self.epoch)?;
         push_release(&mut text, self.release.as_slice())?;
         push_pre(&mut text, self.pre)?;
-        push_post(&mut text, self.post)?;
-        push_dev(&mut text, self.dev)?;
+        push_part(&mut text, ".post", self.post)?;
+        push_part(&mut text, ".dev", self.dev)?;
         push_label(&mut text, self.label.as_slice())?;
         Ok(text)
     }

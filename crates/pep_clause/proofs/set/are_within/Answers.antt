@@ -1,5 +1,5 @@
 use Rattle.std.proofs.Common.{◌∙◌}
-use Rattle.pep_clause.proofs.MeetingPoints.{one_other}
+use Rattle.pep_clause.proofs.JoinedPoints.{one_other}
 use Rattle.pep_clause.proofs.set.are_within.Goals as goal
 
 pub returns-in-len1 : goal.returns-in-len1

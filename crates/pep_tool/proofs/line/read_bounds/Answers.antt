@@ -1,5 +1,5 @@
 use Rattle.std.proofs.Common.{◌≡◌, List, ℕ, Option, None, Bor, ap, subst, ◌∙◌}
-use Rattle.pep_tool.specs.Sets.{left_parts}
+use Rattle.pep_version.specs.Split.{left_parts}
 use Rattle.pep_tool.proofs.BoundsLemmas.{BoundsSoFar, bounds_all, bounds_more}
 use Rattle.pep_tool.proofs.line.read_bounds.Goals as goal
 

@@ -1,4 +1,4 @@
-use Rattle.pep_tool.specs.Sets.{left_parts}
+use Rattle.pep_version.specs.Split.{left_parts}
 use Rattle.pep_tool.proofs.BoundsLemmas.{BoundsSoFar}
 use Rattle.pep_tool.proofs.ListLemmas.{left_len}
 use Rattle.pep_tool.proofs.line.read_bounds.Given as goal

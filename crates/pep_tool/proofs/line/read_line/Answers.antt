@@ -2,13 +2,13 @@ use Rattle.std.proofs.Common.{◌≡◌, ◌==◌, ◌≤◌, length, false, dro
 use Rattle.std.proofs.lemmas.Result.{err_from_is_err_and}
 use Rattle.std.proofs.lemmas.List.Folds.{length-prefix_len}
 use Rattle.std.specs.List.{prefix_len}
-use Rattle.pep_marker.specs.Marker.{begins}
 use Rattle.pep_marker.specs.Name.{is_name_byte, name_of}
-use Rattle.pep_require.specs.Faults.{name_run, without_leading_blanks}
+use Rattle.pep_marker.specs.Runs.{begins, without_leading_blanks}
+use Rattle.pep_require.specs.Faults.{name_run}
 use Rattle.pep_require.specs.Reads.{line_limit}
 use Rattle.pep_tool.specs.Line.{ReadsBounds, behind_name}
 use Rattle.pep_tool.proofs.LineLemmas.{beginning_passes, begins-starts_with, line_read, refuses_behind}
-use Rattle.pep_tool.proofs.RunLemmas.{all-run}
+use Rattle.pep_marker.proofs.RunLemmas.{all-run}
 use Rattle.pep_tool.proofs.line.read_line.Goals as goal
 
 pub read_name-requires : goal.read_name-requires

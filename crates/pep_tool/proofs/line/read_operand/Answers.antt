@@ -3,7 +3,7 @@ use Rattle.std.proofs.lemmas.Result.{err_from_is_err_and}
 use Rattle.pep_clause.specs.Clause.{ClauseOf, is_clause_byte}
 use Rattle.pep_tool.specs.Line.{clause_run}
 use Rattle.pep_tool.proofs.LineLemmas.{behind_run, nothing_left, operand_fault, operand_trailing, something_left}
-use Rattle.pep_tool.proofs.RunLemmas.{all-run}
+use Rattle.pep_marker.proofs.RunLemmas.{all-run}
 use Rattle.pep_tool.proofs.line.read_operand.Goals as goal
 
 pub read_clause-requires : goal.read_clause-requires

@@ -5,6 +5,7 @@ use Rattle.pep_tool.specs.Line.{ReadsLine, RefusesLine, plain_requirement}
 use Rattle.pep_tool.specs.Lists.{content, is_skipped}
 use Rattle.pep_tool.specs.Sets.{with_name}
 use Rattle.pep_tool.proofs.ListLemmas.{content_refuses}
+use Rattle.pep_tool.proofs.LineLemmas.{line_name_normal}
 use Rattle.pep_tool.proofs.list.merge_line.Goals as goal
 use Rattle.pep_tool.proofs.list.merge_line.Goals.{in-Err-gather, in-Ok-gather}
 
@@ -28,7 +29,7 @@ returns-clause-ok c =
         with_name c.in-Ok.line.name cs,
         record { short = short; text = text; requirement = λ _. (plain_requirement c.in-Ok.line.name cs, reads) },
         inr (seen, ((c.in-Ok.line.name, cs), reads, plain.0, refl)),
-        w.in-Ok-gather.ensures.ok cs plain holds,
+        w.in-Ok-gather.ensures.ok cs (line_name_normal _ c.in-Ok.line.name cs reads) plain holds,
       )
       | in-Err-gather w ↦ rw w.result-is tt
     ]

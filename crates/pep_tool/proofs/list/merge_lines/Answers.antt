@@ -1,6 +1,6 @@
 use Rattle.std.proofs.Common.{◌≡◌, ◌+◌, ◌≤◌, ◌⊎◌, ◌∙◌, inl, inr, List, ℕ, suc, true, length, Option, None, Bor, ap, subst, rules}
 use Rattle.std.specs.Prelude.{IsSome}
-use Rattle.pep_tool.specs.Sets.{left_parts}
+use Rattle.pep_version.specs.Split.{left_parts}
 use Rattle.pep_tool.proofs.ListLemmas.{SoFar, cut_of_read, left_len, left_less}
 use Rattle.pep_tool.proofs.ListLemmas.{line_of_read, line_refuses, so_far_all, so_far_more}
 use Rattle.pep_tool.proofs.list.merge_lines.Goals as goal

@@ -1,6 +1,6 @@
 use Rattle.std.proofs.Common.{◌≡◌, ◌+◌, ◌≤◌, ◌⊎◌, true, length}
 use Rattle.std.specs.Prelude.{IsSome}
-use Rattle.pep_tool.specs.Sets.{left_parts}
+use Rattle.pep_version.specs.Split.{left_parts}
 use Rattle.pep_tool.proofs.ListLemmas.{SoFar, left_len}
 use Rattle.pep_tool.proofs.list.merge_lines.Given as goal
 

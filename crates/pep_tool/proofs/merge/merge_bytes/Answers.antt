@@ -1,7 +1,7 @@
 use Rattle.std.proofs.Common.{string_bytes, Result, Ok, Err, IfOk, String}
 use Rattle.std.specs.Prelude.{OnOk}
 use Rattle.std.specs.BTreeMap.{IsOrdered}
-use Rattle.pep_tool.specs.NameKey.{name_cmp}
+use Rattle.pep_marker.specs.Name.{name_cmp}
 use Rattle.std.specs.declared.alloc.Global.{Global}
 use Rattle.std.proofs.Common.{List}
 use Rattle.pep_table.specs.TableText.{IsTableText}

@@ -2,7 +2,7 @@ use Rattle.std.proofs.Common.{◌≡◌, ◌++◌, map, true, length, Option, So
 use Rattle.std.specs.List.{AllByRecursion, list_all}
 use Rattle.std.specs.Str.Parse.{digits_value}
 use Rattle.pep_version.specs.Spelling.{dotted_parts, is_number}
-use Rattle.pep_version.specs.Numbers.{left_parts}
+use Rattle.pep_version.specs.Split.{left_parts}
 use Rattle.pep_version.specs.Version.{Fits}
 use Rattle.pep_version.proofs.release.release_numbers.Given as goal
 
@@ -12,8 +12,8 @@ left_len (Some rest) = suc (length rest.now)
 
 abbrev pub invariant-loop-rest : goal.invariant-loop-rest
 invariant-loop-rest l =
-    (l.numbers.items ++ map (digits_value 10) (left_parts l.rest) ≡ map (digits_value 10) (dotted_parts l.fn.text))
-    × (list_all is_number (left_parts l.rest) ≡ true) × AllByRecursion Fits l.numbers.items
+    (l.numbers.items ++ map (digits_value 10) (left_parts 46 l.rest) ≡ map (digits_value 10) (dotted_parts l.fn.text))
+    × (list_all is_number (left_parts 46 l.rest) ≡ true) × AllByRecursion Fits l.numbers.items
 
 abbrev pub decreases-loop-rest : goal.decreases-loop-rest
 decreases-loop-rest l = left_len l.rest

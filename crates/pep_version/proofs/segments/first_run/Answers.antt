@@ -1,9 +1,10 @@
 use Rattle.std.proofs.Common.{◌≡◌, ◌∙◌, ◌-◌, ◌+◌, ◌∷◌, ◌≤◌, ap, arith, drop, false, get_or, length, length-drop, sym, take}
 use Rattle.std.proofs.lemmas.List.{take_all}
 use Rattle.std.proofs.lemmas.List.Elements.{All-more}
-use Rattle.pep_version.specs.Cut.{lower}
-use Rattle.pep_version.specs.Spelling.{is_separator, separated_parts}
-use Rattle.pep_version.proofs.CutLemmas.{run-at, run-whole}
+use Rattle.pep_version.specs.Slices.{lower}
+use Rattle.pep_version.specs.Spelling.{separated_parts}
+use Rattle.pep_version.specs.Bytes.{is_separator}
+use Rattle.pep_version.proofs.SliceLemmas.{run-at, run-whole}
 use Rattle.pep_version.proofs.segments.first_run.Goals as goal
 
 pub returns-then-is_separator-clause-runs : goal.returns-then-is_separator-clause-runs

@@ -1,6 +1,6 @@
 use Rattle.std.proofs.Common.{◌≡◌, ◌<◌, ◌∙◌, ◌++◌, ◌∷◌, [], ap, get_or, subst, sym}
 use Rattle.std.specs.Char.{encode_utf8, to_ascii_lowercase}
-use Rattle.pep_version.proofs.CutLemmas.{lower-more, run-ascii}
+use Rattle.pep_version.proofs.SliceLemmas.{lower-more, run-ascii}
 use Rattle.pep_version.proofs.segments.lower_text.Goals as goal
 
 pub loop-b-preserved : goal.loop-b-preserved

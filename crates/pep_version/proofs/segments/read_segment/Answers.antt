@@ -2,13 +2,13 @@ use Rattle.std.proofs.Common.{◌≡◌, ◌∙◌, ap, false, subst, sym, true}
 use Rattle.std.specs.Char.{is_ascii_digit}
 use Rattle.std.specs.List.{list_all}
 use Rattle.std.proofs.lemmas.Result.{err_from_is_err_and}
-use Rattle.pep_version.specs.Cut.{lower}
+use Rattle.pep_version.specs.Slices.{lower}
 use Rattle.pep_version.specs.Spelling.{segment_of_run}
 use Rattle.pep_version.specs.Version.{Fits, SegmentFits, number, word}
 use Rattle.pep_version.specs.View.{segment_of}
 use Rattle.std.specs.Str.Parse.{digits_value}
 use Rattle.pep_version.proofs.Answering.{handed}
-use Rattle.pep_version.proofs.CutLemmas.{run-of-digits, run-of-letters}
+use Rattle.pep_version.proofs.SliceLemmas.{run-of-digits, run-of-letters}
 use Rattle.pep_version.proofs.segments.read_segment.Goals as goal
 
 pub returns-in_err-written_number : goal.returns-in_err-written_number

@@ -1,13 +1,13 @@
 use Rattle.std.proofs.Common.{Global, Vec, ◌≡◌, map}
 use Rattle.std.proofs.lemmas.Result.{err_from_is_err_and}
 use Rattle.std.specs.List.{AllByRecursion}
-use Rattle.pep_version.specs.Cut.{label_of, lower}
+use Rattle.pep_version.specs.Slices.{label_of, lower}
 use Rattle.pep_version.specs.Spelling.{segment_of_run}
 use Rattle.pep_version.specs.declared.parts.Label.{Label}
 use Rattle.pep_version.specs.Version.{SegmentFits}
 use Rattle.pep_version.specs.View.{segment_of}
 use Rattle.pep_version.proofs.Answering.{handed}
-use Rattle.pep_version.proofs.CutLemmas.{segment-fits}
+use Rattle.pep_version.proofs.SliceLemmas.{segment-fits}
 use Rattle.pep_version.proofs.segments.read_segments.Goals as goal
 
 pub returns-in_err-read_segment : goal.returns-in_err-read_segment

@@ -1,12 +1,12 @@
 use Rattle.std.proofs.Common.{◌≡◌, ◌∙◌, sym}
-use Rattle.pep_version.proofs.NumberLemmas.{trailing-cut, trailing-stop}
+use Rattle.pep_version.proofs.NumberLemmas.{trailing-shorter, trailing-stop}
 use Rattle.pep_version.specs.Spelling.{without_trailing_space}
 use Rattle.pep_version.proofs.space.without_trailing_space.Goals as goal
 
 pub loop-last-preserved : goal.loop-last-preserved
 loop-last-preserved c = (
   c.range-rest.utf8,
-  trailing-cut c.loop-last.rest.now c.as_bytes.result.now c.range-rest.result.now c.as_bytes.ensures.value c.in-len1-up.len_at_least
+  trailing-shorter c.loop-last.rest.now c.as_bytes.result.now c.range-rest.result.now c.as_bytes.ensures.value c.in-len1-up.len_at_least
       (sym c.is_white_space.ensures ∙ c.if-not-is_white_space.false) c.range-rest.ensures.value ∙ c.loop-last.invariant.1,
 )
 

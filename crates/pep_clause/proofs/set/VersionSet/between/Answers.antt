@@ -1,6 +1,6 @@
 use Rattle.std.proofs.Common.{◌≡◌, rules}
 use Rattle.pep_clause.specs.OperatorTable.{range}
-use Rattle.pep_clause.proofs.NormalMeeting.{IsNormal-range}
+use Rattle.pep_clause.proofs.NormalJoined.{IsNormal-range}
 use Rattle.pep_clause.proofs.set.VersionSet.between.Goals as goal
 
 pub invariant_of-result : goal.invariant_of-result

@@ -1,0 +1,37 @@
+-- THE CODE'S WAY, and no definition of what two sets have in common: each range of the one list with each of the
+-- other.
+use Rattle.std.specs.Prelude.{◌&&◌, Bool, false, List, [], ◌∷◌, ◌++◌}
+use Rattle.std.specs.List.{list_all}
+use Rattle.std.specs.Ordering.{is_ge}
+use Rattle.pep_clause.specs.Between.{earlier, later}
+use Rattle.pep_clause.specs.Cut.{cut_cmp}
+use Rattle.pep_clause.specs.OperatorTable.{range}
+use Rattle.pep_clause.specs.VersionSet.{Range}
+
+-- what two ranges have in common: one range or none
+abbrev pub range_joined : Range → Range → List Range
+range_joined r s = range (later cut_cmp r.low s.low) (earlier cut_cmp r.high s.high)
+
+-- what a range has in common with each of a list
+abbrev pub row_joined : Range → List Range → List Range
+row_joined r [] = []
+row_joined r (s ∷ rest) = range_joined r s ++ row_joined r rest
+
+-- what two lists have in common
+abbrev pub joined : List Range → List Range → List Range
+joined [] others = []
+joined (r ∷ rest) others = row_joined r others ++ joined rest others
+
+-- the range begins and ends inside the other
+abbrev pub is_within : Range → Range → Bool
+is_within r s = is_ge (cut_cmp r.low s.low) && is_ge (cut_cmp s.high r.high)
+
+-- all the ranges lie in the other
+abbrev pub all_within : List Range → Range → Bool
+all_within ranges s = list_all (λ r. is_within r s) ranges
+
+-- all the ranges lie in the one range of the others
+abbrev pub are_within : List Range → List Range → Bool
+are_within ranges [] = false
+are_within ranges (s ∷ []) = all_within ranges s
+are_within ranges (s ∷ t ∷ rest) = false
