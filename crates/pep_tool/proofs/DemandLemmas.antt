@@ -13,7 +13,7 @@ use Rattle.pep_tool.specs.Sets.{HasClause, InputsGive, IsPlainPair, LineParts, L
 use Rattle.pep_tool.specs.declared.input.Input.{Input}
 use Rattle.pep_tool.specs.declared.input.Kind.{Kind}
 use Rattle.pep_tool.specs.declared.input.Kind.TheVariants as kind
-use Rattle.pep_tool.proofs.LineLemmas.{one_line}
+use Rattle.pep_tool.proofs.LineLemmas.{AllZip-one, one_line}
 use Rattle.pep_version.proofs.Connectives.{and_first, and_second}
 
 -- the pair is in the list
@@ -133,17 +133,9 @@ list_demands ls name d some = (
 
 -- ---- one list of requirements
 
-one_zip : (xs : List (List ℕ)) (rs ss : List RequirementParts) → AllZip ReadsLine xs rs → AllZip ReadsLine xs ss → rs ≡ ss
-one_zip [] [] [] z w = refl
-one_zip [] [] (s ∷ ss) z w = absurd w
-one_zip [] (r ∷ rs) ss z w = absurd z
-one_zip (x ∷ xs) [] ss z w = absurd z
-one_zip (x ∷ xs) (r ∷ rs) [] z w = absurd w
-one_zip (x ∷ xs) (r ∷ rs) (s ∷ ss) z w = λ i. one_line x r s z.0 w.0 i ∷ one_zip xs rs ss z.1 w.1 i
-
 -- bytes are one list at most
 pub one_list_of : (bytes : List ℕ) (rs ss : List RequirementParts) → IsListOf bytes rs → IsListOf bytes ss → rs ≡ ss
-one_list_of bytes rs ss z w = one_zip (requirement_lines bytes) rs ss z.requirements w.requirements
+one_list_of bytes rs ss z w = AllZip-one ReadsLine one_line (requirement_lines bytes) rs ss z.requirements w.requirements
 
 bytes_demand : (k : Kind) (bytes : List ℕ) (ps : List Pair) (name : List ℕ) (d : Demand) → ListGives bytes ps → BytesDemand k bytes name d ↔ PairsDemand ps name d
 bytes_demand kind.List bytes ps name d (ls, gives, some, are) = (

@@ -266,13 +266,15 @@ one_bound x c d s t =
     let own : ClauseOf t.operator t.run (Ok c) = subst (λ (l : List ℕ). ClauseOf t.operator l (Ok c)) runs (subst (λ (o : Op). ClauseOf o s.run (Ok c)) operators s.clause) in
     ok_told c d (one-answer t.operator t.run (Ok c) (Ok d) own t.clause (λ q. cc q) (λ q. cc q))
 
-one_zip_bounds : (pieces : List (List ℕ)) (cs ds : List Clause) → AllZip ReadsBound pieces cs → AllZip ReadsBound pieces ds → cs ≡ ds
-one_zip_bounds [] [] [] z w = refl
-one_zip_bounds [] [] (d ∷ ds) z w = absurd w
-one_zip_bounds [] (c ∷ cs) ds z w = absurd z
-one_zip_bounds (x ∷ pieces) [] ds z w = absurd z
-one_zip_bounds (x ∷ pieces) (c ∷ cs) [] z w = absurd w
-one_zip_bounds (x ∷ pieces) (c ∷ cs) (d ∷ ds) z w = λ i. one_bound x c d z.0 w.0 i ∷ one_zip_bounds pieces cs ds z.1 w.1 i
+-- where at most one element belongs to each, at most one list belongs to a list
+pub AllZip-one : {A B : Type 0} (R : A → B → Type 0) → ((x : A) (r q : B) → R x r → R x q → r ≡ q) →
+    (xs : List A) (rs qs : List B) → AllZip R xs rs → AllZip R xs qs → rs ≡ qs
+AllZip-one R one [] [] [] z w = refl
+AllZip-one R one [] [] (q ∷ qs) z w = absurd w
+AllZip-one R one [] (r ∷ rs) qs z w = absurd z
+AllZip-one R one (x ∷ xs) [] qs z w = absurd z
+AllZip-one R one (x ∷ xs) (r ∷ rs) [] z w = absurd w
+AllZip-one R one (x ∷ xs) (r ∷ rs) (q ∷ qs) z w = λ i. one x r q z.0 w.0 i ∷ AllZip-one R one xs rs qs z.1 w.1 i
 
 -- ---- what is found is read
 
@@ -402,7 +404,7 @@ one_line x r q s t =
     let normals : Some s.normal ≡ Some t.normal = sym s.reads_name ∙ ap name_of names ∙ t.reads_name in
     let same : s.normal ≡ t.normal = cc normals in
     let clauses : s.clauses ≡ t.clauses =
-    one_zip_bounds (pieces_of t.bound) s.clauses t.clauses (subst (λ (l : List ℕ). ReadsBounds l s.clauses) bounds s.reads_bounds) t.reads_bounds in
+    AllZip-one ReadsBound one_bound (pieces_of t.bound) s.clauses t.clauses (subst (λ (l : List ℕ). ReadsBounds l s.clauses) bounds s.reads_bounds) t.reads_bounds in
     s.reads ∙ (λ i. plain_requirement (same i) (clauses i)) ∙ sym t.reads
 
 pub line_read : (x n : List ℕ) (cs : List Clause) → length x ≤ line_limit → name_of (name_run x) ≡ Some n → ReadsBounds (behind_name x) cs → ReadsLine x (plain_requirement n cs)
