@@ -2,6 +2,8 @@ pub mod Line
 pub mod Lists
 pub mod Gathered
 pub mod Merge
+pub mod Code
+pub mod InnerFault
 pub mod FaultLine
 pub mod Device
 pub mod Plan

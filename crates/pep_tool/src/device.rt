@@ -7,9 +7,11 @@ ghost use Rattle.pep_tool.specs.Device.{Device, IsReady, CountsCall, fresh_devic
 
 use std::io::{Read, Write};
 use std::marker::Model;
+use thiserror::Error;
 
 /// A call on a device failed.
-#[derive(Clone, Copy, Debug, PartialEq, Eq)]
+#[derive(Clone, Copy, Debug, PartialEq, Eq, Error)]
+#[error("a read or a write failed")]
 pub struct Failed;
 
 /// Gives bytes. It is not called again once a call has failed.
