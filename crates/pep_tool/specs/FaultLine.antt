@@ -3,8 +3,7 @@ use Rattle.std.specs.Prelude.{ℕ, codes, decimal, List, [], ◌∷◌, ◌++◌
 use Rattle.std.specs.List.{concat}
 use Rattle.pep_version.specs.declared.fault.VersionFault.{VersionFault}
 use Rattle.pep_version.specs.declared.fault.VersionFault.TheVariants as version
-use Rattle.pep_clause.specs.declared.fault.ClauseFault.{ClauseFault}
-use Rattle.pep_clause.specs.declared.fault.ClauseFault.TheVariants as clause
+use Rattle.pep_clause.specs.Code.{clause_code}
 use Rattle.pep_marker.specs.declared.fault.MarkerFault.{MarkerFault}
 use Rattle.pep_marker.specs.declared.fault.MarkerFault.TheVariants as marker
 use Rattle.pep_require.specs.declared.fault.RequireFault.{RequireFault}
@@ -23,15 +22,6 @@ abbrev pub version_code : VersionFault → ℕ
 version_code version.NotAVersion = 1
 version_code version.NumberTooLarge = 2
 version_code version.NoMemory = 3
-
-abbrev pub clause_code : ClauseFault → ℕ
-clause_code clause.NoOperator = 11
-clause_code clause.BadVersion = 12
-clause_code clause.StarNotAllowed = 13
-clause_code clause.LocalNotAllowed = 14
-clause_code clause.OneNumber = 15
-clause_code clause.NumberTooLarge = 16
-clause_code clause.NoMemory = 17
 
 abbrev pub marker_code : MarkerFault → ℕ
 marker_code marker.BadName = 21

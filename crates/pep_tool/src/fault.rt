@@ -1,10 +1,9 @@
 //! Faults of inputs and of the program, and the line that tells one.
 
 ghost use Rattle.std.specs.Prelude.{◌≡◌, ◌++◌, ◌∷◌, codes, decimal, string_bytes, OnOk, option_to_list};
-ghost use Rattle.pep_tool.specs.FaultLine.{version_code, clause_code, marker_code, require_codes, line_codes, cause_codes, codes_text, place_text, line_text, words_text};
+ghost use Rattle.pep_tool.specs.FaultLine.{version_code, marker_code, require_codes, line_codes, cause_codes, codes_text, place_text, line_text, words_text};
 
 use itoa::Buffer;
-use pep_clause::ClauseFault;
 use pep_marker::MarkerFault;
 use pep_require::RequireFault;
 use pep_version::VersionFault;
@@ -124,21 +123,6 @@ fn version_code(fault: VersionFault) -> u64
     }
 }
 
-// The code of a fault of a clause.
-fn clause_code(fault: ClauseFault) -> u64
-    ensures { result ≡ clause_code fault }
-{
-    match fault {
-        ClauseFault::NoOperator => 11,
-        ClauseFault::BadVersion => 12,
-        ClauseFault::StarNotAllowed => 13,
-        ClauseFault::LocalNotAllowed => 14,
-        ClauseFault::OneNumber => 15,
-        ClauseFault::NumberTooLarge => 16,
-        ClauseFault::NoMemory => 17,
-    }
-}
-
 // The code of a fault of a marker, a name or an environment.
 fn marker_code(fault: MarkerFault) -> u64
     ensures { result ≡ marker_code fault }
@@ -163,7 +147,7 @@ fn require_codes(fault: RequireFault) -> (u64, Option<u64>)
     match fault {
         RequireFault::BadName => (31, None),
         RequireFault::BadExtras => (32, None),
-        RequireFault::BadClause(inner) => (33, Some(clause_code(inner))),
+        RequireFault::BadClause(inner) => (33, Some(inner.code())),
         RequireFault::BadUrl => (34, None),
         RequireFault::BadMarker(inner) => (35, Some(marker_code(inner))),
         RequireFault::Trailing => (36, None),
