@@ -9,10 +9,10 @@ use Rattle.pep_version.specs.Laws.{version_total}
 use Rattle.pep_version.specs.Order.{is_below, is_same, place_of, public_version, suffix_cmp, version_cmp}
 use Rattle.pep_version.specs.Version.{IsVersion, Segment, Version, is_empty}
 use Rattle.pep_clause.specs.Admits.{admits}
-use Rattle.pep_clause.specs.Between.{less_told, not_below_itself}
+use Rattle.pep_clause.proofs.Between.{less_told, not_below_itself}
 use Rattle.pep_clause.specs.Clause.{at_most, excluding, greater_than, less_than, matching}
 use Rattle.pep_clause.specs.Cut.{after, cut_cmp, end, is_under, least}
-use Rattle.pep_clause.specs.Laws.{is_under-cut_cmp}
+use Rattle.pep_clause.proofs.UnderCut.{is_under-cut_cmp}
 use Rattle.pep_clause.specs.OperatorTable.{before_place, greater_from, less_to, matching_to, next, set_of}
 use Rattle.pep_clause.specs.VersionSet.{IsNormal, is_in}
 use Rattle.pep_clause.proofs.NextPlace.{next-under}
@@ -21,6 +21,7 @@ use Rattle.pep_clause.proofs.PlaceCuts.{IsCut-greater_from, IsCut-least, IsCut-l
 use Rattle.pep_clause.proofs.RangeRows.{IsNormal-outside, outside-row, range-row}
 use Rattle.pep_clause.proofs.Rows.{IsCut-before_place, IsVersion-place_of, is_below-place_of, is_below-public, is_in-from_least, release_cmp-short}
 use Rattle.pep_clause.proofs.StrictPlaces.{greater-under, less-under}
+use Rattle.pep_version.proofs.Connectives.{not-not}
 
 -- ---- at most, more than and less than a version
 
@@ -31,16 +32,12 @@ at_most-row w v h none = is_in-from_least (next w) v ∙ next-under w v h none
 pub at_most-normal : (w : Version) → IsVersion w → IsNormal (set_of (at_most w))
 at_most-normal w h = IsNormal-range least (next w) IsCut-least (IsCut-next w h)
 
-not_not : (b : Bool) → not (not b) ≡ b
-not_not true = refl
-not_not false = refl
-
 -- `>` of a version without a label
 pub greater_than-row : (w v : Version) → IsVersion v → w.label ≡ [] → is_in (set_of (greater_than w)) v ≡ admits (greater_than w) v
 greater_than-row w v h none =
     range-row (greater_from w) end v
     ∙ ap not (greater-under w v h none)
-    ∙ not_not (admits (greater_than w) v)
+    ∙ not-not (admits (greater_than w) v)
 
 pub greater_than-normal : (w : Version) → IsVersion w → IsNormal (set_of (greater_than w))
 greater_than-normal w h = IsNormal-range (greater_from w) end (IsCut-greater_from w h) tt

@@ -7,13 +7,14 @@ use Rattle.std.specs.Prelude.{IsTrue}
 use Rattle.std.specs.declared.cmp.Ordering.{Ordering}
 use Rattle.std.specs.declared.cmp.Ordering.TheVariants.{Less, Equal, Greater}
 use Rattle.pep_version.specs.Version.{Version}
-use Rattle.pep_clause.specs.Between.{below-not_above, less_told}
+use Rattle.pep_clause.proofs.Between.{below-not_above, less_told}
 use Rattle.pep_clause.specs.Cut.{Cut, IsCut, before, cut_cmp, is_under}
 use Rattle.pep_clause.specs.CutOrder.{IsUnder, LiesIn, LiesStrictlyIn, SameUnder}
-use Rattle.pep_clause.specs.Density.{between_cuts}
-use Rattle.pep_clause.specs.Laws.{cut_total, is_under-cut_cmp}
-use Rattle.pep_clause.specs.LeastCut.{turned_not_below}
-use Rattle.pep_clause.specs.OneCut.{one-cut}
+use Rattle.pep_clause.proofs.Density.{between_cuts}
+use Rattle.pep_clause.specs.Laws.{cut_total}
+use Rattle.pep_clause.proofs.UnderCut.{is_under-cut_cmp}
+use Rattle.pep_clause.proofs.LeastCut.{turned_not_below}
+use Rattle.pep_clause.proofs.OneCut.{one-cut}
 
 -- what is under a cut is under each that is not below it
 pub is_under-kept : (c d : Cut) → is_le (cut_cmp c d) ≡ true → (v : Version) → IsUnder c v → IsUnder d v

@@ -6,37 +6,17 @@ use Rattle.std.specs.declared.cmp.Ordering.TheVariants.{Less, Equal, Greater}
 use Rattle.std.specs.Prelude.{if◌then◌else◌}
 use Rattle.pep_version.specs.Version.{Version}
 use Rattle.pep_clause.specs.Cut.{Cut, before, cut_cmp}
-use Rattle.pep_clause.specs.Laws.{cut_total, is_in-is_point}
-use Rattle.pep_clause.specs.Joined.{all_within, are_within, range_joined, is_within, joined, row_joined}
+use Rattle.pep_clause.specs.Laws.{cut_total}
+use Rattle.pep_clause.proofs.UnderCut.{is_in-is_point}
+use Rattle.pep_clause.specs.Joined.{all_within, are_within, range_joined, is_within, joined, row_joined, earlier, later}
 use Rattle.pep_clause.specs.OperatorTable.{range}
 use Rattle.pep_clause.specs.VersionSet.{Range, is_in, is_point}
-use Rattle.pep_clause.specs.Between.{below-earlier, below-not_above, by_answer, earlier, is_between, later, less_told, none_between, not_below-later}
+use Rattle.pep_clause.proofs.Between.{below-earlier, below-not_above, is_between, less_told, none_between, not_below-later}
+use Rattle.pep_version.proofs.Connectives.{by_answer, and-false, and_from, and_given, and_parts, or-false, or_assoc, or_given, and-or_distrib_left, and-or_distrib_right, answers_differ, not-true}
 
 -- the points of one range
 abbrev pub has_point : Range → Cut → Bool
 has_point r c = is_between cut_cmp r.low r.high c
-
-or_assoc : (p q r : Bool) → ((p || q) || r) ≡ (p || (q || r))
-or_assoc true q r = refl
-or_assoc false q r = refl
-
-or_none : (p : Bool) → (p || false) ≡ p
-or_none true = refl
-or_none false = refl
-
-and_or : (p q r : Bool) → ((p && q) || (p && r)) ≡ (p && (q || r))
-and_or true q r = refl
-and_or false q r = refl
-
-or_and : (p q r : Bool) → ((p && r) || (q && r)) ≡ ((p || q) && r)
-or_and true q true = refl
-or_and true true false = refl
-or_and true false false = refl
-or_and false q r = refl
-
-and_none : (p : Bool) → (p && false) ≡ false
-and_none true = refl
-and_none false = refl
 
 -- of two high tests and two low ones
 pair_up : (p q r s : Bool) → ((p && q) && (r && s)) ≡ ((p && r) && (q && s))
@@ -52,7 +32,7 @@ is_point-append (r ∷ xs) ys c = ap (λ b. has_point r c || b) (is_point-append
 
 range_by : (b : Bool) (low high c : Cut) → is_lt (cut_cmp low high) ≡ b
     → is_point (if b then record { low = low; high = high } ∷ [] else []) c ≡ is_between cut_cmp low high c
-range_by true low high c e = or_none (is_between cut_cmp low high c)
+range_by true low high c e = or-false (is_between cut_cmp low high c)
 range_by false low high c e = sym (none_between cut_total low high c e)
 
 -- the points of a range, which is left out where it is empty
@@ -66,11 +46,11 @@ is_point-range_joined r s c =
     ∙ pair_up (is_lt (cut_cmp c r.high)) (is_lt (cut_cmp c s.high)) (not (is_lt (cut_cmp c r.low))) (not (is_lt (cut_cmp c s.low)))
 
 pub is_point-row_joined : (r : Range) (others : List Range) (c : Cut) → is_point (row_joined r others) c ≡ (has_point r c && is_point others c)
-is_point-row_joined r [] c = sym (and_none (has_point r c))
+is_point-row_joined r [] c = sym (and-false (has_point r c))
 is_point-row_joined r (s ∷ rest) c =
     is_point-append (range_joined r s) (row_joined r rest) c
     ∙ (λ i. is_point-range_joined r s c i || is_point-row_joined r rest c i)
-    ∙ and_or (has_point r c) (has_point s c) (is_point rest c)
+    ∙ sym (and-or_distrib_left (has_point r c) (has_point s c) (is_point rest c))
 
 -- a cut is a point of what two lists have in common exactly if it is one of both
 pub is_point-joined : (ranges others : List Range) (c : Cut) → is_point (joined ranges others) c ≡ (is_point ranges c && is_point others c)
@@ -78,7 +58,7 @@ is_point-joined [] others c = refl
 is_point-joined (r ∷ rest) others c =
     is_point-append (row_joined r others) (joined rest others) c
     ∙ (λ i. is_point-row_joined r others c i || is_point-joined rest others c i)
-    ∙ or_and (has_point r c) (is_point rest c) (is_point others c)
+    ∙ sym (and-or_distrib_right (has_point r c) (is_point rest c) (is_point others c))
 
 -- a version is in what two lists have in common exactly if it is in both
 pub is_in-joined : (ranges others : List Range) (v : Version) → is_in (joined ranges others) v ≡ (is_in ranges v && is_in others v)
@@ -89,41 +69,20 @@ is_in-joined ranges others v =
 
 -- ---- ranges that lie in one range
 
-both_of : (a b : Bool) → (a && b) ≡ true → (a ≡ true) × (b ≡ true)
-both_of true b e = (refl, e)
-both_of false b e = cc e
-
 not_less : (r : Ordering) → is_ge r ≡ true → is_lt r ≡ false
 not_less Less e = cc e
 not_less Equal e = refl
 not_less Greater e = refl
 
-absurd_by : {G : Type 0} (b : Bool) → not b ≡ true → b ≡ true → G
-absurd_by true e f = cc e
-absurd_by false e f = cc f
-
-both : (p q : Bool) → p ≡ true → q ≡ true → (p && q) ≡ true
-both true q e f = f
-both false q e f = e
-
--- where one test gives the other, both are the one
-and_given : (p q : Bool) → (p ≡ true → q ≡ true) → p ≡ (p && q)
-and_given true q f = sym (f refl)
-and_given false q f = refl
-
-or_given : (p q t : Bool) → p ≡ (p && t) → q ≡ (q && t) → (p || q) ≡ ((p || q) && t)
-or_given true q t e f = e
-or_given false q t e f = f
-
 -- a point of a range is one of the range that it lies in
 point_within : (r s : Range) (c : Cut) → is_within r s ≡ true → has_point r c ≡ true → (has_point s c || false) ≡ true
 point_within r s c e h =
-    let within = both_of (is_ge (cut_cmp r.low s.low)) (is_ge (cut_cmp s.high r.high)) e in
-    let inside = both_of (is_lt (cut_cmp c r.high)) (not (is_lt (cut_cmp c r.low))) h in
+    let within = and_parts (is_ge (cut_cmp r.low s.low)) (is_ge (cut_cmp s.high r.high)) e in
+    let inside = and_parts (is_lt (cut_cmp c r.high)) (not (is_lt (cut_cmp c r.low))) h in
     let below : is_lt (cut_cmp c s.high) ≡ true = ap is_lt (below-not_above cut_total c r.high s.high (less_told _ inside.0) (not_less _ within.1)) in
-    or_none (has_point s c) ∙ both (is_lt (cut_cmp c s.high)) (not (is_lt (cut_cmp c s.low))) below
+    or-false (has_point s c) ∙ and_from (is_lt (cut_cmp c s.high)) (not (is_lt (cut_cmp c s.low))) below
     (by_answer (is_lt (cut_cmp c s.low))
-    (λ t. absurd_by (is_lt (cut_cmp c r.low)) inside.1 (ap is_lt (below-not_above cut_total c s.low r.low (less_told _ t) (not_less _ within.0))))
+    (λ t. answers_differ (is_lt (cut_cmp c r.low)) (is_lt (cut_cmp c r.low)) refl (ap is_lt (below-not_above cut_total c s.low r.low (less_told _ t) (not_less _ within.0))) (not-true (is_lt (cut_cmp c r.low)) inside.1))
     (λ t. ap not t))
 
 -- the points of ranges that lie in one range are points of that range
@@ -131,7 +90,7 @@ pub is_point-within : (ranges others : List Range) (c : Cut) → are_within rang
 is_point-within ranges [] c e = cc e
 is_point-within [] (s ∷ []) c e = refl
 is_point-within (r ∷ rest) (s ∷ []) c e =
-    let within = both_of (is_within r s) (are_within rest (s ∷ [])) e in
+    let within = and_parts (is_within r s) (are_within rest (s ∷ [])) e in
     or_given (has_point r c) (is_point rest c) (is_point (s ∷ []) c)
     (and_given (has_point r c) (is_point (s ∷ []) c) (point_within r s c within.0))
     (is_point-within rest (s ∷ []) c within.1)

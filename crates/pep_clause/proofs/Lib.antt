@@ -1,17 +1,28 @@
-mod JoinedPoints
-mod NormalJoined
-mod Rows
+pub mod Between
+pub mod UnderCut
+pub mod NormalLists
+pub mod OneCut
+pub mod OneList
+pub mod LeastCut
+pub mod Density
+pub mod SameVersions
+pub mod CutOrderLemmas
+pub mod JoinedPoints
+pub mod NormalJoined
+pub mod FinalVersion
+pub mod Rows
 pub mod OrderRows
 pub mod NextPlace
 pub mod PlaceCuts
 pub mod StrictPlaces
 pub mod ClauseRows
-pub mod ReadLemmas
-mod WrittenLemmas
 pub mod RangeRows
 pub mod PrefixPlace
 pub mod PrefixRows
-mod RaisedRelease
-mod SetLemmas
-mod SameVersions
-mod CutOrderLemmas
+pub mod RaisedRelease
+pub mod SetLemmas
+pub mod OperatorLemmas
+pub mod OneAnswer
+pub mod ReadLemmas
+pub mod Written
+pub mod WrittenLemmas

@@ -13,7 +13,7 @@ use Rattle.pep_version.specs.Laws.{place_total}
 use Rattle.pep_version.specs.Order.{dev_cmp, is_below, phase_rank, place_cmp, pre_number_of, public_version, release_cmp, segment_cmp, stage_of}
 use Rattle.pep_version.specs.Version.{Fits, IsVersion, NumbersFit, Segment, Version}
 use Rattle.pep_clause.specs.Cut.{is_under}
-use Rattle.pep_clause.specs.Laws.{is_under-cut_cmp}
+use Rattle.pep_clause.proofs.UnderCut.{is_under-cut_cmp}
 use Rattle.pep_clause.specs.OperatorTable.{after_last_dev, before_place, done, done_at, last, next, next_phase, past_release, with_dev, with_post, with_pre}
 use Rattle.pep_clause.proofs.OrderRows.{Turned, dev-not_below_first, pair_turned, label-not_below, nat_turned, next_number, no_dev-not_below, none-above_last, option_turned, post-not_above_last, post-not_below, stage_turned, then_assoc, then_neither, then_turned, zero-above_none}
 use Rattle.pep_clause.proofs.Rows.{is_below-place_of, release_cmp-short}

@@ -6,9 +6,9 @@ use Rattle.pep_clause.specs.Cut.{Cut, IsCut, cut_cmp}
 use Rattle.pep_clause.specs.Laws.{cut_total}
 use Rattle.pep_clause.specs.OperatorTable.{range}
 use Rattle.pep_clause.specs.VersionSet.{IsNormal, Range}
-use Rattle.pep_clause.specs.Between.{below-later_first, below-later_second, earlier, earlier-keeps, earlier-not_above_first, earlier-not_above_second, later, later-keeps, less_told}
-use Rattle.pep_clause.specs.Joined.{range_joined, joined, row_joined}
-use Rattle.pep_clause.specs.NormalLists.{AllAbove, AllAbove-append, Apart, Apart-append, IsNormal-apart, IsNormal-from, IsNormal-spelled, NoneBeyond, NoneBeyond-append, Spelled, Spelled-append, Under}
+use Rattle.pep_clause.proofs.Between.{below-later_first, below-later_second, earlier-keeps, earlier-not_above_first, earlier-not_above_second, later-keeps, less_told}
+use Rattle.pep_clause.specs.Joined.{earlier, later, range_joined, joined, row_joined}
+use Rattle.pep_clause.proofs.NormalLists.{AllAbove, AllAbove-append, Apart, Apart-append, IsNormal-apart, IsNormal-from, IsNormal-spelled, NoneBeyond, NoneBeyond-append, Spelled, Spelled-append, Under}
 
 -- a range that is left out where it is empty
 apart_by : (b : Bool) (low high : Cut) → is_lt (cut_cmp low high) ≡ b → Apart (if b then record { low = low; high = high } ∷ [] else [])
@@ -18,11 +18,11 @@ apart_by false low high e = tt
 pub Apart-range : (low high : Cut) → Apart (range low high)
 Apart-range low high = apart_by (is_lt (cut_cmp low high)) low high refl
 
-above_by : (b : Bool) (c low high : Cut) → Under c low → AllAbove c (if b then record { low = low; high = high } ∷ [] else [])
+pub above_by : (b : Bool) (c low high : Cut) → Under c low → AllAbove c (if b then record { low = low; high = high } ∷ [] else [])
 above_by true c low high e = (e, tt)
 above_by false c low high e = tt
 
-beyond_by : (b : Bool) (c low high : Cut) → is_lt (cut_cmp c high) ≡ false → NoneBeyond c (if b then record { low = low; high = high } ∷ [] else [])
+pub beyond_by : (b : Bool) (c low high : Cut) → is_lt (cut_cmp c high) ≡ false → NoneBeyond c (if b then record { low = low; high = high } ∷ [] else [])
 beyond_by true c low high e = (e, tt)
 beyond_by false c low high e = tt
 

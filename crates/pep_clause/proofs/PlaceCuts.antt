@@ -7,7 +7,7 @@ use Rattle.pep_version.specs.declared.parts.Phase.TheVariants.{Alpha, Beta, Rc}
 use Rattle.pep_version.specs.Order.{place_of, without_dev, without_post}
 use Rattle.pep_version.specs.Version.{Fits, IsVersion, Version, is_empty, is_pre_release}
 use Rattle.pep_clause.specs.Cut.{IsCut, after, least}
-use Rattle.pep_clause.specs.LeastCut.{IsNormal-all_versions}
+use Rattle.pep_clause.proofs.LeastCut.{IsNormal-all_versions}
 use Rattle.pep_clause.specs.OperatorTable.{after_last_dev, before_place, done, done_at, greater_at, greater_from, last, less_to, matching_to, next, next_at, next_phase, past_release, with_dev, with_post, with_pre}
 use Rattle.pep_clause.proofs.OrderRows.{next_fits}
 use Rattle.pep_clause.proofs.Rows.{IsCut-before_place, IsVersion-place_of, place_of-twice, short-twice}

@@ -11,12 +11,13 @@ use Rattle.std.specs.declared.cmp.Ordering.TheVariants.{Less, Equal, Greater}
 use Rattle.pep_version.specs.Order.{release_cmp, suffix_cmp}
 use Rattle.pep_version.specs.Version.{Fits, IsVersion, Version}
 use Rattle.pep_clause.specs.Admits.{begins_padded, has_prefix}
-use Rattle.pep_clause.specs.Between.{by_answer}
+use Rattle.pep_version.proofs.Connectives.{by_answer}
 use Rattle.pep_clause.specs.Clause.{Prefix}
 use Rattle.pep_clause.specs.Cut.{final_version, is_under}
-use Rattle.pep_clause.specs.LeastCut.{none-under_least}
+use Rattle.pep_clause.proofs.LeastCut.{none-under_least}
 use Rattle.pep_clause.specs.OperatorTable.{before_dev, before_prefix, last, prefix_end, prefix_end_at, raised, raised_first, with_dev}
 use Rattle.pep_clause.proofs.Rows.{is_below-place_of}
+use Rattle.pep_clause.proofs.OrderRows.{then_not_below}
 
 -- ---- a number in front
 
@@ -75,11 +76,6 @@ last_by : (r c : Ordering) (b : Bool) → is_le r ≡ true → b ≡ not (is_lt 
 last_by Less c b h e = refl
 last_by Equal c b h e = e
 last_by Greater c b h e = cc h
-
-then_not_below : (r s : Ordering) → is_lt s ≡ false → is_lt (ordering_then r s) ≡ is_lt r
-then_not_below Less s e = refl
-then_not_below Equal s e = e
-then_not_below Greater s e = refl
 
 -- ---- releases
 

@@ -10,26 +10,22 @@ use Rattle.std.specs.declared.cmp.Ordering.TheVariants.{Less}
 use Rattle.pep_version.specs.Order.{is_below, place_of, short_release, without_end_zeros}
 use Rattle.pep_version.specs.Version.{Fits, IsVersion, Version, is_empty}
 use Rattle.pep_clause.specs.Admits.{admits, begins_padded, compatible_prefix, has_prefix}
-use Rattle.pep_clause.specs.Between.{below-not_above, less_told}
+use Rattle.pep_clause.proofs.Between.{below-not_above, less_told}
 use Rattle.pep_clause.specs.Clause.{Prefix, compatible, excluding_prefix, matching_prefix}
 use Rattle.pep_clause.specs.Cut.{IsCut, before, end, cut_cmp, final_version, is_under}
-use Rattle.pep_clause.specs.Laws.{cut_total, is_under-cut_cmp}
+use Rattle.pep_clause.specs.Laws.{cut_total}
+use Rattle.pep_clause.proofs.UnderCut.{is_under-cut_cmp}
 use Rattle.pep_clause.specs.OperatorTable.{before_dev, before_place, before_prefix, last, prefix_end, prefix_end_at, raised, raised_first, set_of, with_dev}
 use Rattle.pep_clause.specs.VersionSet.{IsNormal, is_in}
 use Rattle.pep_clause.proofs.NormalJoined.{IsNormal-range}
 use Rattle.pep_clause.proofs.PrefixPlace.{prefix-under}
 use Rattle.pep_clause.proofs.RangeRows.{IsNormal-outside, outside-row, range-row}
 use Rattle.pep_clause.proofs.Rows.{IsCut-before_place, IsVersion-place_of, IsVersion-with_dev, is_below-place_of, is_below-public}
+use Rattle.pep_version.proofs.Connectives.{and_first, and_not_parts}
+use Rattle.pep_clause.proofs.OrderRows.{next_fits}
+use Rattle.pep_clause.proofs.FinalVersion.{IsVersion-release}
 
 -- ---- the cuts are in their one spelling
-
-IsVersion-release : (epoch : ℕ) (release : List ℕ) → Fits epoch → 0 < length release → AllByRecursion Fits release
-    → IsVersion (final_version (record { epoch = epoch; release = release }))
-IsVersion-release epoch release e some fits = record {
-  release = some;
-  label = tt;
-  numbers = record { epoch = e; release = fits; pre = tt; post = tt; dev = tt; label = tt };
-}
 
 IsCut-before_dev : (epoch : ℕ) (release : List ℕ) → Fits epoch → 0 < length release → AllByRecursion Fits release → IsCut (before_dev epoch release)
 IsCut-before_dev epoch release e some fits =
@@ -40,9 +36,6 @@ IsCut-before_dev epoch release e some fits =
 abbrev IsRaised : Option (List ℕ) → Type 0
 IsRaised None = Unit {0}
 IsRaised (Some high) = (0 < length high) × AllByRecursion Fits high
-
-next_fits : (n : ℕ) → nat_lt n last ≡ true → Fits (n + 1)
-next_fits n t = let below : n < last = grind (arith, nat_tests) in omega arith
 
 raised_first-fits : (n : ℕ) (high : Option (List ℕ)) → Fits n → IsRaised high → IsRaised (raised_first n high)
 raised_first-fits n (Some high) h g = (omega arith, (h, g.1))
@@ -100,16 +93,6 @@ begins_taken zero xs = refl
 begins_taken (suc k) [] = refl
 begins_taken (suc k) (n ∷ rest) = own_first n (begins_padded (take k rest) rest) (begins_taken k rest)
 
--- what holds of a version with the prefix
-both_first : (p q : Bool) → (p && not q) ≡ true → p ≡ true
-both_first true q e = refl
-both_first false q e = cc e
-
-both_second : (p q : Bool) → (p && not q) ≡ true → q ≡ false
-both_second true true e = cc e
-both_second true false e = refl
-both_second false q e = cc e
-
 -- the first version with the prefix
 abbrev first_of : Prefix → Version
 first_of p = place_of (with_dev 0 (final_version p))
@@ -124,7 +107,7 @@ before_prefix-below_end p h =
     let within : (is_under (prefix_end p) (first_of p) && not (is_under (before_prefix p) (first_of p))) ≡ true =
     sym (prefix-under p (first_of p) first) ∙ has_own_prefix p in
     less_told (cut_cmp (before_prefix p) (prefix_end p))
-    (sym (is_under-cut_cmp (prefix_end p) (first_of p)) ∙ both_first _ _ within)
+    (sym (is_under-cut_cmp (prefix_end p) (first_of p)) ∙ and_first _ _ within)
 
 -- ---- a prefix, and all but a prefix
 
@@ -164,7 +147,7 @@ below_start w v h t =
     let start = before_prefix (compatible_prefix w) in
     let within : (is_under (prefix_end (compatible_prefix w)) w && not (is_under start w)) ≡ true =
     sym (prefix-under (compatible_prefix w) w h) ∙ has_compatible_prefix w in
-    let not_under : is_lt (cut_cmp (before w) start) ≡ false = sym (is_under-cut_cmp start w) ∙ both_second _ _ within in
+    let not_under : is_lt (cut_cmp (before w) start) ≡ false = sym (is_under-cut_cmp start w) ∙ (and_not_parts _ _ within).1 in
     let under : cut_cmp (before v) start ≡ Less = less_told _ (sym (is_under-cut_cmp start v) ∙ t) in
     is_under-cut_cmp (before w) v ∙ ap is_lt (below-not_above cut_total (before v) start (before w) under not_under)
 

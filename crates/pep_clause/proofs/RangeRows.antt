@@ -1,18 +1,18 @@
 -- The versions of a range and of what is outside a range, and that both are normal lists.
-use Rattle.std.proofs.Common.{◌≡◌, ◌&&◌, ◌||◌, Bool, true, false, not, List, [], ◌∷◌, ◌++◌, refl, sym, ◌∙◌}
+use Rattle.std.proofs.Common.{◌≡◌, ◌&&◌, ◌||◌, Bool, true, false, not, List, ◌++◌, refl, sym, ◌∙◌}
 use Rattle.std.specs.Ordering.{is_lt}
-use Rattle.std.specs.Prelude.{if◌then◌else◌}
 use Rattle.std.specs.declared.cmp.Ordering.TheVariants.{Less}
 use Rattle.pep_version.specs.Version.{Version}
-use Rattle.pep_clause.specs.Between.{not_below_itself}
+use Rattle.pep_clause.proofs.Between.{not_below_itself}
 use Rattle.pep_clause.specs.Cut.{Cut, IsCut, before, end, cut_cmp, is_under, least}
-use Rattle.pep_clause.specs.Laws.{cut_total, is_in-is_point, is_under-cut_cmp}
-use Rattle.pep_clause.specs.LeastCut.{IsNormal-all_versions, none-under_least}
-use Rattle.pep_clause.specs.NormalLists.{AllAbove, Apart-append, IsNormal-from, NoneBeyond, Spelled-append}
+use Rattle.pep_clause.specs.Laws.{cut_total}
+use Rattle.pep_clause.proofs.UnderCut.{is_in-is_point, is_under-cut_cmp}
+use Rattle.pep_clause.proofs.LeastCut.{IsNormal-all_versions, none-under_least}
+use Rattle.pep_clause.proofs.NormalLists.{Apart-append, IsNormal-from, Spelled-append}
 use Rattle.pep_clause.specs.OperatorTable.{outside, range}
 use Rattle.pep_clause.specs.VersionSet.{IsNormal, Range, is_in}
 use Rattle.pep_clause.proofs.JoinedPoints.{is_point-append, is_point-range}
-use Rattle.pep_clause.proofs.NormalJoined.{Apart-range, Spelled-range}
+use Rattle.pep_clause.proofs.NormalJoined.{Apart-range, Spelled-range, above_by, beyond_by}
 
 -- a version is in a range exactly if it is under the high cut and not under the low one
 pub range-row : (low high : Cut) (v : Version) → is_in (range low high) v ≡ (is_under high v && not (is_under low v))
@@ -41,14 +41,6 @@ outside-row low high v =
     ∙ (λ i. (is_under low v && not (none-under_least v i)) || (true && not (is_under high v)))
     ∙ outside_tests (is_under low v) (is_under high v)
     ∙ (λ i. not (sym (range-row low high v) i))
-
-above_by : (b : Bool) (c low high : Cut) → cut_cmp c low ≡ Less → AllAbove c (if b then record { low = low; high = high } ∷ [] else [])
-above_by true c low high e = (e, tt)
-above_by false c low high e = tt
-
-beyond_by : (b : Bool) (c low high : Cut) → is_lt (cut_cmp c high) ≡ false → NoneBeyond c (if b then record { low = low; high = high } ∷ [] else [])
-beyond_by true c low high e = (e, tt)
-beyond_by false c low high e = tt
 
 -- what is outside a range that is not empty is a normal list
 pub IsNormal-outside : (low high : Cut) → IsCut low → IsCut high → cut_cmp low high ≡ Less → IsNormal (outside low high)

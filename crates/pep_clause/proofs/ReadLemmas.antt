@@ -1,5 +1,5 @@
 -- Reading a clause: what the answers of its steps say of the text, and what is read is a clause.
-use Rattle.std.proofs.Common.{◌≡◌, ◌≢◌, ◌&&◌, ◌||◌, ◌-◌, ◌+◌, ℕ, Bool, true, false, not, List, [], ◌∷◌, ◌++◌, Some, None, Result, Ok, Err, length, take, drop, refl, sym, ap, subst, inl, inr, arith}
+use Rattle.std.proofs.Common.{◌≡◌, ◌≢◌, ◌&&◌, ◌||◌, ◌-◌, ◌+◌, ℕ, true, false, not, List, [], ◌∷◌, ◌++◌, Some, None, Result, Ok, Err, length, take, drop, refl, sym, ap, subst, inl, inr, arith}
 use denote.Enum.Bare.{sameb}
 use Rattle.std.proofs.lemmas.Bool.{cases_Bool}
 use Rattle.std.proofs.lemmas.Str.{IsCharBoundary-after_ascii}
@@ -20,12 +20,8 @@ use Rattle.pep_clause.specs.declared.fault.ClauseFault.TheVariants as fault
 use Rattle.pep_clause.specs.declared.op.Op.{Op}
 use Rattle.pep_clause.specs.declared.op.Op.TheVariants as op
 use Rattle.pep_clause.specs.Clause.{Clause, TargetAnswers, VersionAnswers, ends_in_space, is_clause_byte, is_demanded_text, operator_of, operator_text, prefix_answer, version_answer}
-use Rattle.pep_clause.specs.OperatorLaws.{operator_shape}
-use Rattle.pep_version.proofs.Connectives.{and_first as and-first, and_second as and-second}
-
-or-true : (a : Bool) → (a || true) ≡ true
-or-true true = refl
-or-true false = refl
+use Rattle.pep_clause.proofs.OperatorLemmas.{operator_shape}
+use Rattle.pep_version.proofs.Connectives.{and_first, and_second, or-true}
 
 lowercase : (b : ℕ) → is_ascii_uppercase b ≡ true → is_in_range 97 122 (b + 32) ≡ true
 lowercase b upper = grind arith
@@ -54,7 +50,7 @@ lower-byte b h = elim (cases_Bool (is_ascii_uppercase b)) [
 
 lower-bytes : (text : List ℕ) → list_all is_clause_byte text ≡ true → list_all (λ b. is_clause_byte b && not (is_ascii_uppercase b)) (str_to_ascii_lowercase text) ≡ true
 lower-bytes [] h = refl
-lower-bytes (b ∷ rest) h = rw (lower-byte b (and-first (is_clause_byte b) (list_all is_clause_byte rest) h)) (lower-bytes rest (and-second (is_clause_byte b) (list_all is_clause_byte rest) h))
+lower-bytes (b ∷ rest) h = rw (lower-byte b (and_first (is_clause_byte b) (list_all is_clause_byte rest) h)) (lower-bytes rest (and_second (is_clause_byte b) (list_all is_clause_byte rest) h))
 
 -- the text behind `===` in lower case is one that such a clause keeps
 pub lower-demanded : (text : List ℕ) → (not (is_empty text) && list_all is_clause_byte text) ≡ true → is_demanded_text (str_to_ascii_lowercase text) ≡ true

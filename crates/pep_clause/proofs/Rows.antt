@@ -10,50 +10,32 @@ use Rattle.std.specs.declared.cmp.Ordering.{Ordering}
 use Rattle.std.specs.declared.cmp.Ordering.TheVariants.{Less, Equal, Greater}
 use Rattle.pep_version.specs.declared.parts.Phase.{Phase}
 use Rattle.pep_version.specs.declared.parts.Phase.TheVariants.{Alpha, Beta, Rc}
-use Rattle.pep_version.specs.Laws.{release_cmp-lists}
+use Rattle.pep_version.specs.Laws.{release_cmp-lists, without_end_zeros-short, without_end_zeros-twice}
 use Rattle.pep_version.specs.Order.{dev_cmp, is_below, place_cmp, phase_rank, place_of, pre_number_of, public_version, release_cmp, segment_cmp, short_release, stage_of, suffix_cmp, without_end_zeros}
 use Rattle.pep_version.specs.Version.{Fits, IsVersion, Segment, Version, is_empty}
 use Rattle.pep_clause.specs.Admits.{admits}
-use Rattle.pep_clause.specs.Between.{by_answer, not_above-test}
+use Rattle.pep_clause.proofs.Between.{not_above-test}
+use Rattle.pep_version.proofs.Connectives.{by_answer, or-false, and-true}
 use Rattle.pep_clause.specs.Clause.{Prefix, at_least, less_than}
 use Rattle.pep_clause.specs.Cut.{Cut, IsCut, before, after, past, end, cut_cmp, final_version, is_under, least}
-use Rattle.pep_clause.specs.LeastCut.{none-below_least, none-under_least}
-use Rattle.pep_clause.specs.Laws.{cut_total, is_under-cut_cmp}
+use Rattle.pep_clause.proofs.LeastCut.{none-below_least, none-under_least}
+use Rattle.pep_clause.specs.Laws.{cut_total}
+use Rattle.pep_clause.proofs.UnderCut.{is_under-cut_cmp}
 use Rattle.pep_clause.specs.OperatorTable.{before_place, less_to, range, set_of, with_dev}
 use Rattle.pep_clause.specs.VersionSet.{IsNormal, is_in}
 
 -- ---- releases in their short form
 
-positive : (n : ℕ) → (suc n == 0) ≡ false
-positive n = grind arith
-
-abbrev with_first : ℕ → List ℕ → List ℕ
-with_first n rest = if (n == 0) && is_empty rest then [] else n ∷ rest
-
--- taking the zeros away twice is as taking them away once
-zeros-twice : (xs : List ℕ) → without_end_zeros (without_end_zeros xs) ≡ without_end_zeros xs
-zeros-twice [] = refl
-zeros-twice (n ∷ rest) = step n (without_end_zeros rest) (zeros-twice rest)
-  where
-    step : (n : ℕ) (ys : List ℕ) → without_end_zeros ys ≡ ys → without_end_zeros (with_first n ys) ≡ with_first n ys
-    step zero [] e = refl
-    step zero (y ∷ ys) e = ap (with_first 0) e
-    step (suc n) ys e = rw (positive n, positive n) (ap (λ (l : List ℕ). suc n ∷ l) e)
-
-zeros-short : (xs : List ℕ) → without_end_zeros (short_release xs) ≡ without_end_zeros xs
-zeros-short [] = refl
-zeros-short (n ∷ rest) = ap (with_first n) (zeros-twice rest)
-
 -- the short form is its own short form
 pub short-twice : (xs : List ℕ) → short_release (short_release xs) ≡ short_release xs
 short-twice [] = refl
-short-twice (n ∷ rest) = ap (λ (l : List ℕ). n ∷ l) (zeros-twice rest)
+short-twice (n ∷ rest) = ap (λ (l : List ℕ). n ∷ l) (without_end_zeros-twice rest)
 
 -- a comparison with a short form is one with the release
 pub release_cmp-short : (xs ys : List ℕ) → release_cmp xs (short_release ys) ≡ release_cmp xs ys
 release_cmp-short xs ys =
     release_cmp-lists xs (short_release ys)
-    ∙ (λ i. slice_cmp nat_cmp (without_end_zeros xs) (zeros-short ys i))
+    ∙ (λ i. slice_cmp nat_cmp (without_end_zeros xs) (without_end_zeros-short ys i))
     ∙ sym (release_cmp-lists xs ys)
 
 -- being below a version looks at its place alone
@@ -64,7 +46,7 @@ is_below-place_of v w = λ i. is_lt (ordering_then (ordering_then (nat_cmp v.epo
 short-release_cmp : (xs ys : List ℕ) → release_cmp (short_release xs) ys ≡ release_cmp xs ys
 short-release_cmp xs ys =
     release_cmp-lists (short_release xs) ys
-    ∙ (λ i. slice_cmp nat_cmp (zeros-short xs i) (without_end_zeros ys))
+    ∙ (λ i. slice_cmp nat_cmp (without_end_zeros-short xs i) (without_end_zeros ys))
     ∙ sym (release_cmp-lists xs ys)
 
 -- a version is under a cut exactly if its place is
@@ -134,14 +116,10 @@ is_below-public v w none =
     let public : public_version w ≡ w = λ i. record { epoch = w.epoch; release = w.release; pre = w.pre; post = w.post; dev = w.dev; label = sym none i } in
     (λ i. is_below v (sym public i)) ∙ below_public v w ∙ (λ i. is_below (public_version v) (public i))
 
-or_none : (p : Bool) → (p || false) ≡ p
-or_none true = refl
-or_none false = refl
-
 -- `>=` of a version without a label
 pub at_least-row : (w v : Version) → w.label ≡ [] → is_in (set_of (at_least w)) v ≡ admits (at_least w) v
 at_least-row w v none =
-    or_none (not (is_below v (place_of w)))
+    or-false (not (is_below v (place_of w)))
     ∙ (λ i. not (is_below-place_of v w i))
     ∙ (λ i. not (is_below-public v w none i))
 
@@ -191,11 +169,7 @@ less_by Equal (Some p) post dev label = rw (phase_above_first p.0, phase_below_l
 
 under_first_by : (b : Bool) (high : Cut) (v : Version) → is_lt (cut_cmp least high) ≡ b
     → is_in (if b then record { low = least; high = high } ∷ [] else []) v ≡ is_under high v
-under_first_by true high v e = (λ i. (is_under high v && not (none-under_least v i)) || false) ∙ and_true_or (is_under high v)
-  where
-    and_true_or : (b : Bool) → ((b && true) || false) ≡ b
-    and_true_or true = refl
-    and_true_or false = refl
+under_first_by true high v e = (λ i. (is_under high v && not (none-under_least v i)) || false) ∙ or-false (is_under high v && true) ∙ and-true (is_under high v)
 under_first_by false high v e =
     by_answer (is_lt (cut_cmp (before v) high))
     (λ t. cc (e, not_above-test cut_total least (before v) high (none-below_least (before v)) t))

@@ -1,18 +1,20 @@
 -- Two normal lists that hold the same versions are one list, since there is a version between any two cuts.
-use Rattle.std.proofs.Common.{◌≡◌, ◌↔◌, ◌&&◌, ◌||◌, Bool, true, false, not, List, [], ◌∷◌, refl, sym, ap, ◌∙◌}
-use Rattle.std.proofs.lemmas.Bool.{and_parts}
+use Rattle.std.proofs.Common.{◌≡◌, ◌↔◌, ◌&&◌, Bool, true, false, not, List, [], ◌∷◌, refl, sym, ap, ◌∙◌}
+use Rattle.pep_version.proofs.Connectives.{and_parts, by_answer, and_not_first, and_not_or, not-true, or_parts, or_right, or_second, and_left, and_not_right, or_from}
 use Rattle.std.specs.Ordering.{is_eq, is_lt}
 use Rattle.std.specs.Prelude.{IsTrue}
 use Rattle.std.specs.declared.cmp.Ordering.{Ordering}
 use Rattle.std.specs.declared.cmp.Ordering.TheVariants.{Less, Equal, Greater}
-use Rattle.pep_clause.specs.Between.{below-earlier, below-not_above, by_answer, earlier, earlier-keeps, is_between, less_told}
+use Rattle.pep_clause.proofs.Between.{below-earlier, below-not_above, earlier-keeps, is_between, less_told}
+use Rattle.pep_clause.specs.Joined.{earlier}
 use Rattle.pep_clause.specs.Cut.{Cut, IsCut, before, cut_cmp}
-use Rattle.pep_clause.specs.Density.{between_cuts}
+use Rattle.pep_clause.proofs.Density.{between_cuts}
 use Rattle.pep_clause.specs.SetEquality.{SameVersions, same_range, same_ranges, same_ranges-equiv}
-use Rattle.pep_clause.specs.Laws.{cut_total, is_in-is_point, is_under-cut_cmp}
-use Rattle.pep_clause.specs.NormalLists.{IsNormal-spelled, Spelled}
-use Rattle.pep_clause.specs.OneCut.{one-cut}
-use Rattle.pep_clause.specs.PointLaws.{same_points}
+use Rattle.pep_clause.specs.Laws.{cut_total}
+use Rattle.pep_clause.proofs.UnderCut.{is_in-is_point, is_under-cut_cmp}
+use Rattle.pep_clause.proofs.NormalLists.{IsNormal-spelled, Spelled}
+use Rattle.pep_clause.proofs.OneCut.{one-cut}
+use Rattle.pep_clause.proofs.OneList.{same_points}
 use Rattle.pep_clause.specs.VersionSet.{IsNormal, Range, is_in, is_point}
 
 abbrev below : Cut → Cut → Bool
@@ -22,36 +24,6 @@ below c d = is_lt (cut_cmp c d)
 still_not_below : (p c d : Cut) → below p c ≡ false → below c d ≡ false → below p d ≡ false
 still_not_below p c d a b =
     by_answer (below p d) (λ t. cc (a, ap is_lt (below-not_above cut_total p d c (less_told (cut_cmp p d) t) b))) (λ f. f)
-
-or_false : (p q : Bool) → (p || q) ≡ false → (p ≡ false) × (q ≡ false)
-or_false true q e = cc e
-or_false false q e = (refl, e)
-
-or_true : (p q : Bool) → p ≡ false → (p || q) ≡ true → q ≡ true
-or_true true q e f = cc e
-or_true false q e f = f
-
-in_first : (p q rest : Bool) → p ≡ true → q ≡ false → ((p && not q) || rest) ≡ true
-in_first p q rest e f = rw (e, f) refl
-
-in_rest : (p rest : Bool) → rest ≡ true → (p || rest) ≡ true
-in_rest true rest e = refl
-in_rest false rest e = e
-
-under_low : (p q rest : Bool) → q ≡ true → rest ≡ false → ((p && not q) || rest) ≡ false
-under_low true q rest e f = rw (e, f) refl
-under_low false q rest e f = f
-
-past_high : (p q rest : Bool) → p ≡ false → rest ≡ false → ((p && q) || rest) ≡ false
-past_high p q rest e f = rw (e, f) refl
-
-not_true : (q : Bool) → not q ≡ true → q ≡ false
-not_true true e = cc e
-not_true false e = refl
-
-high_false : (p q : Bool) → (p && not q) ≡ false → q ≡ false → p ≡ false
-high_false true q e f = cc (e, f)
-high_false false q e f = refl
 
 -- a point of a list: up to some cut above it all are points
 until_high : (ranges : List Range) (c : Cut) → Spelled ranges → is_point ranges c ≡ true
@@ -64,18 +36,18 @@ until_high (r ∷ rest) c s e =
       r.high,
       s.1,
       parts.0,
-      λ p a b. in_first (below p r.high) (below p r.low) (is_point rest p) b (still_not_below p c r.low a (not_true (below c r.low) parts.1)),
+      λ p a b. and_not_or (below p r.high) (below p r.low) (is_point rest p) b (still_not_below p c r.low a (not-true (below c r.low) parts.1)),
     ))
     (λ f.
-    let more = until_high rest c s.2 (or_true (is_between cut_cmp r.low r.high c) (is_point rest c) f e) in
-    (more.0, more.1, more.2, λ p a b. in_rest (is_between cut_cmp r.low r.high p) (is_point rest p) (more.3 p a b)))
+    let more = until_high rest c s.2 (or_second (is_between cut_cmp r.low r.high c) (is_point rest c) f e) in
+    (more.0, more.1, more.2, λ p a b. or_right (is_between cut_cmp r.low r.high p) (is_point rest p) (more.3 p a b)))
 
 -- no point of a list: up to some cut above it, which is not above another, none are points
 until_low : (ranges : List Range) (c h : Cut) → Spelled ranges → IsCut h → below c h ≡ true → is_point ranges c ≡ false
     → (d : Cut) × IsCut d × (below c d ≡ true) × ((p : Cut) → below p c ≡ false → below p d ≡ true → (below p h ≡ true) × (is_point ranges p ≡ false))
 until_low [] c h s k e n = (h, k, e, λ p a b. (b, refl))
 until_low (r ∷ rest) c h s k e n =
-    let none = or_false (is_between cut_cmp r.low r.high c) (is_point rest c) n in
+    let none = or_parts (is_between cut_cmp r.low r.high c) (is_point rest c) n in
     let more = until_low rest c h s.2 k e none.1 in
     by_answer (below c r.low)
     (λ t. (
@@ -85,7 +57,7 @@ until_low (r ∷ rest) c h s k e n =
       λ p a b.
           let both = and_parts (below p more.0) (below p r.low) (sym (below-earlier cut_total p more.0 r.low) ∙ b) in
           let others = more.3 p a both.0 in
-          (others.0, under_low (below p r.high) (below p r.low) (is_point rest p) both.1 others.1),
+          (others.0, or_from (is_between cut_cmp r.low r.high p) (is_point rest p) (and_not_right (below p r.high) (below p r.low) both.1) others.1),
     ))
     (λ f. (
       more.0,
@@ -93,8 +65,8 @@ until_low (r ∷ rest) c h s k e n =
       more.2,
       λ p a b.
           let others = more.3 p a b in
-          let past : below p r.high ≡ false = still_not_below p c r.high a (high_false (below c r.high) (below c r.low) none.0 f) in
-          (others.0, past_high (below p r.high) (not (below p r.low)) (is_point rest p) past others.1),
+          let past : below p r.high ≡ false = still_not_below p c r.high a (and_not_first (below c r.high) (below c r.low) none.0 f) in
+          (others.0, or_from (is_between cut_cmp r.low r.high p) (is_point rest p) (and_left (below p r.high) (not (below p r.low)) past) others.1),
     ))
 
 -- a cut is no point of the one list alone: a version is between it and the next place where a list changes

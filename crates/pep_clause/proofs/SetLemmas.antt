@@ -10,12 +10,11 @@ use Rattle.pep_clause.specs.declared.clause.ClauseForm.{ClauseForm}
 use Rattle.pep_clause.specs.declared.clause.ClauseForm.TheVariants as stored
 use Rattle.pep_clause.specs.declared.fault.ClauseFault.{ClauseFault}
 use Rattle.pep_clause.specs.Admits.{admits}
-use Rattle.pep_clause.specs.Clause.{Clause, compatible, matching, matching_prefix, excluding, excluding_prefix, at_most, at_least, less_than, greater_than, demanded, demanded_text, prefix_of}
+use Rattle.pep_clause.specs.Clause.{Clause, compatible, matching, matching_prefix, excluding, excluding_prefix, at_most, at_least, less_than, greater_than, demanded, demanded_text}
 use Rattle.pep_clause.specs.ClauseView.{IsStored, clause_of}
-use Rattle.pep_clause.specs.Cut.{final_version}
-use Rattle.pep_clause.specs.Density.{normal-has_version}
+use Rattle.pep_clause.proofs.Density.{normal-has_version}
 use Rattle.pep_clause.specs.Inhabited.{HasVersionUnlessEmpty}
-use Rattle.pep_clause.specs.LeastCut.{IsNormal-all_versions, none-under_least}
+use Rattle.pep_clause.proofs.LeastCut.{IsNormal-all_versions, none-under_least}
 use Rattle.pep_clause.specs.OperatorTable.{set_of}
 use Rattle.pep_clause.specs.Valid.{IsValidClause}
 use Rattle.pep_clause.specs.VersionSet.{In, IsNormal, Range, all_versions, is_in}
@@ -117,14 +116,6 @@ empty-exactly (r ∷ rest) b n e =
     let some : b ≡ false = e ∙ sym (is_empty-length (r ∷ rest)) in
     let found = normal-has_version (r ∷ rest) n (λ none. cc none) in
     (λ t. cc (t, some), λ none. absurd (none found.0 found.1 found.2))
-
--- a prefix of a version is one
-pub IsVersion-prefix_of : (v : Version) → IsVersion v → IsVersion (final_version (prefix_of v))
-IsVersion-prefix_of v h = record {
-  release = h.release;
-  label = tt;
-  numbers = record { epoch = h.numbers.epoch; release = h.numbers.release; pre = tt; post = tt; dev = tt; label = tt };
-}
 
 -- a list has a version exactly if it has its place
 pub is_in-place_of : (ranges : List Range) (v : Version) → is_in ranges (place_of v) ≡ is_in ranges v

@@ -17,14 +17,7 @@ use Rattle.pep_clause.specs.OperatorTable.{before_place, greater_from, last, les
 use Rattle.pep_clause.proofs.NextPlace.{behind, done-under, last_post_not_below, next_by, parts, without_label}
 use Rattle.pep_clause.proofs.OrderRows.{dev-not_below_first, label-not_below, then_neither}
 use Rattle.pep_clause.proofs.Rows.{is_below-place_of, is_below-public, is_in-from_least, less_than-row}
-
-and_true : (b : Bool) → (b && true) ≡ b
-and_true true = refl
-and_true false = refl
-
-and_false : (b : Bool) → (b && false) ≡ false
-and_false true = refl
-and_false false = refl
+use Rattle.pep_version.proofs.Connectives.{and-false, and-true}
 
 -- ---- greater than a version
 
@@ -100,14 +93,14 @@ never_same Greater b = refl
 
 -- a developmental release has no post-release
 no_post_release : (b c some : Bool) → c ≡ false → not b ≡ not (b && (false || not (some && c)))
-no_post_release b c true e = rw e (ap not (sym (and_true b)))
-no_post_release b c false e = ap not (sym (and_true b))
+no_post_release b c true e = rw e (ap not (sym (and-true b)))
+no_post_release b c false e = ap not (sym (and-true b))
 
 greater_by : (e : ℕ) (r : List ℕ) (p : Option (Phase × ℕ)) (q d : Option ℕ) (v : Version) → NumbersFit v
     → is_under (greater_from (parts e r p q d)) v
     ≡ not (is_below (parts e r p q d) (public_version v) && (is_some q || not (is_post_release_of v (parts e r p q d))))
 greater_by e r p None None v h = done-under e r p last v refl h ∙ ap not (released_by e r p v h)
-greater_by e r p (Some n) d v h = next_by e r p (Some n) d v h ∙ ap not (sym (and_true (is_below (parts e r p (Some n) d) (public_version v))))
+greater_by e r p (Some n) d v h = next_by e r p (Some n) d v h ∙ ap not (sym (and-true (is_below (parts e r p (Some n) d) (public_version v))))
 greater_by e r p None (Some n) v h =
     next_by e r p None (Some n) v h
     ∙ no_post_release (is_below (parts e r p None (Some n)) (public_version v)) (is_same (without_post (without_dev (public_version v))) (parts e r p None (Some n))) (is_some v.post)
@@ -131,7 +124,7 @@ first_dev_by Less dev label = refl
 first_dev_by Greater dev label = refl
 first_dev_by Equal dev label =
     then_neither (dev_cmp dev (Some 0)) _ (dev-not_below_first dev) (label-not_below label)
-    ∙ sym (and_false (is_lt (ordering_then (dev_cmp dev None) Equal)))
+    ∙ sym (and-false (is_lt (ordering_then (dev_cmp dev None) Equal)))
 
 below_first_dev : (n : ℕ) (pre : Option (Phase × ℕ)) (post dev : Option ℕ) (label : List Segment)
     → is_lt (behind pre post dev None (Some n) (Some 0) (slice_cmp segment_cmp label []))
@@ -154,7 +147,7 @@ placed_below Greater some x y z t e = refl
 -- a pre-release keeps its own pre-releases
 less_itself : (w v : Version) → w.label ≡ [] → is_pre_release w ≡ true
     → is_under (before_place w) v ≡ (is_below (public_version v) w && (is_pre_release w || not (is_pre_release_of v w)))
-less_itself w v none e = rw e (is_below-place_of v w ∙ is_below-public v w none ∙ sym (and_true (is_below (public_version v) w)))
+less_itself w v none e = rw e (is_below-place_of v w ∙ is_below-public v w none ∙ sym (and-true (is_below (public_version v) w)))
 
 less_by : (e : ℕ) (r : List ℕ) (p : Option (Phase × ℕ)) (q d : Option ℕ) (v : Version)
     → is_under (less_to (parts e r p q d)) v

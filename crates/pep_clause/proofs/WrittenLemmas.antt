@@ -11,7 +11,7 @@ use Rattle.std.specs.List.{ends_with, list_all}
 use Rattle.std.specs.Prelude.{if◌then◌else◌, nat_eq, nat_lt}
 use Rattle.std.specs.Str.{str_to_ascii_lowercase}
 use Rattle.pep_version.proofs.SpelledLaws.{spelled-version}
-use Rattle.pep_version.proofs.Connectives.{and_first as and-first, and_second as and-second}
+use Rattle.pep_version.proofs.Connectives.{and_first, and_second, not-true, and-false}
 use Rattle.pep_version.specs.Spelling.{Reads, trimmed}
 use Rattle.pep_version.specs.Text.{is_text_byte, normal_text}
 use Rattle.pep_version.specs.Version.{IsVersion, Segment, Version, is_empty}
@@ -22,9 +22,10 @@ use Rattle.pep_clause.specs.declared.op.Op.TheVariants as op
 use Rattle.pep_clause.specs.Clause.{Clause, IsClause, Prefix, PrefixAnswers, ReadsClauseAs, ReadsThen, TargetAnswers, VersionAnswers, compatible, matching, matching_prefix, excluding, excluding_prefix, at_most, at_least, less_than, greater_than, demanded, demanded_of, clause_text, ends_in_space, fault_of, is_clause_byte, is_demanded_text, is_final, operator_of, operator_text, prefix_answer, prefix_clause, prefix_of, prefix_text, version_answer, version_clause}
 use Rattle.pep_clause.specs.Cut.{final_version}
 use Rattle.pep_clause.specs.Valid.{IsPrefix, IsValidClause}
-use Rattle.pep_clause.specs.OneAnswer.{one-clause-of}
-use Rattle.pep_clause.specs.Written.{clause-ink, ink-end, is_ink, not-white, weaker, written}
+use Rattle.pep_clause.proofs.OneAnswer.{one-clause-of}
+use Rattle.pep_clause.proofs.Written.{clause-ink, ink-end, is_ink, weaker, written}
 use Rattle.pep_clause.proofs.ReadLemmas.{lower-demanded}
+use Rattle.pep_clause.proofs.FinalVersion.{IsVersion-prefix_of}
 
 -- ---- one clause
 
@@ -75,19 +76,12 @@ version-valid op.Exact v c is h = absurd (apart c h)
     apart : (c : Clause) → Ok c ≡ Err fault.BadVersion → ⊥
     apart c e = cc e
 
-final-version : (v : Version) → IsVersion v → IsPrefix (prefix_of v)
-final-version v is = record {
-  release = is.release;
-  label = tt;
-  numbers = record { epoch = is.numbers.epoch; release = is.numbers.release; pre = tt; post = tt; dev = tt; label = tt };
-}
-
 star-apart : (c : Clause) → Ok c ≡ Err fault.StarNotAllowed → ⊥
 star-apart c e = cc e
 
 prefix-valid : (o : Op) (v : Version) (c : Clause) → IsVersion v → Ok c ≡ prefix_clause o (prefix_of v) → IsValidClause c
-prefix-valid op.Equal v c is h = let same : c ≡ matching_prefix (prefix_of v) = cc h in subst IsValidClause (sym same) (final-version v is)
-prefix-valid op.NotEqual v c is h = let same : c ≡ excluding_prefix (prefix_of v) = cc h in subst IsValidClause (sym same) (final-version v is)
+prefix-valid op.Equal v c is h = let same : c ≡ matching_prefix (prefix_of v) = cc h in subst IsValidClause (sym same) (IsVersion-prefix_of v is)
+prefix-valid op.NotEqual v c is h = let same : c ≡ excluding_prefix (prefix_of v) = cc h in subst IsValidClause (sym same) (IsVersion-prefix_of v is)
 prefix-valid o v c is h = absurd (star-apart c h)
 
 read-valid : (o : Op) (x : List ℕ) (c : Clause) → ReadsThen x (version_answer o) (Ok c) → IsValidClause c
@@ -153,14 +147,10 @@ text-clause b h = grind (arith, nat_tests)
 text-no-star : (b : ℕ) → is_text_byte b ≡ true → (42 == b) ≡ false
 text-no-star b h = grind (arith, nat_tests)
 
-and-false : (a : Bool) → (a && false) ≡ false
-and-false true = refl
-and-false false = refl
-
 all-drop : (p : ℕ → Bool) (xs : List ℕ) (n : ℕ) → list_all p xs ≡ true → list_all p (drop n xs) ≡ true
 all-drop p xs n h =
     let both : (list_all p (take n xs) && list_all p (drop n xs)) ≡ true = sym (list_all-append p (take n xs) (drop n xs)) ∙ ap (list_all p) (take-append-drop n xs) ∙ h in
-    and-second (list_all p (take n xs)) (list_all p (drop n xs)) both
+    and_second (list_all p (take n xs)) (list_all p (drop n xs)) both
 
 no-star : (xs : List ℕ) → list_all is_text_byte xs ≡ true → ends_with nat_eq xs (codes ".*") ≡ false
 no-star xs h = last (drop (length xs - 2) xs) (all-drop is_text_byte xs (length xs - 2) h)
@@ -169,7 +159,7 @@ no-star xs h = last (drop (length xs - 2) xs) (all-drop is_text_byte xs (length 
     last [] h = refl
     last (a ∷ []) h = and-false (46 == a)
     last (a ∷ b ∷ ys) h =
-        let byte = and-first (is_text_byte b) (list_all is_text_byte ys) (and-second (is_text_byte a) (list_all is_text_byte (b ∷ ys)) h) in
+        let byte = and_first (is_text_byte b) (list_all is_text_byte ys) (and_second (is_text_byte a) (list_all is_text_byte (b ∷ ys)) h) in
         let apart = text-no-star b byte in
         rw apart (and-false (46 == a))
 
@@ -213,18 +203,18 @@ kept-byte b h = grind arith
 demanded-lower : (xs : List ℕ) → list_all (λ b. is_clause_byte b && not (is_ascii_uppercase b)) xs ≡ true → str_to_ascii_lowercase xs ≡ xs
 demanded-lower [] h = refl
 demanded-lower (b ∷ xs) h =
-    let byte : (is_clause_byte b && not (is_ascii_uppercase b)) ≡ true = and-first _ (list_all (λ b. is_clause_byte b && not (is_ascii_uppercase b)) xs) h in
-    let small = kept-byte b (not-white (is_ascii_uppercase b) (and-second (is_clause_byte b) (not (is_ascii_uppercase b)) byte)) in
-    let more = demanded-lower xs (and-second (is_clause_byte b && not (is_ascii_uppercase b)) (list_all (λ b. is_clause_byte b && not (is_ascii_uppercase b)) xs) h) in
+    let byte : (is_clause_byte b && not (is_ascii_uppercase b)) ≡ true = and_first _ (list_all (λ b. is_clause_byte b && not (is_ascii_uppercase b)) xs) h in
+    let small = kept-byte b (not-true (is_ascii_uppercase b) (and_second (is_clause_byte b) (not (is_ascii_uppercase b)) byte)) in
+    let more = demanded-lower xs (and_second (is_clause_byte b && not (is_ascii_uppercase b)) (list_all (λ b. is_clause_byte b && not (is_ascii_uppercase b)) xs) h) in
     λ i. small i ∷ more i
 
 demanded-bytes : (xs : List ℕ) → list_all (λ b. is_clause_byte b && not (is_ascii_uppercase b)) xs ≡ true → list_all is_clause_byte xs ≡ true
-demanded-bytes = weaker (λ b. is_clause_byte b && not (is_ascii_uppercase b)) is_clause_byte (λ b h. and-first (is_clause_byte b) (not (is_ascii_uppercase b)) h)
+demanded-bytes = weaker (λ b. is_clause_byte b && not (is_ascii_uppercase b)) is_clause_byte (λ b h. and_first (is_clause_byte b) (not (is_ascii_uppercase b)) h)
 
 demanded-written : (xs : List ℕ) → is_demanded_text xs ≡ true → Ok (demanded xs) ≡ demanded_of xs
 demanded-written xs h =
-    let some = and-first (not (is_empty xs)) (list_all (λ b. is_clause_byte b && not (is_ascii_uppercase b)) xs) h in
-    let small = and-second (not (is_empty xs)) (list_all (λ b. is_clause_byte b && not (is_ascii_uppercase b)) xs) h in
+    let some = and_first (not (is_empty xs)) (list_all (λ b. is_clause_byte b && not (is_ascii_uppercase b)) xs) h in
+    let small = and_second (not (is_empty xs)) (list_all (λ b. is_clause_byte b && not (is_ascii_uppercase b)) xs) h in
     let bytes = demanded-bytes xs small in
     rw (some, bytes) (ap (λ (t : List ℕ). Ok (demanded t)) (sym (demanded-lower xs small)))
 
@@ -275,7 +265,7 @@ valid-written back has (at_least v) is = normal-written back has op.AtLeast v (a
 valid-written back has (less_than v) is = normal-written back has op.Less v (less_than v) is.0 (λ h. h) (public-gives v.label _ is.1)
 valid-written back has (greater_than v) is = normal-written back has op.More v (greater_than v) is.0 (λ h. h) (public-gives v.label _ is.1)
 valid-written back has (demanded text) is =
-    written op.Exact text (demanded text) (demanded-bytes text (and-second (not (is_empty text)) (list_all (λ b. is_clause_byte b && not (is_ascii_uppercase b)) text) is)) (demanded-written text is)
+    written op.Exact text (demanded text) (demanded-bytes text (and_second (not (is_empty text)) (list_all (λ b. is_clause_byte b && not (is_ascii_uppercase b)) text) is)) (demanded-written text is)
 
 -- what some text is read as is read back from its own text
 pub clause-written : ReadsBack → HasTextBytes → (text : List ℕ) (c : Clause) → IsClause text c → IsClause (clause_text c) c

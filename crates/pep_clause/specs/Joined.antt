@@ -1,12 +1,19 @@
 -- THE CODE'S WAY, and no definition of what two sets have in common: each range of the one list with each of the
 -- other.
-use Rattle.std.specs.Prelude.{◌&&◌, Bool, false, List, [], ◌∷◌, ◌++◌}
+use Rattle.std.specs.Prelude.{◌&&◌, Bool, false, List, [], ◌∷◌, ◌++◌, if◌then◌else◌}
 use Rattle.std.specs.List.{list_all}
-use Rattle.std.specs.Ordering.{is_ge}
-use Rattle.pep_clause.specs.Between.{earlier, later}
+use Rattle.std.specs.Ordering.{is_ge, is_lt}
+use Rattle.std.specs.declared.cmp.Ordering.{Ordering}
 use Rattle.pep_clause.specs.Cut.{cut_cmp}
 use Rattle.pep_clause.specs.OperatorTable.{range}
 use Rattle.pep_clause.specs.VersionSet.{Range}
+
+-- the later of two places, and the earlier
+abbrev pub later : {K : Type 0} → (K → K → Ordering) → K → K → K
+later R a b = if is_lt (R a b) then b else a
+
+abbrev pub earlier : {K : Type 0} → (K → K → Ordering) → K → K → K
+earlier R a b = if is_lt (R a b) then a else b
 
 -- what two ranges have in common: one range or none
 abbrev pub range_joined : Range → Range → List Range

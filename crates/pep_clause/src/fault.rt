@@ -28,6 +28,26 @@ pub enum ClauseFault {
     NoMemory,
 }
 
+impl ClauseFault {
+    ghost use Rattle.std.specs.Prelude.{◌≡◌};
+    ghost use Rattle.pep_clause.specs.Code.{clause_code};
+
+    /// The code of the fault, which stands at each one above.
+    pub fn code(self) -> u64
+        ensures { result ≡ clause_code self }
+    {
+        match self {
+            ClauseFault::NoOperator => 11,
+            ClauseFault::BadVersion => 12,
+            ClauseFault::StarNotAllowed => 13,
+            ClauseFault::LocalNotAllowed => 14,
+            ClauseFault::OneNumber => 15,
+            ClauseFault::NumberTooLarge => 16,
+            ClauseFault::NoMemory => 17,
+        }
+    }
+}
+
 impl From<AllocError> for ClauseFault {
     ghost use Rattle.std.specs.Prelude.{◌≡◌};
     ghost use Rattle.pep_clause.specs.declared.fault.ClauseFault.TheVariants.{NoMemory};

@@ -1,13 +1,14 @@
 // Laws of clauses and of version sets, as contracts.
 
-ghost use Rattle.std.specs.Prelude.{◌≡◌, ℕ, List};
+ghost use Rattle.std.specs.Prelude.{◌≡◌, ◌≢◌, ℕ, Err, List, Result};
 ghost use Rattle.pep_version.specs.Order.{place_of};
 ghost use Rattle.pep_version.specs.Version.{Version};
-ghost use Rattle.pep_clause.specs.Clause.{Clause, IsClause, clause_text};
-ghost use Rattle.pep_clause.specs.PointLaws.{SamePoints};
-ghost use Rattle.pep_clause.specs.SetEquality.{SameVersions};
+ghost use Rattle.pep_clause.specs.Clause.{Clause, ClauseOf, IsClause, clause_text};
+ghost use Rattle.pep_clause.specs.SetEquality.{SamePoints, SameVersions};
 ghost use Rattle.pep_clause.specs.VersionSet.{IsNormal, Range, is_in};
 
+use crate::fault::ClauseFault;
+use crate::op::Op;
 use pep_version::laws;
 
 /// A version set has one normal list: two normal lists of ranges with the same points are one list.
@@ -30,6 +31,13 @@ pub fn place_is_in()
 /// A text is read as at most one clause.
 pub fn one_clause()
     ensures { (text : List ℕ) (c d : Clause) → IsClause text c → IsClause text d → c ≡ d }
+{}
+
+/// An operator and a text behind it have at most one answer, a clause or a refusal, where memory does not lack.
+pub fn one_answer()
+    ensures { (operator : Op) (text : List ℕ) (answer other : Result Clause ClauseFault)
+        → ClauseOf operator text answer → ClauseOf operator text other
+        → answer ≢ Err ClauseFault.NoMemory → other ≢ Err ClauseFault.NoMemory → answer ≡ other }
 {}
 
 /// What some text is read as, is read back from its own text: with `one_clause`, from no other clause's.

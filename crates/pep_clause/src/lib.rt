@@ -1,6 +1,7 @@
 //! Version specifier clauses, cuts and version sets, by PEP 440.
 #![tactic(auto)]
 
+mod bytes;
 mod clause;
 mod cut;
 mod fault;
@@ -14,6 +15,7 @@ mod set_tests;
 #[cfg(test)]
 mod tests;
 
+pub use crate::bytes::{clause_run, is_clause_byte};
 pub use crate::clause::Clause;
 pub use crate::cut::Cut;
 pub use crate::fault::ClauseFault;

@@ -3,9 +3,8 @@
 ghost use Rattle.std.specs.Prelude.{◌≡◌, ◌&&◌, not, option_to_list, IfErr, IfOk};
 ghost use Rattle.std.specs.Cmp.{partial_equiv_from_equiv};
 ghost use Rattle.std.specs.declared.cmp.Ordering.TheVariants.{Less};
-ghost use Rattle.pep_clause.specs.Between.{earlier, later};
+ghost use Rattle.pep_clause.specs.Joined.{earlier, later, range_joined, is_within};
 ghost use Rattle.pep_clause.specs.Cut.{IsCut, cut_cmp, is_under};
-ghost use Rattle.pep_clause.specs.Joined.{range_joined, is_within};
 ghost use Rattle.pep_clause.specs.OperatorTable.{range};
 ghost use Rattle.pep_clause.specs.SetEquality.{same_range, same_range-equiv};
 

@@ -12,7 +12,7 @@ pub enum MarkerFault {
     #[error("an unknown variable")]
     UnknownVariable,
     /// 23: a variable has no value.
-    #[error("a variable is missing")]
+    #[error("the variable `{0}` is missing")]
     MissingVariable(Variable),
     /// 24: a variable has two values.
     #[error("a variable is given twice")]
@@ -38,7 +38,7 @@ impl MarkerFault {
     ghost use Rattle.std.specs.Prelude.{◌≡◌};
     ghost use Rattle.pep_marker.specs.Code.{marker_code};
 
-    /// The code that a refusal is told with: 21 to 29.
+    /// The code of the fault, which stands at each one above.
     pub fn code(self) -> u64
         ensures { result ≡ marker_code self }
     {

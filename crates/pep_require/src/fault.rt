@@ -13,13 +13,13 @@ pub enum RequireFault {
     #[error("not a list of extras")]
     BadExtras,
     /// 33: a clause is faulty.
-    #[error("a faulty clause")]
+    #[error("a faulty clause: {0}")]
     BadClause(ClauseFault),
     /// 34: the URL is faulty.
     #[error("not a URL")]
     BadUrl,
     /// 35: the marker is faulty.
-    #[error("a faulty marker")]
+    #[error("a faulty marker: {0}")]
     BadMarker(MarkerFault),
     /// 36: something else follows.
     #[error("something else follows")]
@@ -36,6 +36,41 @@ pub enum RequireFault {
     /// 40: a growth was refused.
     #[error("out of memory")]
     NoMemory,
+}
+
+impl RequireFault {
+    ghost use Rattle.std.specs.Prelude.{◌≡◌};
+    ghost use Rattle.pep_require.specs.Code.{require_code, require_inner_code};
+
+    /// The code of the fault, which stands at each one above.
+    pub fn code(self) -> u64
+        ensures { result ≡ require_code self }
+    {
+        match self {
+            RequireFault::BadName => 31,
+            RequireFault::BadExtras => 32,
+            RequireFault::BadClause(_) => 33,
+            RequireFault::BadUrl => 34,
+            RequireFault::BadMarker(_) => 35,
+            RequireFault::Trailing => 36,
+            RequireFault::OptionLine => 37,
+            RequireFault::LineTooLong => 38,
+            RequireFault::UrlOverflow => 39,
+            RequireFault::NoMemory => 40,
+        }
+    }
+
+    /// The code of the fault inside it, of a clause or of a marker: see [`ClauseFault::code`] and
+    /// [`MarkerFault::code`].
+    pub fn inner_code(self) -> Option<u64>
+        ensures { result ≡ require_inner_code self }
+    {
+        match self {
+            RequireFault::BadClause(fault) => Some(fault.code()),
+            RequireFault::BadMarker(fault) => Some(fault.code()),
+            _ => None,
+        }
+    }
 }
 
 impl From<AllocError> for RequireFault {

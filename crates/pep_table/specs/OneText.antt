@@ -8,7 +8,7 @@ use Rattle.std.specs.Ordering.{nat_cmp}
 use Rattle.std.specs.declared.cmp.Ordering.TheVariants.{Less}
 use Rattle.std.proofs.lemmas.Slice.Eq.{bytes_eq-Decides}
 use Rattle.pep_clause.specs.Cut.{Cut, IsCut}
-use Rattle.pep_clause.specs.PointLaws.{same_points}
+use Rattle.pep_clause.proofs.OneList.{same_points}
 use Rattle.pep_clause.specs.VersionSet.{IsPoint, all_versions, is_point}
 use Rattle.pep_clause.specs.Clause.{demanded}
 use Rattle.pep_require.specs.Requirement.{IsAscending}

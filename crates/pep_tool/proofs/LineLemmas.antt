@@ -10,8 +10,8 @@ use Rattle.std.proofs.lemmas.List.Folds.{length-prefix_len}
 use Rattle.std.proofs.lemmas.List.Splits.{length-slice_split, slice_split-cons_no, slice_split-cons_yes}
 use Rattle.std.proofs.lemmas.Str.{IsUtf8-from_ascii}
 use Rattle.pep_clause.specs.Clause.{Clause, ClauseOf, demanded, demanded_text, is_clause_byte, operator_of, operator_text}
-use Rattle.pep_clause.specs.OneAnswer.{clause_told, no-clause-of-nothing, one-answer}
-use Rattle.pep_clause.specs.OperatorLaws.{operator_shape}
+use Rattle.pep_clause.proofs.OneAnswer.{clause_told, no-clause-of-nothing, one-answer}
+use Rattle.pep_clause.proofs.OperatorLemmas.{operator_shape}
 use Rattle.pep_clause.specs.declared.fault.ClauseFault.{ClauseFault}
 use Rattle.pep_clause.specs.declared.fault.ClauseFault.TheVariants as clause_fault
 use Rattle.pep_clause.specs.declared.op.Op.{Op}

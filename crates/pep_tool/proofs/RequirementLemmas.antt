@@ -3,7 +3,7 @@ use Rattle.std.proofs.Common.{◌≡◌, ℕ, ◌==◌, ◌≤◌, List, [], ◌
 use Rattle.std.specs.List.{AllZip, join_with_byte}
 use Rattle.std.proofs.lemmas.List.Splits.{join_with_byte-slice_split, length-slice_split}
 use Rattle.pep_clause.specs.Clause.{Clause, operator_text}
-use Rattle.pep_clause.specs.Written.{written-of}
+use Rattle.pep_clause.proofs.Written.{written-of}
 use Rattle.pep_require.specs.Reads.{IsBound, Reads, ReadsBounds as ReadsTargetBounds, ReadsExtras, ReadsTarget, Spaces, always, bare, no_comma, none}
 use Rattle.pep_require.specs.Requirement.{RequirementParts, bounds}
 use Rattle.pep_tool.specs.Line.{ReadsBound, ReadsBounds, ReadsLine, pieces_of, plain_requirement}

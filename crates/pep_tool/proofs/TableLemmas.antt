@@ -14,7 +14,7 @@ use Rattle.pep_version.specs.Version.{Version}
 use Rattle.pep_clause.specs.Admits.{Admits, admits}
 use Rattle.pep_clause.specs.Clause.{Clause, demanded, compatible, matching, matching_prefix, excluding, excluding_prefix, at_most, at_least, less_than, greater_than, demanded_text}
 use Rattle.pep_clause.specs.Cut.{Cut, IsCut}
-use Rattle.pep_clause.specs.LeastCut.{point-all_versions}
+use Rattle.pep_clause.proofs.LeastCut.{point-all_versions}
 use Rattle.pep_clause.specs.OperatorTable.{set_of}
 use Rattle.pep_clause.specs.VersionSet.{IsNormal, IsPoint, Range, all_versions, is_point}
 use Rattle.pep_marker.specs.Name.{IsNormalName}

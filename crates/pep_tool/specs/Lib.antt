@@ -3,6 +3,8 @@ pub mod Lists
 pub mod Gathered
 pub mod Merge
 pub mod Refusal
+pub mod Code
+pub mod InnerFault
 pub mod FaultLine
 pub mod Device
 pub mod Plan

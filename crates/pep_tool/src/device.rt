@@ -11,9 +11,11 @@ pub use crate::device::bytes::Bytes;
 pub use crate::device::sink::Sink;
 pub use crate::device::source::Source;
 use std::marker::Model;
+use thiserror::Error;
 
 /// A call on a device failed.
-#[derive(Clone, Copy, Debug, PartialEq, Eq)]
+#[derive(Clone, Copy, Debug, PartialEq, Eq, Error)]
+#[error("a read or a write failed")]
 pub struct Failed;
 
 /// A reader or a writer of std that counts its calls. Clauses see it as the reader or writer, and a device.

@@ -1,15 +1,15 @@
 //! Faults of inputs and of the program, and the line that tells one.
 
 ghost use Rattle.std.specs.Prelude.{◌≡◌, ◌++◌, ◌∷◌, codes, decimal, string_bytes, OnOk, option_to_list};
-ghost use Rattle.pep_version.specs.Code.{version_code};
-ghost use Rattle.pep_tool.specs.FaultLine.{clause_code, marker_code, require_codes, line_codes, cause_codes, codes_text, place_text, line_text, words_text};
+ghost use Rattle.pep_tool.specs.Code.{cause_code, inner_codes, line_code, line_inner_code};
+ghost use Rattle.pep_tool.specs.FaultLine.{codes_text, place_text, line_text, words_text};
 
 use itoa::Buffer;
-use pep_clause::ClauseFault;
-use pep_marker::MarkerFault;
 use pep_require::RequireFault;
 use pep_version::VersionFault;
 use std::alloc::{AllocError, AllocFailed, Global};
+use std::fmt;
+use thiserror::Error;
 
 /// Where a fault lies.
 #[derive(Clone, Copy, Debug, PartialEq, Eq)]
@@ -21,31 +21,132 @@ pub enum Place {
 }
 
 /// What is wrong with a line.
-#[derive(Clone, Copy, Debug, PartialEq, Eq)]
+#[derive(Clone, Copy, Debug, PartialEq, Eq, Error)]
 pub enum LineFault {
     /// 31 to 40: the line is no requirement.
+    #[error("{0}")]
     Requirement(RequireFault),
     /// 51: the line isn't UTF-8.
+    #[error("not UTF-8")]
     NotUtf8,
 }
 
+impl LineFault {
+    /// The code of the fault: 31 to 40, see [`RequireFault::code`], or 51.
+    pub fn code(self) -> u64
+        ensures { result ≡ line_code self }
+    {
+        match self {
+            LineFault::Requirement(fault) => fault.code(),
+            LineFault::NotUtf8 => 51,
+        }
+    }
+
+    /// The code of the fault inside it, of a clause or of a marker: see [`RequireFault::inner_code`].
+    pub fn inner_code(self) -> Option<u64>
+        ensures { result ≡ line_inner_code self }
+    {
+        match self {
+            LineFault::Requirement(fault) => fault.inner_code(),
+            LineFault::NotUtf8 => None,
+        }
+    }
+}
+
+impl From<RequireFault> for LineFault {
+    ghost use Rattle.pep_tool.specs.declared.fault.LineFault.TheVariants.{Requirement};
+
+    ghost from_gives = { λ f e. e ≡ Requirement f };
+
+    fn from(fault: RequireFault) -> LineFault {
+        LineFault::Requirement(fault)
+    }
+}
+
+impl From<AllocError> for LineFault {
+    ghost use Rattle.pep_require.specs.declared.fault.RequireFault.TheVariants.{NoMemory};
+    ghost use Rattle.pep_tool.specs.declared.fault.LineFault.TheVariants.{Requirement};
+
+    ghost from_gives = { λ _ e. e ≡ Requirement NoMemory };
+
+    fn from(_: AllocError) -> LineFault {
+        LineFault::Requirement(RequireFault::NoMemory)
+    }
+}
+
+impl<T: Drop> From<AllocFailed<T>> for LineFault {
+    ghost use Rattle.pep_require.specs.declared.fault.RequireFault.TheVariants.{NoMemory};
+    ghost use Rattle.pep_tool.specs.declared.fault.LineFault.TheVariants.{Requirement};
+
+    ghost from_gives = { λ _ e. e ≡ Requirement NoMemory };
+
+    fn from(_: AllocFailed<T>) -> LineFault {
+        LineFault::Requirement(RequireFault::NoMemory)
+    }
+}
+
 /// What is wrong.
-#[derive(Debug, Drop)]
+#[derive(Debug, Drop, Error)]
 pub enum Cause {
     /// 56: the input has more than 16,777,216 bytes.
+    #[error("more than 16,777,216 bytes")]
     TooLarge,
     /// 57: a line is refused. Lines are counted from 1.
+    #[error("line {0}: {1}")]
     Line(u64, LineFault),
     /// 58: a read failed.
+    #[error("a read failed")]
     ReadFault,
     /// 60: a growth was refused.
+    #[error("out of memory")]
     NoMemory,
     /// 61: the words of the command line are refused, with the text that tells why.
+    #[error("{0}")]
     BadWords(String),
     /// 62: a version on the command line can't be read.
+    #[error("a faulty version: {0}")]
     BadArgument(VersionFault),
     /// 63: a write failed.
+    #[error("a write failed")]
     WriteFault,
+}
+
+impl Cause {
+    /// The code of the cause, which stands at each one above. A refused line and a refused version have codes inside it:
+    /// see [`LineFault::code`] and [`VersionFault::code`].
+    pub fn code(&self) -> u64
+        ensures { result ≡ cause_code self.now }
+    {
+        match self {
+            Cause::TooLarge => 56,
+            Cause::Line(_, _) => 57,
+            Cause::ReadFault => 58,
+            Cause::NoMemory => 60,
+            Cause::BadWords(_) => 61,
+            Cause::BadArgument(_) => 62,
+            Cause::WriteFault => 63,
+        }
+    }
+}
+
+impl From<AllocError> for Cause {
+    ghost use Rattle.pep_tool.specs.declared.fault.Cause.TheVariants.{NoMemory};
+
+    ghost from_gives = { λ _ e. e ≡ NoMemory };
+
+    fn from(_: AllocError) -> Cause {
+        Cause::NoMemory
+    }
+}
+
+impl<T: Drop> From<AllocFailed<T>> for Cause {
+    ghost use Rattle.pep_tool.specs.declared.fault.Cause.TheVariants.{NoMemory};
+
+    ghost from_gives = { λ _ e. e ≡ NoMemory };
+
+    fn from(_: AllocFailed<T>) -> Cause {
+        Cause::NoMemory
+    }
 }
 
 /// A refusal: its cause, and where it lies.
@@ -54,6 +155,17 @@ pub struct Fault {
     pub place: Place,
     pub cause: Cause,
 }
+
+impl fmt::Display for Fault {
+    fn fmt<W: fmt::Write>(&self, f: &mut fmt::Formatter<W>) -> fmt::Result {
+        match self.place {
+            Place::Nowhere => write!(f, "{}", self.cause),
+            Place::Input(number) => write!(f, "input {number}: {}", self.cause),
+        }
+    }
+}
+
+impl std::error::Error for Fault {}
 
 impl Fault {
     ghost use Rattle.std.specs.Prelude.{◌≡◌, IfOk, IfErr, string_bytes};
@@ -83,7 +195,8 @@ impl Fault {
         push_place(&mut text, self.place)?;
         push_line(&mut text, &self.cause)?;
         text.push_str(" code")?;
-        push_codes(&mut text, &self.cause)?;
+        push_number(&mut text, self.cause.code())?;
+        push_inner_codes(&mut text, &self.cause)?;
         text.push_str("\n")?;
         push_words(&mut text, &self.cause)?;
         Ok(text)
@@ -91,7 +204,6 @@ impl Fault {
 }
 
 impl From<AllocError> for Fault {
-    ghost use Rattle.std.specs.Prelude.{◌≡◌};
     ghost use Rattle.pep_tool.specs.declared.fault.Cause.TheVariants.{NoMemory};
     ghost use Rattle.pep_tool.specs.declared.fault.Place.TheVariants.{Nowhere};
 
@@ -103,7 +215,6 @@ impl From<AllocError> for Fault {
 }
 
 impl<T: Drop> From<AllocFailed<T>> for Fault {
-    ghost use Rattle.std.specs.Prelude.{◌≡◌};
     ghost use Rattle.pep_tool.specs.declared.fault.Cause.TheVariants.{NoMemory};
     ghost use Rattle.pep_tool.specs.declared.fault.Place.TheVariants.{Nowhere};
 
@@ -114,74 +225,19 @@ impl<T: Drop> From<AllocFailed<T>> for Fault {
     }
 }
 
-// The code of a fault of a version.
-fn version_code(fault: VersionFault) -> u64
-    ensures { result ≡ version_code fault }
-{
-    match fault {
-        VersionFault::NotAVersion => 1,
-        VersionFault::NumberTooLarge => 2,
-        VersionFault::NoMemory => 3,
-    }
-}
+impl From<VersionFault> for Fault {
+    ghost use Rattle.pep_tool.specs.InnerFault.{fault_of_version};
 
-// The code of a fault of a clause.
-fn clause_code(fault: ClauseFault) -> u64
-    ensures { result ≡ clause_code fault }
-{
-    match fault {
-        ClauseFault::NoOperator => 11,
-        ClauseFault::BadVersion => 12,
-        ClauseFault::StarNotAllowed => 13,
-        ClauseFault::LocalNotAllowed => 14,
-        ClauseFault::OneNumber => 15,
-        ClauseFault::NumberTooLarge => 16,
-        ClauseFault::NoMemory => 17,
-    }
-}
+    ghost from_gives = { λ f e. e ≡ fault_of_version f };
 
-// The code of a fault of a marker, a name or an environment.
-fn marker_code(fault: MarkerFault) -> u64
-    ensures { result ≡ marker_code fault }
-{
-    match fault {
-        MarkerFault::BadName => 21,
-        MarkerFault::UnknownVariable => 22,
-        MarkerFault::MissingVariable(_) => 23,
-        MarkerFault::RepeatedVariable => 24,
-        MarkerFault::BadValue => 25,
-        MarkerFault::BadMarker => 26,
-        MarkerFault::TooDeep => 27,
-        MarkerFault::Undefined => 28,
-        MarkerFault::NoMemory => 29,
-    }
-}
-
-// The code of a fault of a requirement, and the code of the fault inside it.
-fn require_codes(fault: RequireFault) -> (u64, Option<u64>)
-    ensures { require_codes fault ≡ result.0 ∷ option_to_list result.1 }
-{
-    match fault {
-        RequireFault::BadName => (31, None),
-        RequireFault::BadExtras => (32, None),
-        RequireFault::BadClause(inner) => (33, Some(clause_code(inner))),
-        RequireFault::BadUrl => (34, None),
-        RequireFault::BadMarker(inner) => (35, Some(marker_code(inner))),
-        RequireFault::Trailing => (36, None),
-        RequireFault::OptionLine => (37, None),
-        RequireFault::LineTooLong => (38, None),
-        RequireFault::UrlOverflow => (39, None),
-        RequireFault::NoMemory => (40, None),
-    }
-}
-
-// The code of a fault of a line, and the code of the fault inside it.
-fn line_codes(fault: LineFault) -> (u64, Option<u64>)
-    ensures { line_codes fault ≡ result.0 ∷ option_to_list result.1 }
-{
-    match fault {
-        LineFault::Requirement(inner) => require_codes(inner),
-        LineFault::NotUtf8 => (51, None),
+    fn from(fault: VersionFault) -> Fault {
+        match fault {
+            VersionFault::NoMemory => Fault::no_memory(),
+            fault => Fault {
+                place: Place::Nowhere,
+                cause: Cause::BadArgument(fault),
+            },
+        }
     }
 }
 
@@ -223,35 +279,25 @@ fn push_line(text: &mut String, cause: &Cause) -> Result<(), AllocError>
 // Appends the codes of a fault of a line.
 fn push_line_codes(text: &mut String, fault: LineFault) -> Result<(), AllocError>
     ensures { OnOk result
-        (string_bytes text.new ≡ string_bytes text.old ++ codes_text (line_codes fault)) }
+        (string_bytes text.new
+            ≡ string_bytes text.old ++ codes_text (line_code fault ∷ option_to_list (line_inner_code fault))) }
 {
-    let (code, inner) = line_codes(fault);
-    push_number(text, code)?;
-    match inner {
+    push_number(text, fault.code())?;
+    match fault.inner_code() {
         Some(inner) => push_number(text, inner),
         None => Ok(()),
     }
 }
 
-// Appends the codes.
-fn push_codes(text: &mut String, cause: &Cause) -> Result<(), AllocError>
+// Appends the codes of the faults inside a cause.
+fn push_inner_codes(text: &mut String, cause: &Cause) -> Result<(), AllocError>
     ensures { OnOk result
-        (string_bytes text.new ≡ string_bytes text.old ++ codes_text (cause_codes cause.now)) }
+        (string_bytes text.new ≡ string_bytes text.old ++ codes_text (inner_codes cause.now)) }
 {
     match cause {
-        Cause::TooLarge => push_number(text, 56),
-        Cause::Line(_, fault) => {
-            push_number(text, 57)?;
-            push_line_codes(text, *fault)
-        }
-        Cause::ReadFault => push_number(text, 58),
-        Cause::NoMemory => push_number(text, 60),
-        Cause::BadWords(_) => push_number(text, 61),
-        Cause::BadArgument(fault) => {
-            push_number(text, 62)?;
-            push_number(text, version_code(*fault))
-        }
-        Cause::WriteFault => push_number(text, 63),
+        Cause::Line(_, fault) => push_line_codes(text, *fault),
+        Cause::BadArgument(fault) => push_number(text, fault.code()),
+        _ => Ok(()),
     }
 }
 

@@ -11,7 +11,6 @@ mod merge;
 mod plan;
 mod print;
 mod program;
-mod runs;
 mod sets;
 mod write;
 

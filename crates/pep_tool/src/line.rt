@@ -7,9 +7,8 @@ ghost use Rattle.pep_marker.specs.Name.{is_name_byte, name_of};
 ghost use Rattle.pep_tool.specs.Line.{IsOperand, ReadsBound, RefusesBound, RefusesBounds, RefusesLine, RefusesOperand};
 ghost use Rattle.pep_tool.specs.Sets.{MeansBound, MeansBounds, MeansLine};
 
-use crate::runs::clause_run;
 use crate::sets::narrow;
-use pep_clause::{Clause, ClauseFault, Op, VersionSet};
+use pep_clause::{Clause, ClauseFault, Op, VersionSet, clause_run};
 use pep_marker::{MarkerFault, Name, name_run, without_leading_blanks};
 use pep_require::RequireFault;
 use pep_version::first_part;

@@ -5,23 +5,12 @@ ghost use Rattle.std.specs.List.{list_all};
 ghost use Rattle.pep_version.specs.Version.{IsVersion, is_empty};
 ghost use Rattle.pep_clause.specs.Clause.{TargetAnswers, ends_in_space, is_clause_byte, is_final, prefix_answer, version_answer};
 
+use crate::bytes::has_clause_bytes;
 use crate::clause::{Clause, ClauseForm};
 use crate::fault::ClauseFault;
 use crate::op::Op;
 use pep_version::{Version, trimmed, without_trailing_space};
 use std::alloc::Global;
-
-fn is_clause_byte(b: u8) -> bool
-    ensures { result ≡ is_clause_byte b }
-{
-    b.is_ascii_alphanumeric() || matches!(b, b'-' | b'_' | b'.' | b'*' | b'+' | b'!')
-}
-
-fn has_clause_bytes(text: &[u8]) -> bool
-    ensures { result ≡ list_all is_clause_byte text.now }
-{
-    text.iter().all(|b| is_clause_byte(*b))
-}
 
 // Whether the text may stand behind `===`.
 fn is_clause_text(text: &[u8]) -> bool

@@ -1,4 +1,4 @@
-use Rattle.pep_clause.specs.PointLaws.{same_points}
+use Rattle.pep_clause.proofs.OneList.{same_points}
 use Rattle.pep_clause.proofs.laws.one_list.Goals as goal
 
 pub returns : goal.returns

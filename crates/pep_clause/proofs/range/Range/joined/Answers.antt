@@ -1,6 +1,6 @@
 use Rattle.std.proofs.Common.{◌≡◌, sym, ◌∙◌}
 use Rattle.std.specs.declared.cmp.Ordering.TheVariants.{Less}
-use Rattle.pep_clause.specs.Between.{less_told}
+use Rattle.pep_clause.proofs.Between.{less_told}
 use Rattle.pep_clause.specs.Cut.{cut_cmp}
 use Rattle.pep_clause.proofs.range.Range.joined.Goals as goal
 

@@ -1,5 +1,5 @@
 use Rattle.std.proofs.Common.{◌≡◌, ◌∙◌, subst}
-use Rattle.pep_clause.specs.Density.{normal-has_version}
+use Rattle.pep_clause.proofs.Density.{normal-has_version}
 use Rattle.pep_clause.specs.Joined.{joined}
 use Rattle.pep_clause.specs.VersionSet.{IsNormal, is_in, is_point}
 use Rattle.pep_clause.proofs.JoinedPoints.{is_in-joined, is_point-joined}

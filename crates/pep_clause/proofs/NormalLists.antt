@@ -6,7 +6,7 @@ use Rattle.std.specs.declared.cmp.Ordering.TheVariants.{Less}
 use Rattle.pep_clause.specs.Cut.{Cut, IsCut, cut_cmp}
 use Rattle.pep_clause.specs.Laws.{cut_total}
 use Rattle.pep_clause.specs.VersionSet.{IsIncreasing, IsNormal, Range, cuts}
-use Rattle.pep_clause.specs.Between.{not_above-below}
+use Rattle.pep_clause.proofs.Between.{not_above-below}
 
 -- a cut below another
 abbrev pub Under : Cut → Cut → Type 0

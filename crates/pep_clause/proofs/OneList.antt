@@ -1,71 +1,45 @@
 -- A version set has one normal list: two normal lists with the same points are one list. All cuts are meant, also
 -- those between which no version lies.
-use Rattle.std.proofs.Common.{◌≡◌, ◌&&◌, ◌||◌, Bool, true, false, not, List, [], ◌∷◌, refl, sym, ap, ◌∙◌}
+use Rattle.std.proofs.Common.{◌≡◌, ◌||◌, true, false, not, List, [], ◌∷◌, refl, sym, ap, ◌∙◌}
 use Rattle.std.specs.Ordering.{is_lt}
 use Rattle.pep_clause.specs.Cut.{Cut, IsCut, cut_cmp}
 use Rattle.pep_clause.specs.Laws.{cut_total}
 use Rattle.pep_clause.specs.VersionSet.{IsNormal, Range, is_point}
-use Rattle.pep_clause.specs.Between.{by_answer, is_between, less_told, not_above-test, not_below_itself, not_turned, tied_told}
-use Rattle.pep_clause.specs.NormalLists.{AllAbove, Apart, IsNormal-apart, IsNormal-spelled, Spelled}
-use Rattle.pep_clause.specs.OneCut.{one-cut}
-
--- the two lists have the same points
-abbrev pub SamePoints : List Range → List Range → Type 0
-SamePoints ranges others = (c : Cut) → IsCut c → is_point ranges c ≡ is_point others c
-
-or_right : (p q : Bool) → p ≡ false → q ≡ false → (p || q) ≡ false
-or_right true q e f = cc e
-or_right false q e f = f
-
-outside_high : (p q : Bool) → p ≡ false → (p && q) ≡ false
-outside_high true q e = cc e
-outside_high false q e = refl
-
-outside_low : (p q : Bool) → q ≡ true → (p && not q) ≡ false
-outside_low true true e = refl
-outside_low true false e = cc e
-outside_low false q e = refl
-
-inside : (p q rest : Bool) → p ≡ true → q ≡ false → ((p && not q) || rest) ≡ true
-inside true true rest e f = cc f
-inside true false rest e f = refl
-inside false q rest e f = cc e
+use Rattle.pep_clause.proofs.Between.{is_between, less_told, not_above-test, not_below_itself, not_turned, tied_told}
+use Rattle.pep_version.proofs.Connectives.{by_answer, and_left, and_not_or, and_not_right, answers_differ, or_from}
+use Rattle.pep_clause.proofs.NormalLists.{AllAbove, Apart, IsNormal-apart, IsNormal-spelled, Spelled}
+use Rattle.pep_clause.proofs.OneCut.{one-cut}
+use Rattle.pep_clause.specs.SetEquality.{SamePoints}
 
 -- a cut that is not above another lies in no range that begins above that
 none_below : (high c : Cut) (rest : List Range) → AllAbove high rest → is_lt (cut_cmp high c) ≡ false → is_point rest c ≡ false
 none_below high c [] h e = refl
 none_below high c (r ∷ rest) h e =
-    or_right (is_between cut_cmp r.low r.high c) (is_point rest c)
-    (outside_low (is_lt (cut_cmp c r.high)) (is_lt (cut_cmp c r.low)) (not_above-test cut_total c high r.low e (ap is_lt h.0)))
+    or_from (is_between cut_cmp r.low r.high c) (is_point rest c)
+    (and_not_right (is_lt (cut_cmp c r.high)) (is_lt (cut_cmp c r.low)) (not_above-test cut_total c high r.low e (ap is_lt h.0)))
     (none_below high c rest h.1 e)
 
 -- a cut of the first range's own is a point
 first_point : (r : Range) (rest : List Range) (c : Cut) → is_lt (cut_cmp c r.high) ≡ true → is_lt (cut_cmp c r.low) ≡ false → is_point (r ∷ rest) c ≡ true
-first_point r rest c e f = inside (is_lt (cut_cmp c r.high)) (is_lt (cut_cmp c r.low)) (is_point rest c) e f
+first_point r rest c e f = and_not_or (is_lt (cut_cmp c r.high)) (is_lt (cut_cmp c r.low)) (is_point rest c) e f
 
 -- under the first range there is no point
 none_under_first : (r : Range) (rest : List Range) (c : Cut) → Apart (r ∷ rest) → is_lt (cut_cmp c r.low) ≡ true → is_point (r ∷ rest) c ≡ false
 none_under_first r rest c h e =
-    or_right (is_between cut_cmp r.low r.high c) (is_point rest c)
-    (outside_low (is_lt (cut_cmp c r.high)) (is_lt (cut_cmp c r.low)) e)
+    or_from (is_between cut_cmp r.low r.high c) (is_point rest c)
+    (and_not_right (is_lt (cut_cmp c r.high)) (is_lt (cut_cmp c r.low)) e)
     (none_below r.high c rest h.1 (not_turned cut_total c r.high (cut_total.trans c r.low r.high (less_told (cut_cmp c r.low) e) h.0)))
 
 -- above the first range the points are those of the others
 past_first : (r : Range) (rest : List Range) (c : Cut) → is_lt (cut_cmp c r.high) ≡ false → is_point (r ∷ rest) c ≡ is_point rest c
-past_first r rest c e = ap (λ b. b || is_point rest c) (outside_high (is_lt (cut_cmp c r.high)) (not (is_lt (cut_cmp c r.low))) e)
-
--- where one list has a point that the other has not, they have not the same points
-differ : {G : Type 0} (p q : Bool) → p ≡ q → p ≡ true → q ≡ false → G
-differ true true e f g = cc g
-differ true false e f g = cc e
-differ false q e f g = cc f
+past_first r rest c e = ap (λ b. b || is_point rest c) (and_left (is_lt (cut_cmp c r.high)) (not (is_lt (cut_cmp c r.low))) e)
 
 -- the first range of the one does not begin under that of the other
 begins_no_earlier : (r s : Range) (rest more : List Range) → Apart (r ∷ rest) → Apart (s ∷ more)
     → is_point (r ∷ rest) r.low ≡ is_point (s ∷ more) r.low → is_lt (cut_cmp r.low s.low) ≡ false
 begins_no_earlier r s rest more h g e =
     by_answer (is_lt (cut_cmp r.low s.low))
-    (λ t. differ (is_point (r ∷ rest) r.low) (is_point (s ∷ more) r.low) e
+    (λ t. answers_differ (is_point (r ∷ rest) r.low) (is_point (s ∷ more) r.low) e
     (first_point r rest r.low (ap is_lt h.0) (not_below_itself cut_total r.low))
     (none_under_first s more r.low g t))
     (λ t. t)
@@ -75,7 +49,7 @@ ends_no_earlier : (r s : Range) (rest more : List Range) → Apart (r ∷ rest) 
     → is_point (r ∷ rest) r.high ≡ is_point (s ∷ more) r.high → is_lt (cut_cmp r.high s.high) ≡ false
 ends_no_earlier r s rest more h low e =
     by_answer (is_lt (cut_cmp r.high s.high))
-    (λ t. differ (is_point (s ∷ more) r.high) (is_point (r ∷ rest) r.high) (sym e)
+    (λ t. answers_differ (is_point (s ∷ more) r.high) (is_point (r ∷ rest) r.high) (sym e)
     (first_point s more r.high t ((λ i. is_lt (cut_cmp r.high (sym low i))) ∙ not_turned cut_total r.low r.high h.0))
     (past_first r rest r.high (not_below_itself cut_total r.high) ∙ none_below r.high r.high rest h.1 (not_below_itself cut_total r.high)))
     (λ t. t)
@@ -108,10 +82,10 @@ same_rest r s rest more h g high same c spelled =
 one_list : (ranges others : List Range) → Apart ranges → Apart others → Spelled ranges → Spelled others → SamePoints ranges others → ranges ≡ others
 one_list [] [] h g e f same = refl
 one_list [] (s ∷ more) h g e f same =
-    differ (is_point (s ∷ more) s.low) false (sym (same s.low f.0))
+    answers_differ (is_point (s ∷ more) s.low) false (sym (same s.low f.0))
     (first_point s more s.low (ap is_lt g.0) (not_below_itself cut_total s.low)) refl
 one_list (r ∷ rest) [] h g e f same =
-    differ (is_point (r ∷ rest) r.low) false (same r.low e.0)
+    answers_differ (is_point (r ∷ rest) r.low) false (same r.low e.0)
     (first_point r rest r.low (ap is_lt h.0) (not_below_itself cut_total r.low)) refl
 one_list (r ∷ rest) (s ∷ more) h g e f same =
     let low = one_low r s rest more h g e.0 f.0 same in

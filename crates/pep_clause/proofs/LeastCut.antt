@@ -9,8 +9,11 @@ use Rattle.std.specs.declared.cmp.Ordering.TheVariants.{Less, Equal, Greater}
 use Rattle.pep_version.specs.Order.{dev_cmp, pre_number, release_cmp, segment_cmp, stage, suffix_cmp}
 use Rattle.pep_version.specs.Version.{Segment, Version}
 use Rattle.pep_clause.specs.Cut.{Cut, before, after, past, end, cut_cmp, final_version, is_under, least}
-use Rattle.pep_clause.specs.Laws.{cut_total, is_under-cut_cmp}
+use Rattle.pep_clause.specs.Laws.{cut_total}
+use Rattle.pep_clause.proofs.UnderCut.{is_under-cut_cmp}
 use Rattle.pep_clause.specs.VersionSet.{IsNormal, Range, all_versions, is_point}
+use Rattle.pep_version.proofs.Connectives.{and-true, and_left, or-false, or_from}
+use Rattle.pep_clause.proofs.Between.{is_between}
 
 then_not_above : (r s : Ordering) → is_le r ≡ true → is_le s ≡ true → is_le (ordering_then r s) ≡ true
 then_not_above Less s e f = refl
@@ -97,20 +100,12 @@ end-below_none end = refl
 
 -- the points of all versions are the cuts but `end`
 pub is_point-all_versions : (c : Cut) → is_point all_versions c ≡ not (is_end c)
-is_point-all_versions c = (λ i. (below-end c i && not (none-below_least c i)) || false) ∙ and_true_or (not (is_end c))
-  where
-    and_true_or : (b : Bool) → ((b && true) || false) ≡ b
-    and_true_or true = refl
-    and_true_or false = refl
-
-no_point : (p q rest : Bool) → p ≡ false → rest ≡ false → ((p && q) || rest) ≡ false
-no_point true q rest e f = cc e
-no_point false q rest e f = f
+is_point-all_versions c = (λ i. (below-end c i && not (none-below_least c i)) || false) ∙ or-false (not (is_end c) && true) ∙ and-true (not (is_end c))
 
 -- `end` is a point of no list
 pub end-no_point : (ranges : List Range) → is_point ranges end ≡ false
 end-no_point [] = refl
-end-no_point (r ∷ rest) = no_point (is_lt (cut_cmp end r.high)) (not (is_lt (cut_cmp end r.low))) (is_point rest end) (end-below_none r.high) (end-no_point rest)
+end-no_point (r ∷ rest) = or_from (is_between cut_cmp r.low r.high end) (is_point rest end) (and_left (is_lt (cut_cmp end r.high)) (not (is_lt (cut_cmp end r.low))) (end-below_none r.high)) (end-no_point rest)
 
 -- a point of a list is a point of all versions
 pub point-all_versions : (ranges : List Range) (c : Cut) → is_point ranges c ≡ true → is_point all_versions c ≡ true

@@ -1,6 +1,7 @@
 -- Between two cuts, one below the other, there is a version. So a normal list that has a range has a version.
-use Rattle.std.proofs.Common.{◌≡◌, ℕ, ◌<◌, ◌≤◌, ◌&&◌, ◌||◌, Bool, true, false, not, List, [], ◌∷◌, ◌++◌, length, refl, sym, ap, inl, inr, ◌∙◌, arith}
-use Rattle.std.proofs.lemmas.Bool.{and_parts, cases_order}
+use Rattle.std.proofs.Common.{◌≡◌, ℕ, ◌<◌, ◌≤◌, ◌&&◌, true, false, List, [], ◌∷◌, ◌++◌, length, refl, sym, ap, inl, inr, ◌∙◌, arith}
+use Rattle.std.proofs.lemmas.Bool.{cases_order}
+use Rattle.pep_version.proofs.Connectives.{and_parts, by_answer, and_not_or, or_second}
 use Rattle.std.proofs.lemmas.Bool.Decides.{nat_tests}
 use Rattle.std.specs.Char.{is_ascii_digit, is_ascii_lowercase}
 use Rattle.std.specs.Cmp.{IsTotalOrder, nat_cmp_is, nat_cmp_total, on_total, then_total, tied_itself}
@@ -14,12 +15,13 @@ use Rattle.std.specs.declared.cmp.Ordering.TheVariants.{Less, Equal, Greater}
 use Rattle.pep_version.specs.Laws.{dev_total, place_total, segment_total}
 use Rattle.pep_version.specs.Order.{dev_cmp, place_cmp, pre_number, stage, release_cmp, segment_cmp, suffix_cmp}
 use Rattle.pep_version.specs.Version.{Fits, IsSegment, IsVersion, Segment, SegmentFits, number, Version, is_word, is_word_byte, word}
-use Rattle.pep_clause.specs.Between.{by_answer, not_below_itself}
+use Rattle.pep_clause.proofs.Between.{not_below_itself}
 use Rattle.pep_clause.specs.Clause.{Prefix}
 use Rattle.pep_clause.specs.Cut.{Cut, IsCut, before, after, past, end, cut_cmp, cut_version, final_version, is_under}
 use Rattle.pep_clause.specs.Inhabited.{HasVersionUnlessEmpty}
-use Rattle.pep_clause.specs.Laws.{cut_total, is_under-cut_cmp}
-use Rattle.pep_clause.specs.LeastCut.{end-below_none}
+use Rattle.pep_clause.specs.Laws.{cut_total}
+use Rattle.pep_clause.proofs.UnderCut.{is_under-cut_cmp}
+use Rattle.pep_clause.proofs.LeastCut.{end-below_none}
 use Rattle.pep_clause.specs.VersionSet.{IsNormal, Range, is_in}
 
 -- below at a later part of a chain is below in the chain
@@ -108,10 +110,6 @@ digit_above b e = grind (arith, nat_tests)
 not_below_then : (b : ℕ) (r : Ordering) → 48 ≤ b → r ≡ Less → ordering_then (nat_cmp 48 b) r ≡ Less
 not_below_then b r h e =
     elim (cases_order 48 b) [ inl same ↦ rw (sym (nat_cmp_is 48 b Equal same)) e | inr d ↦ elim d [ inl above ↦ rw (sym (nat_cmp_is 48 b Less above)) refl | inr below ↦ absurd (omega arith) ] ]
-
-or_second : (p q : Bool) → p ≡ false → (p || q) ≡ true → q ≡ true
-or_second true q e f = cc e
-or_second false q e f = f
 
 -- the list made so is below any word
 zeros-below_word : (letters : List ℕ) → list_all is_word_byte letters ≡ true → list_any is_ascii_lowercase letters ≡ true
@@ -252,12 +250,9 @@ between_cuts (past r) d is other e =
     (later_release r d, later_release-version r d is.0, later_release-above r d, under-below (later_release r d) d (later_release-below r d e))
 between_cuts end d is other e = cc (ap is_lt e, end-below_none d)
 
-in_first : (p q rest : Bool) → p ≡ true → q ≡ false → ((p && not q) || rest) ≡ true
-in_first p q rest e f = rw (e, f) refl
-
 -- a normal list that has a range has a version
 pub normal-has_version : (ranges : List Range) → IsNormal ranges → HasVersionUnlessEmpty ranges
 normal-has_version [] n some = absurd (some refl)
 normal-has_version (r ∷ rest) n some =
     let found = between_cuts r.low r.high n.spelled.0 n.spelled.1.0 n.increasing.0 in
-    (found.0, found.1, in_first (is_under r.high found.0) (is_under r.low found.0) (is_in rest found.0) found.3 found.2)
+    (found.0, found.1, and_not_or (is_under r.high found.0) (is_under r.low found.0) (is_in rest found.0) found.3 found.2)

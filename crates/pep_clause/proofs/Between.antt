@@ -6,6 +6,8 @@ use Rattle.std.specs.Ordering.{is_lt, ordering_reverse}
 use Rattle.std.specs.Prelude.{if◌then◌else◌}
 use Rattle.std.specs.declared.cmp.Ordering.{Ordering}
 use Rattle.std.specs.declared.cmp.Ordering.TheVariants.{Less, Equal, Greater}
+use Rattle.pep_clause.specs.Joined.{earlier, later}
+use Rattle.pep_version.proofs.Connectives.{and_given, and_given_second, and_not_given, not_given, not_given_second}
 
 pub less_told : (r : Ordering) → is_lt r ≡ true → r ≡ Less
 less_told Less e = refl
@@ -26,45 +28,9 @@ tied_told Greater Less e f g = cc g
 tied_told Greater Equal e f g = cc e
 tied_told Greater Greater e f g = cc e
 
--- an answer by cases
-pub by_answer : {G : Type 0} (b : Bool) → (b ≡ true → G) → (b ≡ false → G) → G
-by_answer true f g = f refl
-by_answer false f g = g refl
-
--- the later of two places, and the earlier
-abbrev pub later : {K : Type 0} → (K → K → Ordering) → K → K → K
-later R a b = if is_lt (R a b) then b else a
-
-abbrev pub earlier : {K : Type 0} → (K → K → Ordering) → K → K → K
-earlier R a b = if is_lt (R a b) then a else b
-
 -- below the high place, and not below the low one
 abbrev pub is_between : {K : Type 0} → (K → K → Ordering) → K → K → K → Bool
 is_between R low high c = is_lt (R c high) && not (is_lt (R c low))
-
-and_below : (p q : Bool) → (p ≡ true → q ≡ true) → p ≡ (p && q)
-and_below true q f = sym (f refl)
-and_below false q f = refl
-
-and_above : (p q : Bool) → (q ≡ true → p ≡ true) → q ≡ (p && q)
-and_above true q f = refl
-and_above false true f = sym (f refl)
-and_above false false f = refl
-
-not_and_below : (p q : Bool) → (q ≡ true → p ≡ true) → not p ≡ (not p && not q)
-not_and_below true q f = refl
-not_and_below false true f = cc (f refl)
-not_and_below false false f = refl
-
-not_and_above : (p q : Bool) → (p ≡ true → q ≡ true) → not q ≡ (not p && not q)
-not_and_above true true f = refl
-not_and_above true false f = cc (f refl)
-not_and_above false q f = refl
-
-neither : (p q : Bool) → (p ≡ true → q ≡ true) → (p && not q) ≡ false
-neither true true f = refl
-neither true false f = cc (f refl)
-neither false q f = refl
 
 module _ {K : Type 0} {R : K → K → Ordering} (o : IsTotalOrder R) where
   turned_less : (x y : K) → R x y ≡ Greater → R y x ≡ Less
@@ -96,8 +62,8 @@ module _ {K : Type 0} {R : K → K → Ordering} (o : IsTotalOrder R) where
   -- below the earlier of two places is below both
   earlier_by : (b : Bool) (c x y : K) → is_lt (R x y) ≡ b
       → is_lt (R c (if b then x else y)) ≡ (is_lt (R c x) && is_lt (R c y))
-  earlier_by true c x y e = and_below (is_lt (R c x)) (is_lt (R c y)) (λ f. ap is_lt (o.trans c x y (less_told _ f) (less_told _ e)))
-  earlier_by false c x y e = and_above (is_lt (R c x)) (is_lt (R c y)) (λ f. ap is_lt (below-not_above c y x (less_told _ f) e))
+  earlier_by true c x y e = and_given (is_lt (R c x)) (is_lt (R c y)) (λ f. ap is_lt (o.trans c x y (less_told _ f) (less_told _ e)))
+  earlier_by false c x y e = and_given_second (is_lt (R c x)) (is_lt (R c y)) (λ f. ap is_lt (below-not_above c y x (less_told _ f) e))
 
   pub below-earlier : (c x y : K) → is_lt (R c (earlier R x y)) ≡ (is_lt (R c x) && is_lt (R c y))
   below-earlier c x y = earlier_by (is_lt (R x y)) c x y refl
@@ -105,15 +71,15 @@ module _ {K : Type 0} {R : K → K → Ordering} (o : IsTotalOrder R) where
   -- not below the later of two places is below neither
   later_by : (b : Bool) (c x y : K) → is_lt (R x y) ≡ b
       → not (is_lt (R c (if b then y else x))) ≡ (not (is_lt (R c x)) && not (is_lt (R c y)))
-  later_by true c x y e = not_and_above (is_lt (R c x)) (is_lt (R c y)) (λ f. ap is_lt (o.trans c x y (less_told _ f) (less_told _ e)))
-  later_by false c x y e = not_and_below (is_lt (R c x)) (is_lt (R c y)) (λ f. ap is_lt (below-not_above c y x (less_told _ f) e))
+  later_by true c x y e = not_given_second (is_lt (R c x)) (is_lt (R c y)) (λ f. ap is_lt (o.trans c x y (less_told _ f) (less_told _ e)))
+  later_by false c x y e = not_given (is_lt (R c x)) (is_lt (R c y)) (λ f. ap is_lt (below-not_above c y x (less_told _ f) e))
 
   pub not_below-later : (c x y : K) → not (is_lt (R c (later R x y))) ≡ (not (is_lt (R c x)) && not (is_lt (R c y)))
   not_below-later c x y = later_by (is_lt (R x y)) c x y refl
 
   -- nothing lies between places that are not in order
   pub none_between : (low high c : K) → is_lt (R low high) ≡ false → is_between R low high c ≡ false
-  none_between low high c h = neither (is_lt (R c high)) (is_lt (R c low)) (λ f. ap is_lt (below-not_above c high low (less_told _ f) h))
+  none_between low high c h = and_not_given (is_lt (R c high)) (is_lt (R c low)) (λ f. ap is_lt (below-not_above c high low (less_told _ f) h))
 
   -- the later of two places is not above a place that neither is above; the earlier is above none that either is
   -- not above

@@ -5,7 +5,7 @@ use Rattle.std.proofs.Math.Seq.{drop-append_seam}
 use Rattle.std.proofs.lemmas.Bool.Decides.{nat_tests}
 use Rattle.std.proofs.lemmas.List.Folds.{list_all-append}
 use Rattle.std.specs.List.{list_all}
-use Rattle.pep_version.proofs.Connectives.{and_first as and-first, and_second as and-second}
+use Rattle.pep_version.proofs.Connectives.{and_first, and_second, not-true}
 use Rattle.pep_version.specs.Spelling.{trimmed, without_leading_space, without_trailing_space}
 use Rattle.pep_version.specs.Bytes.{is_white_space}
 use Rattle.pep_clause.specs.declared.op.Op.{Op}
@@ -15,26 +15,22 @@ use Rattle.pep_clause.specs.Clause.{Clause, ClauseOf, IsClause, IsClauseOf, Read
 abbrev pub is_ink : ℕ → Bool
 is_ink b = not (is_white_space b)
 
-pub not-white : (w : Bool) → not w ≡ true → w ≡ false
-not-white true h = cc h
-not-white false h = refl
-
 pub ink-front : (xs : List ℕ) → list_all is_ink xs ≡ true → without_leading_space xs ≡ xs
 ink-front [] h = refl
-ink-front (x ∷ xs) h = rw (not-white (is_white_space x) (and-first (is_ink x) (list_all is_ink xs) h)) refl
+ink-front (x ∷ xs) h = rw (not-true (is_white_space x) (and_first (is_ink x) (list_all is_ink xs) h)) refl
 
 pub ink-end : (xs : List ℕ) → list_all is_ink xs ≡ true → without_trailing_space xs ≡ xs
 ink-end [] h = refl
 ink-end (x ∷ xs) h =
-    let more = ink-end xs (and-second (is_ink x) (list_all is_ink xs) h) in
-    rw (not-white (is_white_space x) (and-first (is_ink x) (list_all is_ink xs) h)) (ap (λ (l : List ℕ). x ∷ l) more)
+    let more = ink-end xs (and_second (is_ink x) (list_all is_ink xs) h) in
+    rw (not-true (is_white_space x) (and_first (is_ink x) (list_all is_ink xs) h)) (ap (λ (l : List ℕ). x ∷ l) more)
 
 pub ink-trimmed : (xs : List ℕ) → list_all is_ink xs ≡ true → trimmed xs ≡ xs
 ink-trimmed xs h = ap without_trailing_space (ink-front xs h) ∙ ink-end xs h
 
 pub weaker : (p q : ℕ → Bool) → ((b : ℕ) → p b ≡ true → q b ≡ true) → (xs : List ℕ) → list_all p xs ≡ true → list_all q xs ≡ true
 weaker p q w [] h = refl
-weaker p q w (x ∷ xs) h = rw (w x (and-first (p x) (list_all p xs) h)) (weaker p q w xs (and-second (p x) (list_all p xs) h))
+weaker p q w (x ∷ xs) h = rw (w x (and_first (p x) (list_all p xs) h)) (weaker p q w xs (and_second (p x) (list_all p xs) h))
 
 pub clause-ink : (b : ℕ) → is_clause_byte b ≡ true → is_ink b ≡ true
 clause-ink b h = grind (arith, nat_tests)
@@ -56,14 +52,14 @@ operator-ink op.Exact = refl
 pub operator-found : (o : Op) (x : List ℕ) → list_all is_clause_byte x ≡ true → operator_of (operator_text o ++ x) ≡ Some o
 operator-found op.Compatible x h = refl
 operator-found op.Equal [] h = refl
-operator-found op.Equal (b ∷ x) h = let apart = clause-not-equal b (and-first (is_clause_byte b) (list_all is_clause_byte x) h) in rw apart refl
+operator-found op.Equal (b ∷ x) h = let apart = clause-not-equal b (and_first (is_clause_byte b) (list_all is_clause_byte x) h) in rw apart refl
 operator-found op.NotEqual x h = refl
 operator-found op.AtMost x h = refl
 operator-found op.AtLeast x h = refl
 operator-found op.Less [] h = refl
-operator-found op.Less (b ∷ x) h = let apart = clause-not-equal b (and-first (is_clause_byte b) (list_all is_clause_byte x) h) in rw apart refl
+operator-found op.Less (b ∷ x) h = let apart = clause-not-equal b (and_first (is_clause_byte b) (list_all is_clause_byte x) h) in rw apart refl
 operator-found op.More [] h = refl
-operator-found op.More (b ∷ x) h = let apart = clause-not-equal b (and-first (is_clause_byte b) (list_all is_clause_byte x) h) in rw apart refl
+operator-found op.More (b ∷ x) h = let apart = clause-not-equal b (and_first (is_clause_byte b) (list_all is_clause_byte x) h) in rw apart refl
 operator-found op.Exact x h = refl
 
 -- an operator and what is read behind it

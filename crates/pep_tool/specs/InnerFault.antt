@@ -1,0 +1,11 @@
+-- The faults of the program for faults inside them. Want of memory has no place.
+use Rattle.pep_version.specs.declared.fault.VersionFault.{VersionFault}
+use Rattle.pep_version.specs.declared.fault.VersionFault.TheVariants as version
+use Rattle.pep_tool.specs.declared.fault.Cause.TheVariants.{BadArgument, NoMemory}
+use Rattle.pep_tool.specs.declared.fault.Fault.{Fault}
+use Rattle.pep_tool.specs.declared.fault.Place.TheVariants.{Nowhere}
+
+-- of a version on the command line that is refused
+abbrev pub fault_of_version : VersionFault → Fault
+fault_of_version version.NoMemory = record { place = Nowhere; cause = NoMemory }
+fault_of_version f = record { place = Nowhere; cause = BadArgument f }
