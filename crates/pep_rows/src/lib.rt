@@ -2,6 +2,8 @@
 #![tactic(auto)]
 
 #[cfg(test)]
+mod clauses;
+#[cfg(test)]
 mod commands;
 #[cfg(test)]
 mod limits;
@@ -13,5 +15,7 @@ mod lists;
 mod names;
 #[cfg(test)]
 mod operators;
+#[cfg(test)]
+mod sets;
 #[cfg(test)]
 mod streams;
