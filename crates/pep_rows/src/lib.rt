@@ -19,3 +19,5 @@ mod operators;
 mod sets;
 #[cfg(test)]
 mod streams;
+#[cfg(test)]
+mod vectors;

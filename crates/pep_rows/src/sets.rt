@@ -1,5 +1,6 @@
 //! Sets of clauses: their cuts, with carries at the largest number, their order, and which versions they hold.
 
+use crate::vectors::ORDERED;
 use pep_clause::{Clause, ClauseFault, Cut, VersionSet, laws};
 use pep_version::{Key, Phase, Version};
 use std::alloc::Global;
@@ -42,35 +43,8 @@ const OPERANDS: [&str; 27] = [
 // Behind each operand, where that is a spelling: the operand itself, and versions near it.
 const ENDINGS: [&str; 6] = ["", ".dev0", ".post0", ".post0.dev0", "+a", ".0.1"];
 
-const CANDIDATES: [&str; 41] = [
-    // Each is below the next.
-    "0.dev0",
-    "0a0.dev0",
-    "0",
-    "0.0.1.dev0",
-    "1.0.dev1",
-    "1.0.dev2",
-    "1.0a1.dev1",
-    "1.0a1",
-    "1.0a1.post0.dev0",
-    "1.0a1.post0",
-    "1.0a2",
-    "1.0b1",
-    "1.0rc1",
-    "1.0",
-    "1.0+00a",
-    "1.0+0a",
-    "1.0+abc.5",
-    "1.0+abc.10",
-    "1.0+9",
-    "1.0+10",
-    "1.0+10.a",
-    "1.0.post1.dev3",
-    "1.0.post1",
-    "1.0.1",
-    "1.1.dev0",
-    "1!0.dev0",
-    // Where ranges begin or end beside the operands.
+// Where ranges begin or end beside the operands.
+const NEAR: [&str; 15] = [
     "0.dev1",
     "1.0a0.dev0",
     "1.0a0",
@@ -324,7 +298,7 @@ fn clauses(alloc: Global) -> Result<Vec<Clause>, ClauseFault> {
 
 fn candidates(alloc: Global) -> Result<Vec<Version>, ClauseFault> {
     let mut versions = Vec::new(alloc);
-    for text in CANDIDATES {
+    for text in ORDERED.iter().chain(NEAR.iter()) {
         versions.push(Version::read(alloc, text)?)?;
     }
     for operand in OPERANDS {
