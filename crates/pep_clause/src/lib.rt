@@ -10,10 +10,6 @@ mod op;
 mod range;
 mod range_ends;
 mod set;
-#[cfg(test)]
-mod set_tests;
-#[cfg(test)]
-mod tests;
 
 pub use crate::bytes::{clause_run, is_clause_byte};
 pub use crate::clause::Clause;

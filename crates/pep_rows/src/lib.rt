@@ -2,6 +2,8 @@
 #![tactic(auto)]
 
 #[cfg(test)]
+mod clauses;
+#[cfg(test)]
 mod commands;
 #[cfg(test)]
 mod example;
@@ -22,4 +24,8 @@ mod names;
 #[cfg(test)]
 mod operators;
 #[cfg(test)]
+mod sets;
+#[cfg(test)]
 mod streams;
+#[cfg(test)]
+mod vectors;

@@ -1,10 +1,11 @@
-// Sets of clauses: their printed ranges, with carries at the largest number, and which versions they hold.
+//! Sets of clauses: their cuts, with carries at the largest number, their order, and which versions they hold.
 
-use super::*;
-use pep_version::{Key, Version};
+use crate::vectors::ORDERED;
+use pep_clause::{Clause, ClauseFault, Cut, VersionSet, laws};
+use pep_version::{Key, Phase, Version};
 use std::alloc::Global;
 use std::process::Abort;
-use std::test::*;
+use std::test::Fail;
 
 const OPERATORS: [&str; 8] = ["~=", "==", "!=", "<=", ">=", "<", ">", "==="];
 
@@ -42,35 +43,8 @@ const OPERANDS: [&str; 27] = [
 // Behind each operand, where that is a spelling: the operand itself, and versions near it.
 const ENDINGS: [&str; 6] = ["", ".dev0", ".post0", ".post0.dev0", "+a", ".0.1"];
 
-const CANDIDATES: [&str; 41] = [
-    // Each is below the next.
-    "0.dev0",
-    "0a0.dev0",
-    "0",
-    "0.0.1.dev0",
-    "1.0.dev1",
-    "1.0.dev2",
-    "1.0a1.dev1",
-    "1.0a1",
-    "1.0a1.post0.dev0",
-    "1.0a1.post0",
-    "1.0a2",
-    "1.0b1",
-    "1.0rc1",
-    "1.0",
-    "1.0+00a",
-    "1.0+0a",
-    "1.0+abc.5",
-    "1.0+abc.10",
-    "1.0+9",
-    "1.0+10",
-    "1.0+10.a",
-    "1.0.post1.dev3",
-    "1.0.post1",
-    "1.0.1",
-    "1.1.dev0",
-    "1!0.dev0",
-    // Where ranges begin or end beside the operands.
+// Where ranges begin or end beside the operands.
+const NEAR: [&str; 15] = [
     "0.dev1",
     "1.0a0.dev0",
     "1.0a0",
@@ -88,27 +62,90 @@ const CANDIDATES: [&str; 41] = [
     "1!0.dev1",
 ];
 
-fn set(alloc: Global, clause: &str) -> Result<VersionSet, ClauseFault> {
-    VersionSet::of(alloc, &Clause::read(alloc, clause)?)
+fn version(alloc: Global, text: &str) -> Result<Version, ClauseFault> {
+    Ok(Version::read(alloc, text)?)
 }
 
-// The texts of the cuts of the clause's ranges are these.
+fn set(alloc: Global, text: &str) -> Result<VersionSet, ClauseFault> {
+    VersionSet::of(alloc, &Clause::read(alloc, text)?)
+}
+
+// The place of a version of two release numbers.
+fn key(
+    alloc: Global,
+    release: [u64; 2],
+    pre: Option<(Phase, u64)>,
+    post: Option<u64>,
+    dev: Option<u64>,
+) -> Result<Key, ClauseFault> {
+    let numbers = Vec::from_slice(alloc, &release)?;
+    let version = Version::of_parts(0, numbers, pre, post, dev, Vec::new(alloc));
+    Ok(Key::of(alloc, &version.ok_or(ClauseFault::BadVersion)?)?)
+}
+
+// The texts of a set's cuts are these.
 fn expect_cuts(
     rt: &impl Abort,
     alloc: Global,
-    clause: &str,
+    set: &VersionSet,
     wanted: &[&str],
 ) -> Result<(), ClauseFault> {
-    let set = set(alloc, clause)?;
     let mut texts = Vec::new(alloc);
     for range in set.ranges() {
         texts.push(range.low().text(alloc)?)?;
         texts.push(range.high().text(alloc)?)?;
     }
-    assert_eq!(rt; texts.len(), wanted.len(), "cuts of {clause}");
+    assert_eq!(rt; texts.len(), wanted.len());
     for (text, want) in texts.iter().zip(wanted) {
-        assert_eq!(rt; text.as_str(), *want, "a cut of {clause}");
+        assert_eq!(rt; text.as_str(), *want);
     }
+    Ok(())
+}
+
+// Which of `>=1.0` and `<1.0` admit each.
+#[test]
+fn holds_what_a_clause_admits(rt: HostRuntime) -> Result<(), Fail> {
+    let alloc = rt.alloc();
+    let from = set(alloc, ">=1.0")?;
+    let below = set(alloc, "<1.0")?;
+    let beta = Some((Phase::Beta, 1));
+    for (release, pre, post, dev, in_from, in_below) in [
+        ([1, 0], None, None, None, true, false),
+        ([1, 1], None, None, None, true, false),
+        ([1, 0], None, Some(1), None, true, false),
+        ([1, 0], None, Some(1), Some(0), true, false),
+        ([1, 1], beta, None, None, true, false),
+        ([1, 0], beta, None, None, false, false),
+        ([1, 0], None, None, Some(0), false, false),
+        ([0, 9], None, None, None, false, true),
+        ([0, 9], None, Some(3), None, false, true),
+        ([0, 9], beta, None, None, false, true),
+        ([0, 0], None, None, Some(0), false, true),
+    ] {
+        let key = key(alloc, release, pre, post, dev)?;
+        assert_eq!(rt; from.contains(&key), in_from, "`>=` at {release:?}");
+        assert_eq!(rt; below.contains(&key), in_below, "`<` at {release:?}");
+    }
+    Ok(())
+}
+
+#[test]
+fn writes_cuts(rt: HostRuntime) -> Result<(), Fail> {
+    let alloc = rt.alloc();
+    expect_cuts(&rt, alloc, &set(alloc, ">=1.0")?, &["before 1", "end"])?;
+    expect_cuts(
+        &rt,
+        alloc,
+        &set(alloc, "<0.10")?,
+        &["before 0.dev0", "before 0.10.dev0"],
+    )?;
+    expect_cuts(
+        &rt,
+        alloc,
+        &VersionSet::all(alloc)?,
+        &["before 0.dev0", "end"],
+    )?;
+    expect_cuts(&rt, alloc, &VersionSet::none(alloc), &[])?;
     Ok(())
 }
 
@@ -134,10 +171,43 @@ fn ranges_of_clauses(rt: HostRuntime) -> Result<(), Fail> {
         (">1.7", "past 1.7", "end"),
         (">1.0rc18446744073709551615", "before 1", "end"),
     ] {
-        expect_cuts(&rt, rt.alloc(), clause, &[low, high])?;
+        expect_cuts(&rt, rt.alloc(), &set(rt.alloc(), clause)?, &[low, high])?;
     }
     let outside = ["before 0.dev0", "before 1", "before 1.post0.dev0", "end"];
-    expect_cuts(&rt, rt.alloc(), "!=1.0", &outside)?;
+    expect_cuts(&rt, rt.alloc(), &set(rt.alloc(), "!=1.0")?, &outside)?;
+    Ok(())
+}
+
+#[test]
+fn joins(rt: HostRuntime) -> Result<(), Fail> {
+    let alloc = rt.alloc();
+    let both = set(alloc, ">=1")?.joined(alloc, &set(alloc, "<2")?)?;
+    expect_cuts(&rt, alloc, &both, &["before 1", "before 2.dev0"])?;
+    let narrower = both.joined(alloc, &set(alloc, ">=1.5")?)?;
+    expect_cuts(&rt, alloc, &narrower, &["before 1.5", "before 2.dev0"])?;
+    let same = narrower
+        .copied(alloc)?
+        .joined(alloc, &VersionSet::all(alloc)?)?;
+    expect_cuts(&rt, alloc, &same, &["before 1.5", "before 2.dev0"])?;
+    assert!(rt; !same.is_empty());
+    let nothing = same.joined(alloc, &set(alloc, ">=2")?)?;
+    assert!(rt; nothing.is_empty());
+    assert!(rt; set(alloc, "<0")?.is_empty());
+    Ok(())
+}
+
+#[test]
+fn joins_in_place(rt: HostRuntime) -> Result<(), Fail> {
+    let alloc = rt.alloc();
+    let mut kept = set(alloc, ">=1")?;
+    kept.join(alloc, &set(alloc, ">=0.5")?)?;
+    expect_cuts(&rt, alloc, &kept, &["before 1", "end"])?;
+    kept.join(alloc, &set(alloc, "<2")?)?;
+    expect_cuts(&rt, alloc, &kept, &["before 1", "before 2.dev0"])?;
+    kept.join(alloc, &set(alloc, "<3")?)?;
+    expect_cuts(&rt, alloc, &kept, &["before 1", "before 2.dev0"])?;
+    kept.join(alloc, &set(alloc, ">=2")?)?;
+    assert!(rt; kept.is_empty());
     Ok(())
 }
 
@@ -151,6 +221,64 @@ fn none_between(rt: HostRuntime) -> Result<(), Fail> {
     assert!(rt; both.is_empty() && both == VersionSet::none(alloc) && above != below);
     assert!(rt; both.ranges().is_empty(), "no range is left");
     Ok(())
+}
+
+// Each cut is below the next, and equal to itself alone.
+#[test]
+fn orders_cuts(rt: HostRuntime) -> Result<(), Fail> {
+    let alloc = rt.alloc();
+    let mut cuts = Vec::new(alloc);
+    cuts.push(Cut::least(alloc)?)?;
+    for text in ["0", "1.dev0", "1a1", "1", "1+x"] {
+        cuts.push(Cut::before(alloc, &version(alloc, text)?)?)?;
+    }
+    cuts.push(set(alloc, "==1+x")?.ranges()[0].high().copied(alloc)?)?;
+    cuts.push(Cut::before(alloc, &version(alloc, "1.post1")?)?)?;
+    cuts.push(set(alloc, ">1")?.ranges()[0].low().copied(alloc)?)?;
+    cuts.push(Cut::before(alloc, &version(alloc, "1.0.1")?)?)?;
+    cuts.push(Cut::end())?;
+    for (i, one) in cuts.iter().enumerate() {
+        for (j, other) in cuts.iter().enumerate() {
+            assert_eq!(rt; one.cmp(other), i.cmp(&j), "at {i} and {j}");
+            assert_eq!(rt; one == other, i == j, "at {i} and {j}");
+        }
+        assert!(rt; one.copied(alloc)? == *one);
+    }
+    let same = Cut::before(alloc, &version(alloc, "1.0")?)?;
+    assert!(rt; same == cuts[4] && same < Cut::end());
+    Ok(())
+}
+
+// Every version is in the set of all, and none in the set of none.
+#[test]
+fn all_and_none(rt: HostRuntime) -> Result<(), Fail> {
+    let alloc = rt.alloc();
+    let (all, none) = (VersionSet::all(alloc)?, VersionSet::none(alloc));
+    for version in &candidates(alloc)? {
+        let key = Key::of(alloc, version)?;
+        assert!(rt; all.contains(&key) && !none.contains(&key));
+    }
+    assert!(rt; none.is_empty() && !all.is_empty() && all != none);
+    Ok(())
+}
+
+#[test]
+fn copies_ranges(rt: HostRuntime) -> Result<(), Fail> {
+    let alloc = rt.alloc();
+    let range = set(alloc, ">=3.8")?;
+    assert_eq!(rt; range.ranges().len(), 1);
+    for range in range.ranges() {
+        let copy = range.copied(alloc)?;
+        assert!(rt; copy.low() < range.high() && copy == *range);
+    }
+    Ok(())
+}
+
+#[test]
+fn laws_of_sets() {
+    laws::one_list();
+    laws::one_list_of_versions();
+    laws::place_is_in();
 }
 
 fn clauses(alloc: Global) -> Result<Vec<Clause>, ClauseFault> {
@@ -170,7 +298,7 @@ fn clauses(alloc: Global) -> Result<Vec<Clause>, ClauseFault> {
 
 fn candidates(alloc: Global) -> Result<Vec<Version>, ClauseFault> {
     let mut versions = Vec::new(alloc);
-    for text in CANDIDATES {
+    for text in ORDERED.iter().chain(NEAR.iter()) {
         versions.push(Version::read(alloc, text)?)?;
     }
     for operand in OPERANDS {
