@@ -15,3 +15,7 @@ mod names;
 mod operators;
 #[cfg(test)]
 mod streams;
+#[cfg(test)]
+mod vectors;
+#[cfg(test)]
+mod versions;

@@ -11,7 +11,7 @@ use Rattle.pep_version.specs.declared.parts.Phase.TheVariants.{Alpha, Beta, Rc}
 use Rattle.pep_version.specs.Version.{Segment, Version}
 use Rattle.pep_version.specs.Spelling.{DevSpelling, EpochSpelling, IsOneOf, IsOptionalSeparator, LabelSpelling, PostSpelling, PreSpelling, PrecedingVSpelling, SpellsAny, dotted_parts, is_number, pre_words, trimmed}
 use Rattle.pep_version.specs.Bytes.{is_separator}
-use Rattle.pep_version.proofs.Connectives.{and_first, and_second}
+use Rattle.pep_version.proofs.Connectives.{and-true, and_first, and_second, or-true, or_second}
 use Rattle.pep_version.proofs.Readers.{behind-append, front-append, may_follow}
 use Rattle.pep_version.proofs.Suffixes.{suffix-read, tail-worded}
 use Rattle.pep_version.proofs.Tails.{Tail, digits-all, digits-start, whole-of}
@@ -30,10 +30,6 @@ starts-append : (xs rest : List ℕ) → starts_digit xs ≡ true → starts_dig
 starts-append [] rest s = cc s
 starts-append (x ∷ xs) rest s = s
 
-or-second : (a b : Bool) → a ≡ false → (a || b) ≡ true → b ≡ true
-or-second true b e h = cc e
-or-second false b e h = h
-
 release_front-append : (xs rest : List ℕ) → is_dotted xs ≡ true → starts_digit rest ≡ false → dot_digit rest ≡ false → release_front (xs ++ rest) ≡ xs
 release_front-append [] [] d s t = refl
 release_front-append [] (b ∷ rest) d s t = rw (s, t) refl
@@ -43,7 +39,7 @@ release_front-append (x ∷ xs) rest d s t =
     elim (cases_Bool (is_ascii_digit x)) [
       | inl digit ↦ rw digit (ap (λ (l : List ℕ). x ∷ l) more)
       | inr other ↦
-          let both = or-second (is_ascii_digit x) ((x == 46) && starts_digit xs) other one in
+          let both = or_second (is_ascii_digit x) ((x == 46) && starts_digit xs) other one in
           let dot = and_first (x == 46) (starts_digit xs) both in
           let next = starts-append xs rest (and_second (x == 46) (starts_digit xs) both) in
           rw (other, dot, next) (ap (λ (l : List ℕ). x ∷ l) more)
@@ -58,7 +54,7 @@ release_behind-append (x ∷ xs) rest d s t =
     elim (cases_Bool (is_ascii_digit x)) [
       | inl digit ↦ rw digit more
       | inr other ↦
-          let both = or-second (is_ascii_digit x) ((x == 46) && starts_digit xs) other one in
+          let both = or_second (is_ascii_digit x) ((x == 46) && starts_digit xs) other one in
           let dot = and_first (x == 46) (starts_digit xs) both in
           let next = starts-append xs rest (and_second (x == 46) (starts_digit xs) both) in
           rw (other, dot, next) more
@@ -104,17 +100,13 @@ dotted-ok (b ∷ rest) h = elim (cases_Bool (b == 46)) [
       let numbers : list_all is_number (dotted_parts rest) ≡ true = rw dot at h in
       let start = numbers-start rest numbers in
       let more = dotted-ok rest (numbers-first (dotted_parts rest) numbers) in
-      rw (dot, start, more) (either_true (is_ascii_digit b))
+      rw (dot, start, more) (and-true (is_ascii_digit b || true) ∙ or-true (is_ascii_digit b))
   | inr other ↦
       let parts : first_ok (onto_first b (dotted_parts rest)) ≡ true = rw other at h in
       let digit = onto-digit b (dotted_parts rest) parts in
       let more = dotted-ok rest (onto-rest b (dotted_parts rest) parts) in
       rw (digit, more) refl
 ]
-  where
-    either_true : (a : Bool) → ((a || true) && true) ≡ true
-    either_true true = refl
-    either_true false = refl
 
 -- ---- what stands behind a release
 
@@ -200,7 +192,7 @@ bang-behind (x ∷ xs) rest d h =
     elim (cases_Bool (is_ascii_digit x)) [
       | inl digit ↦ rw digit more
       | inr other ↦
-          let dot = and_first (x == 46) (starts_digit xs) (or-second (is_ascii_digit x) ((x == 46) && starts_digit xs) other one) in
+          let dot = and_first (x == 46) (starts_digit xs) (or_second (is_ascii_digit x) ((x == 46) && starts_digit xs) other one) in
           let no : (x == 33) ≡ false = grind arith in
           rw (other, no) refl
     ]
@@ -225,24 +217,57 @@ label-read : (text : List ℕ) (label : List Segment) → LabelSpelling text lab
 label-read [] label l = sym l
 label-read (b ∷ text) label l = sym l.2
 
--- a text spells what is read from it
-pub spelled-read : (text : List ℕ) (v : Version) → SpellsAny text v → read_version (str_to_ascii_lowercase (trimmed text)) ≡ v
-spelled-read text v s =
-    let suffix = s.pre ++ (s.post ++ (s.dev ++ s.label)) in
+-- the text of the parts behind the release
+abbrev suffix_of : (text : List ℕ) (v : Version) → SpellsAny text v → List ℕ
+suffix_of text v s = s.pre ++ (s.post ++ (s.dev ++ s.label))
+
+-- where the parts of a spelled text begin and end
+record Places (text : List ℕ) (v : Version) (s : SpellsAny text v) : Type 0 where
+  whole : str_to_ascii_lowercase (trimmed text) ≡ s.preceding_v ++ (s.epoch ++ (s.release ++ suffix_of text v s))
+  no_v : without_v (str_to_ascii_lowercase (trimmed text)) ≡ s.epoch ++ (s.release ++ suffix_of text v s)
+  epoch : read_epoch (s.epoch ++ (s.release ++ suffix_of text v s)) ≡ (v.epoch, s.release ++ suffix_of text v s)
+  start : starts_digit (s.epoch ++ (s.release ++ suffix_of text v s)) ≡ true
+  release_start : starts_digit (s.release ++ suffix_of text v s) ≡ true
+  release : release_front (s.release ++ suffix_of text v s) ≡ s.release
+  behind_release : release_behind (s.release ++ suffix_of text v s) ≡ suffix_of text v s
+  suffix : read_suffix (suffix_of text v s) ≡ (v.pre, (v.post, (v.dev, s.label)))
+
+places : (text : List ℕ) (v : Version) (s : SpellsAny text v) → Places text v s
+places text v s =
+    let suffix = suffix_of text v s in
     let ends : s.pre ++ (s.post ++ (s.dev ++ (s.label ++ []))) ≡ suffix = ap (λ (x : List ℕ). s.pre ++ (s.post ++ (s.dev ++ x))) (append-nil s.label) in
     let head = head-suffix s.pre s.post s.dev s.label v.pre v.post v.dev v.label s.pre_is s.post_is s.dev_is s.label_is in
     let dotted = dotted-ok s.release (numbers-first (dotted_parts s.release) s.release_is.0) in
     let start = numbers-start s.release s.release_is.0 in
     let epoch = epoch-read s.epoch s.release suffix v.epoch s.epoch_is dotted start head in
-    let whole : str_to_ascii_lowercase (trimmed text) ≡ s.preceding_v ++ (s.epoch ++ (s.release ++ suffix)) = s.pieces ∙ ap (λ (x : List ℕ). s.preceding_v ++ (s.epoch ++ (s.release ++ x))) ends in
-    let no_v = v-read s.preceding_v (s.epoch ++ (s.release ++ suffix)) s.preceding_v_is epoch.1 in
-    let release_is = release_front-append s.release suffix dotted head.no_digit head.no_dot in
-    let behind_is = release_behind-append s.release suffix dotted head.no_digit head.no_dot in
-    let others = suffix-read s.pre s.post s.dev s.label v.pre v.post v.dev v.label s.pre_is s.post_is s.dev_is s.label_is in
-    ap read_version whole ∙ ap (λ (x : List ℕ). from_epoch (read_epoch x)) no_v ∙ ap from_epoch epoch.0
-    ∙ (λ i. with_suffix v.epoch (release_is i) (read_suffix (behind_is i)))
-    ∙ (λ i. with_suffix v.epoch s.release (others i))
-    ∙ λ i. record { epoch = v.epoch; release = sym s.release_is.1 i; pre = v.pre; post = v.post; dev = v.dev; label = label-read s.label v.label s.label_is i }
+    let whole : str_to_ascii_lowercase (trimmed text) ≡ s.preceding_v ++ (s.epoch ++ (s.release ++ suffix)) =
+    s.pieces ∙ ap (λ (x : List ℕ). s.preceding_v ++ (s.epoch ++ (s.release ++ x))) ends in
+    record {
+      whole = whole;
+      no_v = ap without_v whole ∙ v-read s.preceding_v (s.epoch ++ (s.release ++ suffix)) s.preceding_v_is epoch.1;
+      epoch = epoch.0;
+      start = epoch.1;
+      release_start = starts-append s.release suffix start;
+      release = release_front-append s.release suffix dotted head.no_digit head.no_dot;
+      behind_release = release_behind-append s.release suffix dotted head.no_digit head.no_dot;
+      suffix = suffix-read s.pre s.post s.dev s.label v.pre v.post v.dev v.label s.pre_is s.post_is s.dev_is s.label_is;
+    }
+
+-- a text spells what is read from it
+pub spelled-read : (text : List ℕ) (v : Version) → SpellsAny text v → read_version (str_to_ascii_lowercase (trimmed text)) ≡ v
+spelled-read text v s =
+    let p = places text v s in
+    ap (λ (x : List ℕ). from_epoch (read_epoch x)) p.no_v ∙ ap from_epoch p.epoch
+    ∙ (λ i. with_suffix v.epoch (p.release i) (read_suffix (p.behind_release i)))
+    ∙ (λ i. with_suffix v.epoch s.release (p.suffix i))
+    ∙ λ i. record {
+      epoch = v.epoch;
+      release = sym s.release_is.1 i;
+      pre = v.pre;
+      post = v.post;
+      dev = v.dev;
+      label = label-read s.label v.label s.label_is i;
+    }
 
 -- a text spells at most one version
 pub one-version : (text : List ℕ) (v w : Version) → SpellsAny text v → SpellsAny text w → v ≡ w
@@ -251,17 +276,11 @@ one-version text v w s t = sym (spelled-read text v s) ∙ spelled-read text w t
 -- of a spelled text it is the label's text, so any other leftover refutes every spelling
 pub spelled-label : (text : List ℕ) (v : Version) (s : SpellsAny text v) → read_label_text (str_to_ascii_lowercase (trimmed text)) ≡ s.label
 spelled-label text v s =
-    let suffix = s.pre ++ (s.post ++ (s.dev ++ s.label)) in
-    let ends : s.pre ++ (s.post ++ (s.dev ++ (s.label ++ []))) ≡ suffix = ap (λ (x : List ℕ). s.pre ++ (s.post ++ (s.dev ++ x))) (append-nil s.label) in
-    let head = head-suffix s.pre s.post s.dev s.label v.pre v.post v.dev v.label s.pre_is s.post_is s.dev_is s.label_is in
-    let dotted = dotted-ok s.release (numbers-first (dotted_parts s.release) s.release_is.0) in
-    let epoch = epoch-read s.epoch s.release suffix v.epoch s.epoch_is dotted (numbers-start s.release s.release_is.0) head in
-    let whole : str_to_ascii_lowercase (trimmed text) ≡ s.preceding_v ++ (s.epoch ++ (s.release ++ suffix)) = s.pieces ∙ ap (λ (x : List ℕ). s.preceding_v ++ (s.epoch ++ (s.release ++ x))) ends in
-    let no_v = v-read s.preceding_v (s.epoch ++ (s.release ++ suffix)) s.preceding_v_is epoch.1 in
-    let behind_is = release_behind-append s.release suffix dotted head.no_digit head.no_dot in
-    let others = suffix-read s.pre s.post s.dev s.label v.pre v.post v.dev v.label s.pre_is s.post_is s.dev_is s.label_is in
-    ap read_label_text whole ∙ ap (λ (x : List ℕ). (read_suffix (release_behind (read_epoch x).1)).1.1.1) no_v ∙ ap (λ (e : ℕ × List ℕ). (read_suffix (release_behind e.1)).1.1.1) epoch.0
-    ∙ ap (λ (x : List ℕ). (read_suffix x).1.1.1) behind_is ∙ ap (λ (q : Option (Phase × ℕ) × (Option ℕ × (Option ℕ × List ℕ))). q.1.1.1) others
+    let p = places text v s in
+    ap (λ (x : List ℕ). (read_suffix (release_behind (read_epoch x).1)).1.1.1) p.no_v
+    ∙ ap (λ (e : ℕ × List ℕ). (read_suffix (release_behind e.1)).1.1.1) p.epoch
+    ∙ ap (λ (x : List ℕ). (read_suffix x).1.1.1) p.behind_release
+    ∙ ap (λ (q : Option (Phase × ℕ) × (Option ℕ × (Option ℕ × List ℕ))). q.1.1.1) p.suffix
 
 label-passes : (text : List ℕ) (label : List Segment) → LabelSpelling text label → is_label_text text ≡ true
 label-passes [] label l = refl
@@ -270,15 +289,10 @@ label-passes (b ∷ text) label l = rw (l.0, l.1) refl
 -- a spelled text passes
 pub spelled-passes : (text : List ℕ) (v : Version) → SpellsAny text v → passes (str_to_ascii_lowercase (trimmed text)) ≡ true
 spelled-passes text v s =
-    let suffix = s.pre ++ (s.post ++ (s.dev ++ s.label)) in
-    let ends : s.pre ++ (s.post ++ (s.dev ++ (s.label ++ []))) ≡ suffix = ap (λ (x : List ℕ). s.pre ++ (s.post ++ (s.dev ++ x))) (append-nil s.label) in
-    let head = head-suffix s.pre s.post s.dev s.label v.pre v.post v.dev v.label s.pre_is s.post_is s.dev_is s.label_is in
-    let dotted = dotted-ok s.release (numbers-first (dotted_parts s.release) s.release_is.0) in
-    let start = numbers-start s.release s.release_is.0 in
-    let epoch = epoch-read s.epoch s.release suffix v.epoch s.epoch_is dotted start head in
-    let whole : str_to_ascii_lowercase (trimmed text) ≡ s.preceding_v ++ (s.epoch ++ (s.release ++ suffix)) = s.pieces ∙ ap (λ (x : List ℕ). s.preceding_v ++ (s.epoch ++ (s.release ++ x))) ends in
-    let no_v : without_v (str_to_ascii_lowercase (trimmed text)) ≡ s.epoch ++ (s.release ++ suffix) = ap without_v whole ∙ v-read s.preceding_v (s.epoch ++ (s.release ++ suffix)) s.preceding_v_is epoch.1 in
-    let first : starts_digit (without_v (str_to_ascii_lowercase (trimmed text))) ≡ true = ap starts_digit no_v ∙ epoch.1 in
-    let release : starts_digit (behind_epoch (str_to_ascii_lowercase (trimmed text))) ≡ true = ap (λ (x : List ℕ). starts_digit (read_epoch x).1) no_v ∙ ap (λ (e : ℕ × List ℕ). starts_digit e.1) epoch.0 ∙ starts-append s.release suffix start in
-    let label : is_label_text (read_label_text (str_to_ascii_lowercase (trimmed text))) ≡ true = ap is_label_text (spelled-label text v s) ∙ label-passes s.label v.label s.label_is in
+    let p = places text v s in
+    let lower = str_to_ascii_lowercase (trimmed text) in
+    let first : starts_digit (without_v lower) ≡ true = ap starts_digit p.no_v ∙ p.start in
+    let release : starts_digit (behind_epoch lower) ≡ true =
+    ap (λ (x : List ℕ). starts_digit (read_epoch x).1) p.no_v ∙ ap (λ (e : ℕ × List ℕ). starts_digit e.1) p.epoch ∙ p.release_start in
+    let label : is_label_text (read_label_text lower) ≡ true = ap is_label_text (spelled-label text v s) ∙ label-passes s.label v.label s.label_is in
     λ i. first i && release i && label i

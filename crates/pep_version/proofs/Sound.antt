@@ -11,7 +11,7 @@ use Rattle.pep_version.specs.Reading.{bang, behind, behind_epoch, behind_phase, 
 use Rattle.pep_version.specs.Spelling.{DevSpelling, EpochSpelling, IsOneOf, IsOptionalSeparator, LabelSpelling, OptionalNumberSpelling, PostSpelling, PreSpelling, PrecedingVSpelling, SpellsAny, WordAndNumber, dev_words, dotted_parts, ends_in_letter, is_number, is_run, post_words, pre_words, separated_parts, trimmed}
 use Rattle.pep_version.specs.Bytes.{is_separator}
 use Rattle.pep_version.proofs.OneVersion.{first_ok, numbers-first}
-use Rattle.pep_version.proofs.Connectives.{and_first, and_second}
+use Rattle.pep_version.proofs.Connectives.{and_first, and_second, not-true}
 use Rattle.pep_version.proofs.Tails.{whole-of}
 
 -- ---- digits and separators
@@ -179,11 +179,7 @@ ends-behind (x ∷ z ∷ xs) y ys = ends-behind (z ∷ xs) y ys
 
 no-letters : (xs : List ℕ) → list_all (λ b. not (is_ascii_alphabetic b)) xs ≡ true → ends_in_letter xs ≡ false
 no-letters [] h = refl
-no-letters (x ∷ []) h = flip (is_ascii_alphabetic x) (and_first (not (is_ascii_alphabetic x)) true h)
-  where
-    flip : (a : Bool) → not a ≡ true → a ≡ false
-    flip true e = cc e
-    flip false e = refl
+no-letters (x ∷ []) h = not-true (is_ascii_alphabetic x) (and_first (not (is_ascii_alphabetic x)) true h)
 no-letters (x ∷ y ∷ xs) h = no-letters (y ∷ xs) (and_second (not (is_ascii_alphabetic x)) (list_all (λ b. not (is_ascii_alphabetic b)) (y ∷ xs)) h)
 
 digit-no-letter : (b : ℕ) → is_ascii_digit b ≡ true → not (is_ascii_alphabetic b) ≡ true

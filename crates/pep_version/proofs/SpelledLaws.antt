@@ -4,7 +4,7 @@ use Rattle.std.proofs.lemmas.Bool.{cases_Bool}
 use Rattle.std.specs.Char.{is_ascii_digit, is_ascii_lowercase}
 use Rattle.std.specs.List.{AllByRecursion, list_all, list_any}
 use Rattle.std.specs.Str.Parse.{digits_value}
-use Rattle.pep_version.proofs.Connectives.{and_first, and_second}
+use Rattle.pep_version.proofs.Connectives.{and_first, and_second, or-true}
 use Rattle.pep_version.specs.Spelling.{LabelSpelling, Spells, dotted_parts, is_run, segment_of_run, separated_parts}
 use Rattle.pep_version.specs.Version.{IsSegment, IsVersion, Segment, Version, is_word, is_word_byte}
 
@@ -16,13 +16,9 @@ some-letter [] h n = cc
 some-letter (b ∷ rest) h n = elim (cases_Bool (is_ascii_digit b)) [
   | inl digit ↦
       let more = some-letter rest (and_second (is_word_byte b) (list_all is_word_byte rest) h) (rw digit at n) in
-      rw more (either_true (is_ascii_lowercase b))
+      rw more (or-true (is_ascii_lowercase b))
   | inr other ↦ rw (letter-or-digit b (and_first (is_word_byte b) (list_all is_word_byte rest) h) other) refl
 ]
-  where
-    either_true : (a : Bool) → (a || true) ≡ true
-    either_true true = refl
-    either_true false = refl
 
 run-bytes : (run : List ℕ) → is_run run ≡ true → list_all is_word_byte run ≡ true
 run-bytes [] h = cc

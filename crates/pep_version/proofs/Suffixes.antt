@@ -5,7 +5,7 @@ use Rattle.pep_version.specs.declared.parts.Phase.{Phase}
 use Rattle.pep_version.specs.declared.parts.Phase.TheVariants.{Alpha, Beta, Rc}
 use Rattle.pep_version.specs.Version.{Segment}
 use Rattle.pep_version.specs.Spelling.{DevSpelling, ImplicitPostSpelling, IsOneOf, IsOptionalSeparator, LabelSpelling, PostSpelling, PreSpelling, WordAndNumber, dev_words, ends_in_letter, post_words, pre_words}
-use Rattle.pep_version.proofs.Readers.{before-gone, dev-gone, left, may_follow, not-c, not-e, tail-follows}
+use Rattle.pep_version.proofs.Readers.{before-gone, dev-plain, left, may_follow, not-c, not-e, post-plain, tail-follows}
 use Rattle.pep_version.proofs.Tails.{Bare, Tail, Worded, digits-start, implicit-read, label-plain, opens, tail-at-label, tail-at-post, tail-dev, tail-number, whole-of, worded-read}
 use Rattle.pep_version.specs.Reading.{behind_phase, pre_taken, read_post_dev, read_pre, read_suffix, starts_digit, table, with_phase, without_separator}
 
@@ -93,12 +93,12 @@ no-pre-worded pre post dev rest None None label p d l =
     rw (p, d) plain
 no-pre-worded pre post dev rest None (Some n) label p d l =
     let o = opens dev_words dev rest n d (tail-at-label rest label l).follows in
-    let once = ap without_separator o.pieces ∙ dev-gone o.before o.letters o.behind_it o.before_is o.letters_is in
+    let once = ap without_separator o.pieces ∙ before-gone dev_words dev-plain o.before o.letters o.behind_it o.before_is o.letters_is in
     let plain : read_pre (dev ++ rest) ≡ (None, dev ++ rest) = none-taken (dev ++ rest) (ap (behind_phase table) once ∙ none-at-dev o.letters o.behind_it o.letters_is) in
     rw p plain
 no-pre-worded pre post dev rest (Some n) vdev label p d l =
     let o = opens post_words post (dev ++ rest) n p (tail-dev dev rest vdev label d l).follows in
-    let once = ap without_separator o.pieces ∙ before-gone o.before o.letters o.behind_it o.before_is o.letters_is in
+    let once = ap without_separator o.pieces ∙ before-gone post_words post-plain o.before o.letters o.behind_it o.before_is o.letters_is in
     none-taken (post ++ (dev ++ rest)) (ap (behind_phase table) once ∙ none-at-post o.letters o.behind_it o.letters_is o.follows)
 
 no-pre-implicit : (pre post dev rest : List ℕ) (n : ℕ) → ImplicitPostSpelling pre post n → read_pre (post ++ (dev ++ rest)) ≡ (None, post ++ (dev ++ rest))

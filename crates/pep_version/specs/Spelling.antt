@@ -1,6 +1,6 @@
 -- How a version may be written ("Normalization", and the regular expression of the appendix "Parsing
 -- version strings with regular expressions"). A text is a list of bytes.
-use Rattle.std.specs.Prelude.{◌≡◌, ℕ, ◌==◌, ◌&&◌, ◌||◌, ◌⊎◌, Bool, false, not, List, [], ◌∷◌, ◌++◌, Option, Some, None, Result, Ok, Err, IsTrue, codes, if◌then◌else◌, map, ⊤}
+use Rattle.std.specs.Prelude.{◌≡◌, ℕ, ◌==◌, ◌&&◌, ◌⊎◌, Bool, false, not, List, [], ◌∷◌, ◌++◌, Option, Some, None, Result, Ok, Err, IsTrue, codes, if◌then◌else◌, map, ⊤}
 use Rattle.std.specs.Char.{is_ascii_alphabetic, is_ascii_digit}
 use Rattle.std.specs.List.{concat, list_all, slice_split}
 use Rattle.std.specs.Str.{str_to_ascii_lowercase}

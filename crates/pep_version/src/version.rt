@@ -143,14 +143,7 @@ impl Version {
         let post = optional_number(slices.post)?;
         let dev = optional_number(slices.dev)?;
         let label = read_segments(alloc, slices.label)?;
-        Ok(Version {
-            epoch,
-            release,
-            pre,
-            post,
-            dev,
-            label,
-        })
+        Ok(Version::with_parts(epoch, release, pre, post, dev, label))
     }
 
     /// The version with these parts, which make one.
@@ -163,7 +156,8 @@ impl Version {
         label: Vec<Label>,
     ) -> Version
         requires { IsVersion (version_of epoch release pre post dev label) }
-        ensures { result ≡ version_of epoch release pre post dev label }
+        ensures parts { result ≡ version_of epoch release pre post dev label }
+        ensures version { IsVersion result }
     {
         Version {
             epoch,
@@ -192,14 +186,7 @@ impl Version {
         if release.is_empty() || !is_label(&label) {
             return None;
         }
-        Some(Version {
-            epoch,
-            release,
-            pre,
-            post,
-            dev,
-            label,
-        })
+        Some(Version::with_parts(epoch, release, pre, post, dev, label))
     }
 
     /// The epoch, which is 0 where none is written (PEP 440, "Version epochs").
@@ -275,13 +262,6 @@ impl Version {
     {
         let release = Vec::from_slice(alloc, self.release.as_slice())?;
         let label = label_copied(alloc, self.label.as_slice())?;
-        Ok(Version {
-            epoch: self.epoch,
-            release,
-            pre: self.pre,
-            post: self.post,
-            dev: self.dev,
-            label,
-        })
+        Ok(Version::with_parts(self.epoch, release, self.pre, self.post, self.dev, label))
     }
 }

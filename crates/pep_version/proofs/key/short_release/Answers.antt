@@ -1,7 +1,7 @@
 use Rattle.std.proofs.Common.{◌≡◌, ◌∷◌, [], ◌++◌, ◌-◌, ◌≤◌, ◌==◌, false, take, length, get_or, arith, sym, ap, ◌∙◌}
 use Rattle.std.proofs.lemmas.List.{length-take-le}
 use Rattle.pep_version.specs.Order.{short_release}
-use Rattle.pep_version.proofs.NumberLemmas.{last-shape}
+use Rattle.pep_version.proofs.ListLemmas.{last-shape}
 use Rattle.pep_version.proofs.TextLemmas.{short-one, short-other, short-zero}
 use Rattle.pep_version.proofs.key.short_release.Goals as goal
 use Rattle.pep_version.proofs.key.short_release.Goals.{then-last-ne0-via-then-last-ne0, then-last-ne0-via-else-last-ne0+then-is_empty}

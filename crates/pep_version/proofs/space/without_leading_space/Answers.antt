@@ -1,6 +1,6 @@
 use Rattle.std.proofs.Common.{◌<◌, ◌∙◌, length, get_or, subst, sym}
 use Rattle.std.proofs.lemmas.Str.{IsCharBoundary-after_ascii}
-use Rattle.pep_version.proofs.NumberLemmas.{white-ascii}
+use Rattle.pep_version.proofs.SpaceLemmas.{white-ascii}
 use Rattle.pep_version.proofs.space.without_leading_space.Goals as goal
 
 pub range_from-rest-requires : goal.range_from-rest-requires

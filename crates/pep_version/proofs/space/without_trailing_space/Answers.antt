@@ -1,5 +1,5 @@
 use Rattle.std.proofs.Common.{◌≡◌, ◌∙◌, sym}
-use Rattle.pep_version.proofs.NumberLemmas.{trailing-shorter, trailing-stop}
+use Rattle.pep_version.proofs.SpaceLemmas.{trailing-shorter, trailing-stop}
 use Rattle.pep_version.specs.Spelling.{without_trailing_space}
 use Rattle.pep_version.proofs.space.without_trailing_space.Goals as goal
 

@@ -20,8 +20,8 @@ returns-then-is_empty-clause-exactly c =
     ] in
     (λ h. cc, λ v. absurd (none v))
 
-pub invariant_of-result : goal.invariant_of-result
-invariant_of-result c =
+pub with_parts-requires : goal.with_parts-requires
+with_parts-requires c =
     let label = c.args.label.items in
     let pre : IfSome c.args.pre (λ p. Fits p.1) = search (rules, c.well_formed) in
     let post : IfSome c.args.post Fits = search (rules, c.well_formed) in
@@ -43,4 +43,4 @@ invariant_of-result c =
     }
 
 pub returns-clause-exactly : goal.returns-clause-exactly
-returns-clause-exactly c = (λ _. invariant_of-result c, λ _. refl)
+returns-clause-exactly c = (λ _. subst IsVersion c.with_parts.ensures.parts c.with_parts.ensures.version, λ _. refl)

@@ -3,8 +3,8 @@ use Rattle.pep_version.specs.Version.{NumbersFit}
 use Rattle.pep_version.proofs.ReadingLemmas.{slices-version}
 use Rattle.pep_version.proofs.version.Version.of_slices.Goals as goal
 
-pub invariant_of-result : goal.invariant_of-result
-invariant_of-result c =
+pub with_parts-requires : goal.with_parts-requires
+with_parts-requires c =
     let slices = c.args.slices in
     let epoch = c.in_ok-epoch.ensures in
     let release = c.in_ok-release.ensures in
