@@ -1,13 +1,44 @@
 // The place of a version in the order.
 
-ghost use Rattle.std.specs.Prelude.{◌≡◌, ◌<◌, [], fold, length, map, refl, slice_index, IfErr, IfOk, None};
-ghost use Rattle.std.specs.Cmp.{eq_by_cmp_equiv, partial_equiv_from_equiv, partial_order_from_total};
+ghost use Rattle.std.specs.Prelude.{
+  ◌≡◌,
+  ◌<◌,
+  [],
+  fold,
+  length,
+  map,
+  refl,
+  slice_index,
+  IfErr,
+  IfOk,
+  None,
+};
+ghost use Rattle.std.specs.Cmp.{
+  eq_by_cmp_equiv,
+  partial_equiv_from_equiv,
+  partial_order_from_total,
+};
 ghost use Rattle.std.specs.Cmp.Lexicographic.{slice_cmp};
 ghost use Rattle.std.specs.Hash as fed;
 ghost use Rattle.std.specs.Ordering.{as_partial_cmp, eq_by_cmp};
 ghost use Rattle.pep_version.specs.Feed.{feed_pre, feed_segment, key_feed, key_feed-alike};
 ghost use Rattle.pep_version.specs.Laws.{version_total};
-ghost use Rattle.pep_version.specs.Order.{dev_cmp, phase_rank, place_cmp, place_of, pre_number_of, release_cmp, segment_cmp, short_release, stage_of, suffix_cmp, version_cmp, without_end_zeros};
+ghost use Rattle.pep_version.specs.Order.{
+  dev_cmp,
+  phase_rank,
+  place_cmp,
+  place_of,
+  release_version,
+  with_suffixes,
+  pre_number_of,
+  release_cmp,
+  segment_cmp,
+  short_release,
+  stage_of,
+  suffix_cmp,
+  version_cmp,
+  without_end_zeros,
+};
 ghost use Rattle.pep_version.specs.Version.{IsVersion};
 ghost use Rattle.pep_version.specs.View.{segment_of};
 
@@ -19,9 +50,9 @@ use std::cmp::Ordering;
 use std::hash::{Hash, Hasher};
 use std::marker::Model;
 
-/// A version's place in the order (PEP 440, "Summary of permitted suffixes and relative ordering"): one key for
-/// all versions that are the same in order, as `1.0` and `1.0.0`. The release of a key has no zeros at its end,
-/// except that its first number stays.
+/// A version's place in the order (PEP 440, "Summary of permitted suffixes and relative ordering"):
+/// one key for all versions that are the same in order, as `1.0` and `1.0.0`. The release of a key
+/// has no zeros at its end, except that its first number stays.
 #[derive(Debug, Drop)]
 pub struct Key {
     version: Version,
@@ -64,8 +95,8 @@ impl Key {
         Key::with_suffixes(alloc, version, version.pre(), version.post(), version.dev())
     }
 
-    /// The place of the version with these suffixes in place of its own, and with its label. The only fault is
-    /// `NoMemory`.
+    /// The place of the version with these suffixes in place of its own, and with its label. The
+    /// only fault is `NoMemory`.
     pub fn with_suffixes(
         alloc: Global,
         version: &Version,
@@ -73,7 +104,7 @@ impl Key {
         post: Option<u64>,
         dev: Option<u64>,
     ) -> Result<Key, VersionFault>
-        ensures place { IfOk result (λ k. k ≡ place_of (record version.now { pre = pre; post = post; dev = dev })) }
+        ensures place { IfOk result (λ k. k ≡ place_of (with_suffixes version.now pre post dev)) }
         ensures version { IfOk result (λ k. IsVersion k) }
         ensures own_place { IfOk result (λ k. place_of k ≡ k) }
         ensures faults { IfErr result (λ e. e ≡ VersionFault.NoMemory) }
@@ -84,8 +115,9 @@ impl Key {
         Ok(Key { version })
     }
 
-    /// The place of a final release, which has a number at least, or of its developmental release of this number (PEP
-    /// 440, "Final releases", "Developmental releases"). The only fault is `NoMemory`.
+    /// The place of a final release, which has a number at least, or of its developmental release
+    /// of this number (PEP 440, "Final releases", "Developmental releases"). The only fault is
+    /// `NoMemory`.
     pub fn of_release(
         alloc: Global,
         epoch: u64,
@@ -93,7 +125,7 @@ impl Key {
         dev: Option<u64>,
     ) -> Result<Key, VersionFault>
         requires { 0 < length release.now }
-        ensures place { IfOk result (λ k. k ≡ place_of (record { epoch = epoch; release = release.now; pre = None; post = None; dev = dev; label = [] })) }
+        ensures place { IfOk result (λ k. k ≡ place_of (release_version epoch release.now dev)) }
         ensures version { IfOk result (λ k. IsVersion k) }
         ensures own_place { IfOk result (λ k. place_of k ≡ k) }
         ensures faults { IfErr result (λ e. e ≡ VersionFault.NoMemory) }
@@ -103,8 +135,8 @@ impl Key {
         Ok(Key { version })
     }
 
-    /// The version that stands at this place: of those that are the same in order, the one whose release has no
-    /// zeros at its end. The only fault is `NoMemory`.
+    /// The version that stands at this place: of those that are the same in order, the one whose
+    /// release has no zeros at its end. The only fault is `NoMemory`.
     pub fn version(&self, alloc: Global) -> Result<Version, VersionFault>
         ensures version { IfOk result (λ v. v ≡ self.now) }
         ensures is_version { IsVersion self.now }
@@ -215,7 +247,8 @@ fn cmp_labels(a: &[Label], b: &[Label]) -> Ordering
 }
 
 impl Key {
-    /// The order of the two by their epochs and releases alone (PEP 440, "Version epochs", "Final releases").
+    /// The order of the two by their epochs and releases alone (PEP 440, "Version epochs", "Final
+    /// releases").
     pub fn cmp_release(&self, other: &Key) -> Ordering
         ensures { result ≡ place_cmp self.now other.now }
     {
