@@ -4,7 +4,8 @@ use Rattle.std.specs.Ordering.{nat_cmp, ordering_then}
 use Rattle.std.specs.FinMap.{nat_cmp-IsAntisymmetric}
 use Rattle.std.specs.declared.cmp.Ordering.{Ordering}
 use Rattle.std.specs.declared.cmp.Ordering.TheVariants.{Less, Equal, Greater}
-use Rattle.pep_version.specs.Laws.{place_of-same, short_release-tied, then_first, then_second}
+use Rattle.pep_version.specs.Laws.{then_first, then_second}
+use Rattle.pep_version.proofs.PlaceLemmas.{place_of-same, short_release-tied}
 use Rattle.pep_version.specs.Order.{place_of, release_cmp, suffix_cmp, version_cmp}
 use Rattle.pep_version.specs.Version.{IsVersion, Version}
 use Rattle.pep_clause.specs.Clause.{Prefix}

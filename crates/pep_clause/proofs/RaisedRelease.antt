@@ -1,6 +1,6 @@
 -- What a release is raised to, by its last number.
 use Rattle.std.proofs.Common.{◌≡◌, ℕ, ◌+◌, ◌-◌, ◌≤◌, Bool, true, false, List, [], ◌∷◌, ◌++◌, Option, Some, None, length, take, get_or, nat_lt, refl, ap, ◌∙◌, if◌then◌else◌}
-use Rattle.pep_version.proofs.NumberLemmas.{last-shape}
+use Rattle.pep_version.proofs.ListLemmas.{last-shape}
 use Rattle.pep_clause.specs.OperatorTable.{last, raised, raised_first}
 
 -- the number above, unless the number is the largest

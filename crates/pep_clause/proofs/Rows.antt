@@ -10,7 +10,8 @@ use Rattle.std.specs.declared.cmp.Ordering.{Ordering}
 use Rattle.std.specs.declared.cmp.Ordering.TheVariants.{Less, Equal, Greater}
 use Rattle.pep_version.specs.declared.parts.Phase.{Phase}
 use Rattle.pep_version.specs.declared.parts.Phase.TheVariants.{Alpha, Beta, Rc}
-use Rattle.pep_version.specs.Laws.{release_cmp-lists, without_end_zeros-short, without_end_zeros-twice}
+use Rattle.pep_version.specs.Laws.{release_cmp-lists}
+use Rattle.pep_version.proofs.PlaceLemmas.{without_end_zeros-short, without_end_zeros-twice}
 use Rattle.pep_version.specs.Order.{dev_cmp, is_below, place_cmp, phase_rank, place_of, pre_number_of, public_version, release_cmp, segment_cmp, short_release, stage_of, suffix_cmp, without_end_zeros}
 use Rattle.pep_version.specs.Version.{Fits, IsVersion, Segment, Version, is_empty}
 use Rattle.pep_clause.specs.Admits.{admits}

@@ -29,3 +29,5 @@ mod sets;
 mod streams;
 #[cfg(test)]
 mod vectors;
+#[cfg(test)]
+mod versions;

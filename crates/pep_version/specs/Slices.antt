@@ -1,5 +1,5 @@
--- The slices that a text is split into before a number is read. A contract sees each slice as it is, and what is
--- left of the text in lower case. This is the code's way, as `Reading` is.
+-- The slices that a text is split into before a number is read. A contract sees each slice as it
+-- is, and what is left of the text in lower case. This is the code's way, as `Reading` is.
 use Rattle.std.specs.Prelude.{ℕ, List, [], Option, Some, None, IsTrue, map}
 use Rattle.std.specs.Borrow.{Bor}
 use Rattle.std.specs.Char.{is_ascii_digit}
@@ -9,7 +9,8 @@ use Rattle.std.specs.Str.{str_to_ascii_lowercase}
 use Rattle.std.specs.Str.Parse.{digits_value}
 use Rattle.pep_version.specs.declared.slices.Slices.{Slices}
 use Rattle.pep_version.specs.declared.parts.Phase.{Phase}
-use Rattle.pep_version.specs.Spelling.{dotted_parts, is_number, is_run, segment_of_run, separated_parts}
+use Rattle.pep_version.specs.Spelling.{dotted_parts, is_number, is_run, segment_of_run}
+use Rattle.pep_version.specs.Spelling.{separated_parts}
 use Rattle.pep_version.specs.Version.{Segment, Version}
 
 -- the text in lower case

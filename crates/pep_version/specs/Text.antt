@@ -1,5 +1,6 @@
 -- The normal text of a version, which has one spelling for each version ("Normalization").
-use Rattle.std.specs.Prelude.{ℕ, ◌==◌, ◌||◌, Bool, List, [], ◌∷◌, ◌++◌, map, Option, Some, None, codes, decimal, if◌then◌else◌}
+use Rattle.std.specs.Prelude.{ℕ, ◌==◌, ◌||◌, Bool, List, [], ◌∷◌, ◌++◌, map, Option, Some, None}
+use Rattle.std.specs.Prelude.{codes, decimal, if◌then◌else◌}
 use Rattle.std.specs.List.{join_with_byte}
 use Rattle.pep_version.specs.declared.parts.Phase.{Phase}
 use Rattle.pep_version.specs.declared.parts.Phase.TheVariants.{Alpha, Beta, Rc}
@@ -48,7 +49,9 @@ label_text (s ∷ rest) = codes "+" ++ join_with_byte 46 (map segment_text (s �
 
 -- the normal text of a version
 abbrev pub normal_text : Version → List ℕ
-normal_text v = epoch_text v.epoch ++ release_text v.release ++ pre_text v.pre ++ post_text v.post ++ dev_text v.dev ++ label_text v.label
+normal_text v =
+    epoch_text v.epoch ++ release_text v.release ++ pre_text v.pre ++ post_text v.post
+    ++ dev_text v.dev ++ label_text v.label
 
 -- a byte of a normal text: a letter in lower case, a digit, `.`, `+` or `!`
 abbrev pub is_text_byte : ℕ → Bool

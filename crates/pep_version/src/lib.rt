@@ -22,6 +22,3 @@ pub use crate::parts::{Label, Phase};
 pub use crate::space::{trimmed, without_trailing_space};
 pub use crate::split::first_part;
 pub use crate::version::Version;
-
-#[cfg(test)]
-mod tests;

@@ -1,18 +1,73 @@
-// The splitting of a text into the digits and words of a version, before any number is read. Letters are taken
-// without regard to case (PEP 440, "Case sensitivity").
+// The splitting of a text into the digits and words of a version, before any number is read.
+// Letters are taken without regard to case (PEP 440, "Case sensitivity").
 
-ghost use Rattle.std.specs.Prelude.{◌≡◌, ◌&&◌, false, true, IfSome, IsTrue, MatchOption, codes, Some};
+ghost use Rattle.std.specs.Prelude.{
+  ◌≡◌,
+  ◌&&◌,
+  false,
+  true,
+  IfSome,
+  IsTrue,
+  MatchOption,
+  codes,
+  Some,
+};
 ghost use Rattle.std.specs.Char.{is_ascii_alphanumeric};
 ghost use Rattle.std.specs.List.{list_all};
-ghost use Rattle.pep_version.specs.Slices.{AreReadable, IsDigits, label_of, left_of, left_runs, lower, number_of, optional_of, phase_left_of, pre_of, value_of, version_of_slices};
-ghost use Rattle.pep_version.specs.Reading.{behind, behind_phase, behind_word, front, goes_on, implicit_number, is_label_text, number_behind, or_else, passes, read_dev, read_epoch, read_label, read_post, read_pre, read_version, read_word_and_number, release_behind, release_front, starts_digit, stripped, table, without_separator, without_v};
-ghost use Rattle.pep_version.specs.Spelling.{dev_words, dotted_parts, is_number, is_run, post_words, separated_parts};
+ghost use Rattle.pep_version.specs.Slices.{
+  AreReadable,
+  IsDigits,
+  label_of,
+  left_of,
+  left_runs,
+  lower,
+  number_of,
+  optional_of,
+  phase_left_of,
+  pre_of,
+  value_of,
+  version_of_slices,
+};
+ghost use Rattle.pep_version.specs.Reading.{
+  behind,
+  behind_phase,
+  behind_word,
+  front,
+  goes_on,
+  implicit_number,
+  is_label_text,
+  number_behind,
+  or_else,
+  passes,
+  read_dev,
+  read_epoch,
+  read_label,
+  read_post,
+  read_pre,
+  read_version,
+  read_word_and_number,
+  release_behind,
+  release_front,
+  starts_digit,
+  stripped,
+  table,
+  without_separator,
+  without_v,
+};
+ghost use Rattle.pep_version.specs.Spelling.{
+  dev_words,
+  dotted_parts,
+  is_number,
+  is_run,
+  post_words,
+  separated_parts,
+};
 
 use crate::bytes::is_separator;
 use crate::parts::Phase;
 
-/// The slices of a text that write a version: digits where a number stands, and the label behind its `+`. A
-/// number that is not written is no digits.
+/// The slices of a text that write a version: digits where a number stands, and the label behind
+/// its `+`. A number that is not written is no digits.
 #[derive(Clone, Copy)]
 pub(crate) struct Slices<'a> {
     pub(crate) epoch: &'a [u8],
@@ -72,7 +127,8 @@ fn strip_word<'a>(text: &'a [u8], word: &[u8]) -> Option<&'a [u8]>
 
 // What stands behind the first of two words that fits.
 fn strip_either<'a>(text: &'a [u8], first: &[u8], second: &[u8]) -> Option<&'a [u8]>
-    ensures { left_of result ≡ or_else (stripped first.now (lower text.now)) (stripped second.now (lower text.now)) }
+    ensures { left_of result ≡ or_else (stripped first.now (lower text.now))
+        (stripped second.now (lower text.now)) }
 {
     if let Some(rest) = strip_word(text, first) {
         return Some(rest);
@@ -90,8 +146,8 @@ fn strip_post(text: &[u8]) -> Option<&[u8]>
     strip_word(text, b"r")
 }
 
-// The phase that the word of a pre-release names, and what stands behind the word (PEP 440, "Pre-release
-// spelling").
+// The phase that the word of a pre-release names, and what stands behind the word (PEP 440,
+// "Pre-release spelling").
 fn strip_phase(text: &[u8]) -> Option<(Phase, &[u8])>
     ensures { phase_left_of result ≡ behind_phase table (lower text.now) }
 {
@@ -110,7 +166,8 @@ fn strip_phase(text: &[u8]) -> Option<(Phase, &[u8])>
 
 // The digits behind a word and an optional separator, and what is behind them.
 fn digits_behind(text: &[u8]) -> (&[u8], &[u8])
-    ensures number { Some (value_of result.0, lower result.1.now) ≡ number_behind (Some (lower text.now)) }
+    ensures number { Some (value_of result.0, lower result.1.now)
+        ≡ number_behind (Some (lower text.now)) }
     ensures digits { IsDigits result.0 }
 {
     split_digits(without_separator(text))
@@ -251,7 +308,9 @@ fn is_label(text: &[u8]) -> bool
 
 // What is left behind the last part: nothing, or `+` and a label, whose text is handed back.
 fn split_label(text: &[u8]) -> Option<Option<&[u8]>>
-    ensures found { MatchOption result (is_label_text (lower text.now) ≡ false) (λ label. (is_label_text (lower text.now) ≡ true) × (label_of label ≡ read_label (lower text.now))) }
+    ensures found { MatchOption result (is_label_text (lower text.now)
+        ≡ false) (λ label. (is_label_text (lower text.now) ≡ true)
+        × (label_of label ≡ read_label (lower text.now))) }
     ensures runs { IfSome result (λ label. IsTrue (list_all is_run (left_runs label))) }
 {
     match text {
@@ -261,9 +320,12 @@ fn split_label(text: &[u8]) -> Option<Option<&[u8]>>
     }
 }
 
-/// The slices of a text that is a version in its spelling, or `None` where the text spells no version.
+/// The slices of a text that is a version in its spelling, or `None` where the text spells no
+/// version.
 pub(crate) fn slices_of(text: &[u8]) -> Option<Slices<'_>>
-    ensures found { MatchOption result (passes (lower text.now) ≡ false) (λ c. (passes (lower text.now) ≡ true) × (version_of_slices c ≡ read_version (lower text.now))) }
+    ensures found { MatchOption result (passes (lower text.now)
+        ≡ false) (λ c. (passes (lower text.now) ≡ true)
+        × (version_of_slices c ≡ read_version (lower text.now))) }
     ensures right { IfSome result AreReadable }
 {
     let text = without_v(text);

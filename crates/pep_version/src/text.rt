@@ -1,7 +1,27 @@
 // The normal text of each part of a version.
 
-ghost use Rattle.std.specs.Prelude.{◌≡◌, ◌++◌, ◌==◌, [], codes, decimal, if◌then◌else◌, map, string_bytes, OnOk, IfErr};
-ghost use Rattle.pep_version.specs.Text.{epoch_text, label_text, part_text, phase_text, pre_text, release_text, segment_text};
+ghost use Rattle.std.specs.Prelude.{
+  ◌≡◌,
+  ◌++◌,
+  ◌==◌,
+  [],
+  codes,
+  decimal,
+  if◌then◌else◌,
+  map,
+  string_bytes,
+  OnOk,
+  IfErr,
+};
+ghost use Rattle.pep_version.specs.Text.{
+  epoch_text,
+  label_text,
+  part_text,
+  phase_text,
+  pre_text,
+  release_text,
+  segment_text,
+};
 ghost use Rattle.pep_version.specs.View.{segment_of};
 
 use crate::fault::VersionFault;
@@ -19,7 +39,8 @@ fn push_number(text: &mut String, n: u64) -> Result<(), VersionFault>
 
 // The dot before a part, unless the part is the first.
 fn push_dot(text: &mut String, position: usize) -> Result<(), VersionFault>
-    ensures ok { OnOk result (string_bytes text.new ≡ string_bytes text.old ++ (if position == 0 then [] else codes ".")) }
+    ensures ok { OnOk result (string_bytes text.new ≡ string_bytes text.old
+        ++ (if position == 0 then [] else codes ".")) }
     ensures faults { IfErr result (λ e. e ≡ VersionFault.NoMemory) }
 {
     if position > 0 {
@@ -42,7 +63,8 @@ pub(crate) fn push_epoch(text: &mut String, epoch: u64) -> Result<(), VersionFau
 
 /// Appends the release.
 pub(crate) fn push_release(text: &mut String, release: &[u64]) -> Result<(), VersionFault>
-    ensures ok { OnOk result (string_bytes text.new ≡ string_bytes text.old ++ release_text release.now) }
+    ensures ok { OnOk result (string_bytes text.new ≡ string_bytes text.old
+        ++ release_text release.now) }
     ensures faults { IfErr result (λ e. e ≡ VersionFault.NoMemory) }
 {
     for (i, n) in release.iter().enumerate() {
@@ -80,7 +102,8 @@ pub(crate) fn push_part(
     word: &str,
     number: Option<u64>,
 ) -> Result<(), VersionFault>
-    ensures ok { OnOk result (string_bytes text.new ≡ string_bytes text.old ++ part_text word.now number) }
+    ensures ok { OnOk result (string_bytes text.new ≡ string_bytes text.old
+        ++ part_text word.now number) }
     ensures faults { IfErr result (λ e. e ≡ VersionFault.NoMemory) }
 {
     if let Some(n) = number {
@@ -91,7 +114,8 @@ pub(crate) fn push_part(
 }
 
 fn push_segment(text: &mut String, segment: &Label) -> Result<(), VersionFault>
-    ensures ok { OnOk result (string_bytes text.new ≡ string_bytes text.old ++ segment_text (segment_of segment.now)) }
+    ensures ok { OnOk result (string_bytes text.new ≡ string_bytes text.old
+        ++ segment_text (segment_of segment.now)) }
     ensures faults { IfErr result (λ e. e ≡ VersionFault.NoMemory) }
 {
     match segment {
@@ -103,7 +127,8 @@ fn push_segment(text: &mut String, segment: &Label) -> Result<(), VersionFault>
 
 /// Appends the label.
 pub(crate) fn push_label(text: &mut String, label: &[Label]) -> Result<(), VersionFault>
-    ensures ok { OnOk result (string_bytes text.new ≡ string_bytes text.old ++ label_text (map segment_of label.now)) }
+    ensures ok { OnOk result (string_bytes text.new ≡ string_bytes text.old
+        ++ label_text (map segment_of label.now)) }
     ensures faults { IfErr result (λ e. e ≡ VersionFault.NoMemory) }
 {
     if !label.is_empty() {

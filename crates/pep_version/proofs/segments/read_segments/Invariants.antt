@@ -13,7 +13,8 @@ left_len (Some rest) = suc (length rest.now)
 abbrev pub invariant-loop-rest : goal.invariant-loop-rest
 invariant-loop-rest l =
     (map segment_of l.segments.items ++ label_of l.rest ≡ label_of l.fn.label)
-    × (list_all is_run (left_runs l.rest) ≡ true) × AllByRecursion SegmentFits (map segment_of l.segments.items)
+    × (list_all is_run (left_runs l.rest) ≡ true)
+    × AllByRecursion SegmentFits (map segment_of l.segments.items)
 
 abbrev pub decreases-loop-rest : goal.decreases-loop-rest
 decreases-loop-rest l = left_len l.rest

@@ -8,6 +8,7 @@ use Rattle.pep_version.proofs.slices.is_label.Goals as goal
 
 pub returns : goal.returns
 returns c = all_from_yields_List (λ part. is_run (lower part)) _ _ _ c.all.ensures.ran
-    (YieldsList-from_slice_split _ _ c.args.text.now c.split.ensures.rest c.split.ensures.done c.split.ensures.closure (λ x r q k. search (rules, tests)))
+    (YieldsList-from_slice_split _ _ c.args.text.now c.split.ensures.rest c.split.ensures.done
+    c.split.ensures.closure (λ x r q k. search (rules, tests)))
     (λ x b q k. search (rules, tests))
     ∙ sym (label-lower c.args.text.now)

@@ -8,10 +8,13 @@ use Rattle.pep_version.proofs.slices.slices_of.Goals as goal
 
 pub returns-clause-right : goal.returns-clause-right
 returns-clause-right c =
-    let starts : starts_digit (lower c.split_epoch.result.1.now) ≡ true = sym c.starts_digit-2.ensures ∙ c.if-not-starts_digit-2.false in
+    let starts : starts_digit (lower c.split_epoch.result.1.now) ≡ true =
+    sym c.starts_digit-2.ensures ∙ c.if-not-starts_digit-2.false in
     record {
       epoch = c.split_epoch.ensures.digits;
-      release = ap (λ t. list_all is_number (dotted_parts t)) c.split_release.ensures.release ∙ release-numbers (lower c.split_epoch.result.1.now) starts;
+      release =
+          ap (λ t. list_all is_number (dotted_parts t)) c.split_release.ensures.release
+          ∙ release-numbers (lower c.split_epoch.result.1.now) starts;
       pre = c.split_pre.ensures.digits;
       post = c.split_post.ensures.digits;
       dev = c.split_dev.ensures.digits;

@@ -12,6 +12,7 @@ loop-i-preserved c =
     let front = join_with_byte 46 (map segment_text (map segment_of (take c.loop-i.i label))) in
     let part = segment_text (segment_of c.index-label-i.result) in
     let more = segments-push label c.loop-i.i c.index-label-i.result c.loop-i-test.true
-    ∙ ap (λ s. front ++ (dot_before c.loop-i.i ++ segment_text (segment_of s))) (sym c.index-label-i.is) in
+    ∙ ap (λ s. front ++ (dot_before c.loop-i.i ++ segment_text (segment_of s)))
+    (sym c.index-label-i.is) in
     text-more (string_bytes c.if-not-is_empty.text) front (dot_before c.loop-i.i) part _
     c.in_ok-push_segment.ensures.ok c.in_ok-push_dot.ensures.ok c.loop-i.invariant more

@@ -1,8 +1,10 @@
-use super::*;
+//! Versions by PEP 440: what texts are read as, their normal texts, and their order.
+
+use crate::vectors::ORDERED;
+use pep_version::{Key, Label, Phase, Version, VersionFault, first_part, is_separator, laws};
 use std::alloc::Global;
-use std::cmp::Ordering;
 use std::hash::{DefaultHasher, Hash, Hasher};
-use std::test::*;
+use std::test::Fail;
 
 fn normal(alloc: Global, text: &str) -> Result<String, VersionFault> {
     Version::read(alloc, text)?.text(alloc)
@@ -122,36 +124,8 @@ fn refuses_texts(rt: HostRuntime) {
 
 #[test]
 fn orders_versions(rt: HostRuntime) -> Result<(), Fail> {
-    let texts = [
-        "0.dev0",
-        "0a0.dev0",
-        "0",
-        "0.0.1.dev0",
-        "1.0.dev1",
-        "1.0.dev2",
-        "1.0a1.dev1",
-        "1.0a1",
-        "1.0a1.post0.dev0",
-        "1.0a1.post0",
-        "1.0a2",
-        "1.0b1",
-        "1.0rc1",
-        "1.0",
-        "1.0+00a",
-        "1.0+0a",
-        "1.0+abc.5",
-        "1.0+abc.10",
-        "1.0+9",
-        "1.0+10",
-        "1.0+10.a",
-        "1.0.post1.dev3",
-        "1.0.post1",
-        "1.0.1",
-        "1.1.dev0",
-        "1!0.dev0",
-    ];
     let mut keys = Vec::new(rt.alloc());
-    for text in texts {
+    for text in ORDERED {
         keys.push(key(rt.alloc(), text)?)?;
     }
     for (i, one) in keys.iter().enumerate() {
@@ -237,8 +211,33 @@ fn refuses_parts(rt: HostRuntime) -> Result<(), Fail> {
 }
 
 #[test]
+fn tells_faults(rt: HostRuntime) -> Result<(), Fail> {
+    for (fault, code, text) in [
+        (VersionFault::NotAVersion, 1, "not a version"),
+        (VersionFault::NumberTooLarge, 2, "a number of the version is too large"),
+        (VersionFault::NoMemory, 3, "out of memory"),
+    ] {
+        assert_eq!(rt; fault.code(), code);
+        let told = format!(in rt.alloc(); "{fault}")?;
+        assert_eq!(rt; told.as_str(), text);
+    }
+    Ok(())
+}
+
+#[test]
+fn splits_texts(rt: HostRuntime) {
+    assert_eq!(rt; first_part(b"1.20.3", b'.'), (b"1".as_slice(), Some(b"20.3".as_slice())));
+    assert_eq!(rt; first_part(b".", b'.'), (b"".as_slice(), Some(b"".as_slice())));
+    assert_eq!(rt; first_part(b"1.0", b','), (b"1.0".as_slice(), None));
+    for byte in 0..=255_u8 {
+        assert_eq!(rt; is_separator(byte), b"-_.".contains(&byte), "at {byte}");
+    }
+}
+
+#[test]
 fn states_laws() {
     laws::order_is_total();
+    laws::order_of_places();
     laws::one_place();
     laws::one_version();
     laws::text_is_read();
