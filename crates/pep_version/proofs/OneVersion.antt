@@ -15,7 +15,8 @@ use Rattle.pep_version.specs.Spelling.{DevSpelling, EpochSpelling, IsOneOf, IsOp
 use Rattle.pep_version.specs.Spelling.{LabelSpelling, PostSpelling, PreSpelling, PrecedingVSpelling}
 use Rattle.pep_version.specs.Spelling.{SpellsAny, dotted_parts, is_number, pre_words, trimmed}
 use Rattle.pep_version.specs.Bytes.{is_separator}
-use Rattle.pep_version.proofs.Connectives.{and-true, and_first, and_second, or-true, or_second}
+use Rattle.pep_version.proofs.Connectives.{and-true, and_first, and_parts, and_second, or-true}
+use Rattle.pep_version.proofs.Connectives.{or_second}
 use Rattle.pep_version.proofs.Readers.{behind-append, front-append, may_follow}
 use Rattle.pep_version.proofs.Suffixes.{suffix-read, tail-worded}
 use Rattle.pep_version.proofs.Tails.{Tail, digits-all, digits-start, whole-of}
@@ -37,40 +38,24 @@ starts-append : (xs rest : List ℕ) → starts_digit xs ≡ true → starts_dig
 starts-append [] rest s = cc s
 starts-append (x ∷ xs) rest s = s
 
-release_front-append : (xs rest : List ℕ) → is_dotted xs ≡ true → starts_digit rest ≡ false →
-    dot_digit rest ≡ false → release_front (xs ++ rest) ≡ xs
-release_front-append [] [] d s t = refl
-release_front-append [] (b ∷ rest) d s t = rw (s, t) refl
-release_front-append (x ∷ xs) rest d s t =
-    let more =
-    release_front-append xs rest (and_second (is_ascii_digit x
-    || ((x == 46) && starts_digit xs)) (is_dotted xs) d) s t in
-    let one = and_first (is_ascii_digit x || ((x == 46) && starts_digit xs)) (is_dotted xs) d in
+-- the release is read as far as it is dotted numbers, and the rest is left
+release-append : (xs rest : List ℕ) → is_dotted xs ≡ true → starts_digit rest ≡ false
+    → dot_digit rest ≡ false
+    → (release_front (xs ++ rest) ≡ xs) × (release_behind (xs ++ rest) ≡ rest)
+release-append [] [] d s t = (refl, refl)
+release-append [] (b ∷ rest) d s t = (rw (s, t) refl, rw (s, t) refl)
+release-append (x ∷ xs) rest d s t =
+    let parts = and_parts (is_ascii_digit x || ((x == 46) && starts_digit xs)) (is_dotted xs) d in
+    let more = release-append xs rest parts.1 s t in
+    let front = ap (λ (l : List ℕ). x ∷ l) more.0 in
     elim (cases_Bool (is_ascii_digit x)) [
-      | inl digit ↦ rw digit (ap (λ (l : List ℕ). x ∷ l) more)
+      | inl digit ↦ (rw digit front, rw digit more.1)
       | inr other ↦
-          let both = or_second (is_ascii_digit x) ((x == 46) && starts_digit xs) other one in
-          let dot = and_first (x == 46) (starts_digit xs) both in
-          let next = starts-append xs rest (and_second (x == 46) (starts_digit xs) both) in
-          rw (other, dot, next) (ap (λ (l : List ℕ). x ∷ l) more)
-    ]
-
-release_behind-append : (xs rest : List ℕ) → is_dotted xs ≡ true → starts_digit rest ≡ false →
-    dot_digit rest ≡ false → release_behind (xs ++ rest) ≡ rest
-release_behind-append [] [] d s t = refl
-release_behind-append [] (b ∷ rest) d s t = rw (s, t) refl
-release_behind-append (x ∷ xs) rest d s t =
-    let more =
-    release_behind-append xs rest (and_second (is_ascii_digit x
-    || ((x == 46) && starts_digit xs)) (is_dotted xs) d) s t in
-    let one = and_first (is_ascii_digit x || ((x == 46) && starts_digit xs)) (is_dotted xs) d in
-    elim (cases_Bool (is_ascii_digit x)) [
-      | inl digit ↦ rw digit more
-      | inr other ↦
-          let both = or_second (is_ascii_digit x) ((x == 46) && starts_digit xs) other one in
-          let dot = and_first (x == 46) (starts_digit xs) both in
-          let next = starts-append xs rest (and_second (x == 46) (starts_digit xs) both) in
-          rw (other, dot, next) more
+          let second = (x == 46) && starts_digit xs in
+          let both = and_parts (x == 46) (starts_digit xs)
+          (or_second (is_ascii_digit x) second other parts.0) in
+          let next = starts-append xs rest both.1 in
+          (rw (other, both.0, next) front, rw (other, both.0, next) more.1)
     ]
 
 -- ---- numbers between dots
@@ -315,6 +300,7 @@ places text v s =
     head-suffix s.pre s.post s.dev s.label v.pre v.post v.dev v.label s.pre_is s.post_is
     s.dev_is s.label_is in
     let dotted = dotted-ok s.release (numbers-first (dotted_parts s.release) s.release_is.0) in
+    let taken = release-append s.release suffix dotted head.no_digit head.no_dot in
     let start = numbers-start s.release s.release_is.0 in
     let epoch = epoch-read s.epoch s.release suffix v.epoch s.epoch_is dotted start head in
     let whole : str_to_ascii_lowercase (trimmed text) ≡ s.preceding_v
@@ -327,8 +313,8 @@ places text v s =
       epoch = epoch.0;
       start = epoch.1;
       release_start = starts-append s.release suffix start;
-      release = release_front-append s.release suffix dotted head.no_digit head.no_dot;
-      behind_release = release_behind-append s.release suffix dotted head.no_digit head.no_dot;
+      release = taken.0;
+      behind_release = taken.1;
       suffix =
           suffix-read s.pre s.post s.dev s.label v.pre v.post v.dev v.label s.pre_is s.post_is
           s.dev_is s.label_is;
