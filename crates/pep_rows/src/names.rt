@@ -1,8 +1,8 @@
 //! Names of packages, and the runs of bytes that they are found by.
 
+use pep_marker::{MarkerFault, Name, is_name_byte, name_run};
 use pep_marker::{
-    MarkerFault, Name, blank_end, blank_run, is_blank_byte, is_name_byte, name_run, without_leading_blanks,
-    without_outer_blanks,
+    blank_end, blank_run, is_blank_byte, without_leading_blanks, without_outer_blanks,
 };
 use std::cmp::Ordering;
 use std::hash::{DefaultHasher, Hash, Hasher};
@@ -106,7 +106,13 @@ fn runs(rt: HostRuntime) -> Result<(), Fail> {
         assert_eq!(rt; name_run(text), name);
         assert_eq!(rt; without_leading_blanks(text), &text[front..]);
     }
-    for (text, want) in [(&b" a b\t "[..], &b"a b"[..]), (b"\t ", b""), (b"", b""), (b"\ra ", b"\ra")] {
+    let trims: [(&[u8], &[u8]); 4] = [
+        (b" a b\t ", b"a b"),
+        (b"\t ", b""),
+        (b"", b""),
+        (b"\ra ", b"\ra"),
+    ];
+    for (text, want) in trims {
         assert_eq!(rt; without_outer_blanks(text), want);
     }
     Ok(())

@@ -200,8 +200,8 @@ impl Fault {
     /// Its one refusal is want of memory, 60.
     pub fn text(&self, alloc: Global) -> Result<String, Fault>
         ensures line { IfOk result (λ text. string_bytes text ≡ fault_line self.now) }
-        ensures faults { IfErr result (λ fault. fault ≡ record { place = Nowhere; cause =
-            NoMemory }) }
+        ensures faults { IfErr result
+            (λ fault. fault ≡ record { place = Nowhere; cause = NoMemory }) }
     {
         let mut text = String::from_str(alloc, "refused")?;
         push_place(&mut text, self.place)?;
@@ -255,8 +255,8 @@ impl From<VersionFault> for Fault {
 
 // Appends a space and a number.
 fn push_number(text: &mut String, number: u64) -> Result<(), AllocError>
-    ensures { OnOk result (string_bytes text.new ≡ string_bytes text.old ++ codes " "
-        ++ decimal number) }
+    ensures { OnOk result
+        (string_bytes text.new ≡ string_bytes text.old ++ codes " " ++ decimal number) }
 {
     let mut buffer = Buffer::new();
     text.push_str(" ")?;
@@ -293,7 +293,8 @@ fn push_line(text: &mut String, cause: &Cause) -> Result<(), AllocError>
 fn push_line_codes(text: &mut String, fault: LineFault) -> Result<(), AllocError>
     ensures { OnOk result
         (string_bytes text.new
-            ≡ string_bytes text.old ++ codes_text (line_code fault ∷ option_to_list (line_inner_code fault))) }
+            ≡ string_bytes text.old
+                ++ codes_text (line_code fault ∷ option_to_list (line_inner_code fault))) }
 {
     push_number(text, fault.code())?;
     match fault.inner_code() {
