@@ -293,8 +293,8 @@ fn push_line(text: &mut String, cause: &Cause) -> Result<(), AllocError>
 fn push_line_codes(text: &mut String, fault: LineFault) -> Result<(), AllocError>
     ensures { OnOk result
         (string_bytes text.new
-            ≡ string_bytes text.old
-                ++ codes_text (line_code fault ∷ option_to_list (line_inner_code fault))) }
+        ≡ string_bytes text.old
+        ++ codes_text (line_code fault ∷ option_to_list (line_inner_code fault))) }
 {
     push_number(text, fault.code())?;
     match fault.inner_code() {
