@@ -1,5 +1,7 @@
--- What a marker says in an environment: PyPA "Dependency specifiers", "Environment markers" (PEP 508).
-use Rattle.std.specs.Prelude.{◌≡◌, ◌≢◌, ℕ, Bool, true, false, not, ◌&&◌, ◌||◌, ◌⊎◌, List, [], ◌∷◌, nat_eq, Option, Some, None, Ok, MatchBool}
+-- What a marker says in an environment: PyPA "Dependency specifiers", "Environment markers"
+-- (PEP 508).
+use Rattle.std.specs.Prelude.{◌≡◌, ◌≢◌, ℕ, Bool, true, false, not, ◌&&◌, ◌||◌, ◌⊎◌, List, [], ◌∷◌}
+use Rattle.std.specs.Prelude.{nat_eq, Option, Some, None, Ok, MatchBool}
 use Rattle.std.specs.Cmp.Lexicographic.{slice_cmp}
 use Rattle.std.specs.List.{starts_with}
 use Rattle.std.specs.Ordering.{nat_cmp, is_eq, is_ne, is_lt, is_le, is_gt, is_ge}
@@ -10,10 +12,12 @@ use Rattle.pep_version.specs.Version.{Version}
 use Rattle.pep_clause.specs.Admits.{admits}
 use Rattle.pep_clause.specs.Clause.{Clause, ClauseOf}
 use Rattle.pep_clause.specs.declared.op.Op.{Op}
-use Rattle.pep_clause.specs.declared.op.Op.TheVariants.{Compatible, Equal, NotEqual, AtMost, AtLeast, Less, More, Exact}
+use Rattle.pep_clause.specs.declared.op.Op.TheVariants.{Compatible, Equal, NotEqual, AtMost}
+use Rattle.pep_clause.specs.declared.op.Op.TheVariants.{AtLeast, Less, More, Exact}
 use Rattle.pep_marker.specs.declared.environment.Variable.TheVariants.{Extra}
 use Rattle.pep_marker.specs.Environment.{EnvironmentParts, value_of}
-use Rattle.pep_marker.specs.Marker.{Operand, variable, text, Operator, version_operator, is_in, is_not_in, MarkerParts, compare, and, or}
+use Rattle.pep_marker.specs.Marker.{Operand, variable, text, Operator, version_operator, is_in}
+use Rattle.pep_marker.specs.Marker.{is_not_in, MarkerParts, compare, and, or}
 use Rattle.pep_marker.specs.Name.{normalized}
 
 -- true, false, or undefined
@@ -36,7 +40,8 @@ is_part l (b ∷ r) = starts_with nat_eq (b ∷ r) l || is_part l r
 
 -- what an operator says of two texts that are not compared as versions
 abbrev pub text_truth : Op → List ℕ → List ℕ → Truth
-text_truth Exact l r = Some (is_eq (byte_order (str_to_ascii_lowercase l) (str_to_ascii_lowercase r)))
+text_truth Exact l r =
+    Some (is_eq (byte_order (str_to_ascii_lowercase l) (str_to_ascii_lowercase r)))
 text_truth Equal l r = Some (is_eq (byte_order l r))
 text_truth NotEqual l r = Some (is_ne (byte_order l r))
 text_truth Less l r = Some (is_lt (byte_order l r))
@@ -52,8 +57,8 @@ plain_truth (version_operator o) l r = text_truth o l r
 
 -- ---- two versions
 
--- The texts are compared as versions: the operator isn't `===`, it makes a clause of the right text, and the
--- left text is a version.
+-- The texts are compared as versions: the operator isn't `===`, it makes a clause of the right
+-- text, and the left text is a version.
 pub record ComparesVersions (o : Op) (l r : List ℕ) (c : Clause) (v : Version) : Type 0 where
   pub not_exact : o ≢ Exact
   pub clause : ClauseOf o r (Ok c)
@@ -83,14 +88,17 @@ abbrev pub both : (Bool → Bool → Bool) → Truth → Truth → Truth
 both f (Some p) (Some q) = Some (f p q)
 both f _ _ = None
 
--- What a marker says in an environment. Beside `extra` both texts are normalized, and are no versions.
+-- What a marker says in an environment. Beside `extra` both texts are normalized, and are no
+-- versions.
 abbrev pub Evaluates : EnvironmentParts → MarkerParts → Truth → Type 0
 Evaluates e (compare l o r) truth =
     MatchBool (is_extra l || is_extra r)
     (truth ≡ plain_truth o (normalized (operand_value e l)) (normalized (operand_value e r)))
     (Compares o (operand_value e l) (operand_value e r) truth)
-Evaluates e (and m n) truth = (p q : Truth) × Evaluates e m p × Evaluates e n q × (truth ≡ both (λ x y. x && y) p q)
-Evaluates e (or m n) truth = (p q : Truth) × Evaluates e m p × Evaluates e n q × (truth ≡ both (λ x y. x || y) p q)
+Evaluates e (and m n) truth =
+    (p q : Truth) × Evaluates e m p × Evaluates e n q × (truth ≡ both (λ x y. x && y) p q)
+Evaluates e (or m n) truth =
+    (p q : Truth) × Evaluates e m p × Evaluates e n q × (truth ≡ both (λ x y. x || y) p q)
 
 -- the marker is true in the environment
 abbrev pub Holds : EnvironmentParts → MarkerParts → Type 0

@@ -1,5 +1,6 @@
 -- Markers and their grammar: PyPA "Dependency specifiers", "Grammar" (PEP 508).
-use Rattle.std.specs.Prelude.{◌≡◌, ℕ, suc, ◌+◌, ◌≤◌, Bool, true, not, ◌&&◌, ◌||◌, ◌==◌, IsTrue, List, [], ◌∷◌, ◌++◌, length, codes}
+use Rattle.std.specs.Prelude.{◌≡◌, ℕ, suc, ◌+◌, ◌≤◌, Bool, true, not, ◌&&◌, ◌||◌, ◌==◌, IsTrue}
+use Rattle.std.specs.Prelude.{List, [], ◌∷◌, ◌++◌, length, codes}
 use Rattle.std.specs.Char.{is_ascii_alphanumeric}
 use Rattle.std.specs.List.{list_all}
 use Rattle.pep_clause.specs.Clause.{operator_text}
@@ -57,10 +58,12 @@ IsToken close_parenthesis x = x ≡ codes ")"
 IsToken and_word x = x ≡ codes "and"
 IsToken or_word x = x ≡ codes "or"
 IsToken (operand (variable v)) x = x ≡ variable_name v
-IsToken (operand (text t)) x = (quote : ℕ) × IsTrue (is_quotable quote t) × (x ≡ quote ∷ t ++ quote ∷ [])
+IsToken (operand (text t)) x =
+    (quote : ℕ) × IsTrue (is_quotable quote t) × (x ≡ quote ∷ t ++ quote ∷ [])
 IsToken (operator (version_operator o)) x = x ≡ operator_text o
 IsToken (operator is_in) x = x ≡ codes "in"
-IsToken (operator is_not_in) x = (space : List ℕ) × IsBlank space × (1 ≤ length space) × (x ≡ codes "not" ++ space ++ codes "in")
+IsToken (operator is_not_in) x =
+    (space : List ℕ) × IsBlank space × (1 ≤ length space) × (x ≡ codes "not" ++ space ++ codes "in")
 
 -- a word is the longest run of letters, digits, `_` and `.`
 abbrev pub is_word_byte : ℕ → Bool
@@ -81,20 +84,23 @@ ends_before word rest = not (begins is_word_byte rest)
 abbrev pub HasTokens : List ℕ → List Token → Type 0
 HasTokens x [] = IsBlank x
 HasTokens x (t ∷ ts) = (space written rest : List ℕ)
-    × (x ≡ space ++ written ++ rest) × IsBlank space × IsToken t written × IsTrue (ends_before t rest) × HasTokens rest ts
+    × (x ≡ space ++ written ++ rest) × IsBlank space × IsToken t written
+    × IsTrue (ends_before t rest) × HasTokens rest ts
 
 -- ---- the grammar
 
--- `or` joins and-chains, `and` joins items, and both group to the left. An item is a comparison, or an
--- or-chain in parentheses. The number is how many parentheses may be open at once.
+-- `or` joins and-chains, `and` joins items, and both group to the left. An item is a comparison, or
+-- an or-chain in parentheses. The number is how many parentheses may be open at once.
 mutual
   pub data IsOrChain : ℕ → List Token → MarkerParts → Type 0 where
-    one_chain : {depth : ℕ} {ts : List Token} {m : MarkerParts} → IsAndChain depth ts m → IsOrChain depth ts m
+    one_chain : {depth : ℕ} {ts : List Token} {m : MarkerParts} → IsAndChain depth ts m →
+        IsOrChain depth ts m
     or_chain : {depth : ℕ} {m n : MarkerParts} (ts us : List Token) →
         IsOrChain depth ts m → IsAndChain depth us n → IsOrChain depth (ts ++ or_word ∷ us) (or m n)
 
   pub data IsAndChain : ℕ → List Token → MarkerParts → Type 0 where
-    one_item : {depth : ℕ} {ts : List Token} {m : MarkerParts} → IsItem depth ts m → IsAndChain depth ts m
+    one_item : {depth : ℕ} {ts : List Token} {m : MarkerParts} → IsItem depth ts m →
+        IsAndChain depth ts m
     and_chain : {depth : ℕ} {m n : MarkerParts} (ts us : List Token) →
         IsAndChain depth ts m → IsItem depth us n → IsAndChain depth (ts ++ and_word ∷ us) (and m n)
 
@@ -102,9 +108,11 @@ mutual
     comparison : (depth : ℕ) (l r : Operand) (o : Operator) →
         IsItem depth (operand l ∷ operator o ∷ operand r ∷ []) (compare l o r)
     parentheses : {depth : ℕ} {m : MarkerParts} (ts : List Token) →
-        IsOrChain depth ts m → IsItem (suc depth) (open_parenthesis ∷ ts ++ close_parenthesis ∷ []) m
+        IsOrChain depth ts m →
+        IsItem (suc depth) (open_parenthesis ∷ ts ++ close_parenthesis ∷ []) m
 
--- The text is read as the marker: at most 64 parentheses are open at once, and there are at most 1,024 comparisons.
+-- The text is read as the marker: at most 64 parentheses are open at once, and there are at most
+-- 1,024 comparisons.
 pub record IsMarker (x : List ℕ) (m : MarkerParts) : Type 0 where
   pub tokens : List Token
   pub written : HasTokens x tokens

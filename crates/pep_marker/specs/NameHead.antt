@@ -1,4 +1,5 @@
--- THE CODE'S WAY, and no part of any meaning: the first bytes of a name as a number, whose order is that of names.
+-- THE CODE'S WAY, and no part of any meaning: the first bytes of a name as a number, whose order is
+-- that of names.
 use Rattle.std.specs.Prelude.{ℕ, zero, suc, ◌+◌, ◌*◌, List, [], ◌∷◌}
 
 -- the first byte, 0 where there is none

@@ -1,5 +1,7 @@
--- Runs of bytes of one class, and white space in lines, requirements and markers (PEP 508, "Grammar").
-use Rattle.std.specs.Prelude.{ℕ, ◌-◌, Bool, false, ◌||◌, ◌==◌, IsTrue, List, [], ◌∷◌, length, take, drop}
+-- Runs of bytes of one class, and white space in lines, requirements and markers (PEP 508,
+-- "Grammar").
+use Rattle.std.specs.Prelude.{ℕ, ◌-◌, Bool, false, ◌||◌, ◌==◌, IsTrue, List, [], ◌∷◌, length, take}
+use Rattle.std.specs.Prelude.{drop}
 use Rattle.std.specs.List.{list_all, prefix_len, suffix_len}
 
 -- the list begins with an element of the class

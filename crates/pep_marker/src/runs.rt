@@ -39,7 +39,8 @@ pub fn name_run(text: &[u8]) -> usize
     text.iter().take_while(|b| is_name_byte(**b)).count()
 }
 
-/// Whether the byte is white space in a line, a requirement or a marker: a space or a tab (PEP 508, "Grammar").
+/// Whether the byte is white space in a line, a requirement or a marker: a space or a tab (PEP 508,
+/// "Grammar").
 pub fn is_blank_byte(b: u8) -> bool
     ensures { result ≡ is_blank_byte b }
 {

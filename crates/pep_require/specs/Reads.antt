@@ -1,5 +1,6 @@
 -- The line that a requirement is written as: PyPA "Dependency specifiers", "Grammar" (PEP 508).
-use Rattle.std.specs.Prelude.{◌≡◌, ℕ, ◌≤◌, Bool, ◌&&◌, ◌||◌, ◌==◌, nat_lt, nat_le, IsTrue, List, [], ◌∷◌, ◌++◌, length, codes, Contains, ◌↔◌, Option, Some, None, Ok}
+use Rattle.std.specs.Prelude.{◌≡◌, ℕ, ◌≤◌, Bool, ◌&&◌, ◌||◌, ◌==◌, nat_lt, nat_le, IsTrue, List, []}
+use Rattle.std.specs.Prelude.{◌∷◌, ◌++◌, length, codes, Contains, ◌↔◌, Option, Some, None, Ok}
 use Rattle.std.specs.List.{AllZip, join_with_byte, list_all}
 use Rattle.url.specs.Parser.{parse_url}
 use Rattle.url.specs.Parts.{serialize}
@@ -9,7 +10,8 @@ use Rattle.pep_clause.specs.declared.op.Op.{Op}
 use Rattle.pep_marker.specs.Marker.{MarkerParts, IsMarker}
 use Rattle.pep_marker.specs.Runs.{IsBlank, is_blank_byte, begins}
 use Rattle.pep_marker.specs.Name.{name_of}
-use Rattle.pep_require.specs.Requirement.{RequirementParts, TargetParts, bounds, direct, UrlParts, IsAscending}
+use Rattle.pep_require.specs.Requirement.{RequirementParts, TargetParts, bounds, direct, UrlParts}
+use Rattle.pep_require.specs.Requirement.{IsAscending}
 
 -- the longest line that is read, in bytes
 abbrev pub line_limit : ℕ
@@ -43,7 +45,8 @@ pub record ReadsExtras (x : List ℕ) (extras : List (List ℕ)) : Type 0 where
 
 -- ---- the target
 
--- an operator, white space, and the longest run of characters that a clause may hold, with white space round it
+-- an operator, white space, and the longest run of characters that a clause may hold, with white
+-- space round it
 pub record IsBound (piece : List ℕ) (c : Clause) : Type 0 where
   pub before : List ℕ
   pub operator : Op
@@ -109,7 +112,8 @@ pub record Spaces : Type 0 where
   pub fifth : List ℕ
   pub blank : IsBlank first × IsBlank second × IsBlank third × IsBlank fourth × IsBlank fifth
 
--- The line is read as the requirement: a name, extras, a target and a marker, with white space between them.
+-- The line is read as the requirement: a name, extras, a target and a marker, with white space
+-- between them.
 pub record Reads (x : List ℕ) (r : RequirementParts) : Type 0 where
   pub fits : length x ≤ line_limit
   -- the pieces of the line
@@ -118,7 +122,8 @@ pub record Reads (x : List ℕ) (r : RequirementParts) : Type 0 where
   pub extras : List ℕ
   pub target : List ℕ
   pub marker : List ℕ
-  pub whole : x ≡ spaces.first ++ name ++ spaces.second ++ extras ++ spaces.third ++ target ++ spaces.fourth ++ marker ++ spaces.fifth
+  pub whole : x ≡ spaces.first ++ name ++ spaces.second ++ extras ++ spaces.third ++ target
+      ++ spaces.fourth ++ marker ++ spaces.fifth
   -- what they say
   pub reads_name : name_of name ≡ Some r.name
   pub reads_extras : ReadsExtras extras r.extras

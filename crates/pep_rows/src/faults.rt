@@ -38,7 +38,11 @@ const MARKER_FAULTS: [(MarkerFault, u64); 9] = [
 const REQUIRE_FAULTS: [(RequireFault, u64, Option<u64>); 10] = [
     (RequireFault::BadName, 31, None),
     (RequireFault::BadExtras, 32, None),
-    (RequireFault::BadClause(ClauseFault::OneNumber), 33, Some(15)),
+    (
+        RequireFault::BadClause(ClauseFault::OneNumber),
+        33,
+        Some(15),
+    ),
     (RequireFault::BadUrl, 34, None),
     (RequireFault::BadMarker(MarkerFault::TooDeep), 35, Some(27)),
     (RequireFault::Trailing, 36, None),
@@ -100,7 +104,11 @@ fn faults_inside_faults(rt: HostRuntime) -> Result<(), Fail> {
         assert_eq!(rt; RequireFault::from(fault), want);
     }
     for (fault, _) in VERSION_FAULTS {
-        let want = if fault == VersionFault::NoMemory { 60 } else { 62 };
+        let want = if fault == VersionFault::NoMemory {
+            60
+        } else {
+            62
+        };
         assert_eq!(rt; Fault::from(fault).cause.code(), want);
     }
     Ok(())
@@ -126,10 +134,16 @@ fn texts_of_faults(rt: HostRuntime) -> Result<(), Fail> {
     }
     let fault = Fault {
         place: Place::Input(2),
-        cause: Cause::Line(7, LineFault::from(RequireFault::BadClause(ClauseFault::BadVersion))),
+        cause: Cause::Line(
+            7,
+            LineFault::from(RequireFault::BadClause(ClauseFault::BadVersion)),
+        ),
     };
     let text = format!(in rt.alloc(); "{fault}")?;
-    assert_eq!(rt; text.as_str(), "input 2: line 7: a faulty clause: not a version");
+    assert_eq!(rt;
+        text.as_str(),
+        "input 2: line 7: a faulty clause: not a version"
+    );
     let text = format!(in rt.alloc(); "{}", Fault::from(VersionFault::NotAVersion))?;
     assert_eq!(rt; text.as_str(), "a faulty version: not a version");
     let text = format!(in rt.alloc(); "{}", Fault::from(VersionFault::NoMemory))?;

@@ -1,8 +1,8 @@
 //! Names of packages, and the runs of bytes that they are found by.
 
 use pep_marker::{
-    MarkerFault, Name, blank_end, blank_run, is_blank_byte, is_name_byte, name_run, without_leading_blanks,
-    without_outer_blanks,
+    MarkerFault, Name, blank_end, blank_run, is_blank_byte, is_name_byte, name_run,
+    without_leading_blanks, without_outer_blanks,
 };
 use std::cmp::Ordering;
 use std::hash::{DefaultHasher, Hash, Hasher};
@@ -45,8 +45,13 @@ fn names(rt: HostRuntime) -> Result<(), Fail> {
     for (text, want) in rows {
         assert_eq!(rt; Name::read(rt.alloc(), text)?.text(), want);
     }
-    for text in ["", "-", "a-", "_a", "a b", " a", "a ", "a\n", "a+b", "\u{e9}", "a\u{e9}b"] {
-        assert!(rt; Name::read(rt.alloc(), text) == Err(MarkerFault::BadName), "at {text}");
+    for text in [
+        "", "-", "a-", "_a", "a b", " a", "a ", "a\n", "a+b", "\u{e9}", "a\u{e9}b",
+    ] {
+        assert!(rt;
+            Name::read(rt.alloc(), text) == Err(MarkerFault::BadName),
+            "at {text}"
+        );
     }
     Ok(())
 }
@@ -58,9 +63,17 @@ fn order_of_names(rt: HostRuntime) -> Result<(), Fail> {
         for (j, b) in IN_ORDER.iter().enumerate() {
             let second = Name::read(rt.alloc(), b)?;
             assert_eq!(rt; first.cmp(&second), i.cmp(&j), "at {a} and {b}");
-            assert_eq!(rt; first.partial_cmp(&second), Some(i.cmp(&j)), "at {a} and {b}");
+            assert_eq!(rt;
+                first.partial_cmp(&second),
+                Some(i.cmp(&j)),
+                "at {a} and {b}"
+            );
             assert_eq!(rt; first == second, i == j, "at {a} and {b}");
-            assert_eq!(rt; hash_of(&first) == hash_of(&second), i == j, "at {a} and {b}");
+            assert_eq!(rt;
+                hash_of(&first) == hash_of(&second),
+                i == j,
+                "at {a} and {b}"
+            );
         }
     }
     Ok(())
@@ -68,7 +81,11 @@ fn order_of_names(rt: HostRuntime) -> Result<(), Fail> {
 
 #[test]
 fn equal_names(rt: HostRuntime) -> Result<(), Fail> {
-    for (a, b) in [("Flask", "flask"), ("a_.-b", "A-B"), ("Abcdefgh.I", "abcdefgh-i")] {
+    for (a, b) in [
+        ("Flask", "flask"),
+        ("a_.-b", "A-B"),
+        ("Abcdefgh.I", "abcdefgh-i"),
+    ] {
         let (first, second) = (Name::read(rt.alloc(), a)?, Name::read(rt.alloc(), b)?);
         assert!(rt; first == second, "at {a} and {b}");
         assert_eq!(rt; first.cmp(&second), Ordering::Equal, "at {a} and {b}");
@@ -106,7 +123,13 @@ fn runs(rt: HostRuntime) -> Result<(), Fail> {
         assert_eq!(rt; name_run(text), name);
         assert_eq!(rt; without_leading_blanks(text), &text[front..]);
     }
-    for (text, want) in [(&b" a b\t "[..], &b"a b"[..]), (b"\t ", b""), (b"", b""), (b"\ra ", b"\ra")] {
+    let trims: [(&[u8], &[u8]); 4] = [
+        (b" a b\t ", b"a b"),
+        (b"\t ", b""),
+        (b"", b""),
+        (b"\ra ", b"\ra"),
+    ];
+    for (text, want) in trims {
         assert_eq!(rt; without_outer_blanks(text), want);
     }
     Ok(())

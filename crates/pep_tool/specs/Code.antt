@@ -3,7 +3,8 @@ use Rattle.std.specs.Prelude.{ℕ, List, [], ◌∷◌, Option, None, option_to_
 use Rattle.pep_version.specs.Code.{version_code}
 use Rattle.pep_require.specs.Code.{require_code, require_inner_code}
 use Rattle.pep_tool.specs.declared.fault.Cause.{Cause}
-use Rattle.pep_tool.specs.declared.fault.Cause.TheVariants.{TooLarge, Line, ReadFault, NoMemory, BadWords, BadArgument, WriteFault}
+use Rattle.pep_tool.specs.declared.fault.Cause.TheVariants.{TooLarge, Line, ReadFault, NoMemory}
+use Rattle.pep_tool.specs.declared.fault.Cause.TheVariants.{BadWords, BadArgument, WriteFault}
 use Rattle.pep_tool.specs.declared.fault.LineFault.{LineFault}
 use Rattle.pep_tool.specs.declared.fault.LineFault.TheVariants.{Requirement, NotUtf8}
 

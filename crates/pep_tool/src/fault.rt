@@ -1,6 +1,15 @@
 //! Faults of inputs and of the program, and the line that tells one.
 
-ghost use Rattle.std.specs.Prelude.{◌≡◌, ◌++◌, ◌∷◌, codes, decimal, string_bytes, OnOk, option_to_list};
+ghost use Rattle.std.specs.Prelude.{
+  ◌≡◌,
+  ◌++◌,
+  ◌∷◌,
+  codes,
+  decimal,
+  string_bytes,
+  OnOk,
+  option_to_list,
+};
 ghost use Rattle.pep_tool.specs.Code.{cause_code, inner_codes, line_code, line_inner_code};
 ghost use Rattle.pep_tool.specs.FaultLine.{codes_text, place_text, line_text, words_text};
 
@@ -42,7 +51,8 @@ impl LineFault {
         }
     }
 
-    /// The code of the fault inside it, of a clause or of a marker: see [`RequireFault::inner_code`].
+    /// The code of the fault inside it, of a clause or of a marker: see
+    /// [`RequireFault::inner_code`].
     pub fn inner_code(self) -> Option<u64>
         ensures { result ≡ line_inner_code self }
     {
@@ -112,8 +122,8 @@ pub enum Cause {
 }
 
 impl Cause {
-    /// The code of the cause, which stands at each one above. A refused line and a refused version have codes inside it:
-    /// see [`LineFault::code`] and [`VersionFault::code`].
+    /// The code of the cause, which stands at each one above. A refused line and a refused version
+    /// have codes inside it: see [`LineFault::code`] and [`VersionFault::code`].
     pub fn code(&self) -> u64
         ensures { result ≡ cause_code self.now }
     {
@@ -183,13 +193,15 @@ impl Fault {
         }
     }
 
-    /// The line that tells the fault, with its line feed: `refused`, the place, the line and the codes from the
-    /// outermost to the innermost. Behind the line of refused words comes the text that tells why.
+    /// The line that tells the fault, with its line feed: `refused`, the place, the line and the
+    /// codes from the outermost to the innermost. Behind the line of refused words comes the text
+    /// that tells why.
     ///
     /// Its one refusal is want of memory, 60.
     pub fn text(&self, alloc: Global) -> Result<String, Fault>
         ensures line { IfOk result (λ text. string_bytes text ≡ fault_line self.now) }
-        ensures faults { IfErr result (λ fault. fault ≡ record { place = Nowhere; cause = NoMemory }) }
+        ensures faults { IfErr result
+            (λ fault. fault ≡ record { place = Nowhere; cause = NoMemory }) }
     {
         let mut text = String::from_str(alloc, "refused")?;
         push_place(&mut text, self.place)?;
@@ -243,7 +255,8 @@ impl From<VersionFault> for Fault {
 
 // Appends a space and a number.
 fn push_number(text: &mut String, number: u64) -> Result<(), AllocError>
-    ensures { OnOk result (string_bytes text.new ≡ string_bytes text.old ++ codes " " ++ decimal number) }
+    ensures { OnOk result
+        (string_bytes text.new ≡ string_bytes text.old ++ codes " " ++ decimal number) }
 {
     let mut buffer = Buffer::new();
     text.push_str(" ")?;
@@ -280,7 +293,8 @@ fn push_line(text: &mut String, cause: &Cause) -> Result<(), AllocError>
 fn push_line_codes(text: &mut String, fault: LineFault) -> Result<(), AllocError>
     ensures { OnOk result
         (string_bytes text.new
-            ≡ string_bytes text.old ++ codes_text (line_code fault ∷ option_to_list (line_inner_code fault))) }
+        ≡ string_bytes text.old
+        ++ codes_text (line_code fault ∷ option_to_list (line_inner_code fault))) }
 {
     push_number(text, fault.code())?;
     match fault.inner_code() {
