@@ -28,7 +28,7 @@ without_end_zeros-twice (n ∷ rest) = step n (without_end_zeros rest) (without_
     step zero (y ∷ ys) e = ap (with_first 0) e
     step (suc n) ys e = rw (positive n, positive n) (ap (λ (l : List ℕ). suc n ∷ l) e)
 
-without_end_zeros-short : (xs : List ℕ) → without_end_zeros (short_release xs)
+pub without_end_zeros-short : (xs : List ℕ) → without_end_zeros (short_release xs)
     ≡ without_end_zeros xs
 without_end_zeros-short [] = refl
 without_end_zeros-short (n ∷ rest) = ap (with_first n) (without_end_zeros-twice rest)
