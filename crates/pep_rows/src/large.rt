@@ -1,4 +1,5 @@
-//! Lists that are larger than a body that gives up early would take: each text is expected from a plain rule.
+//! Lists that are larger than a body that gives up early would take: each text is expected from a
+//! plain rule.
 
 ghost use Rattle.std.specs.Prelude.{◌<◌};
 

@@ -1,4 +1,5 @@
-//! Rows that cross the crates: what lists, readers and writers give, as the documents of the project say it.
+//! Rows that cross the crates: what lists, readers and writers give, as the documents of the
+//! project say it.
 #![tactic(auto)]
 
 #[cfg(test)]

@@ -1,4 +1,5 @@
-//! Sets of clauses: their cuts, with carries at the largest number, their order, and which versions they hold.
+//! Sets of clauses: their cuts, with carries at the largest number, their order, and which versions
+//! they hold.
 
 use crate::vectors::ORDERED;
 use pep_clause::{Clause, ClauseFault, Cut, VersionSet, laws};
@@ -334,14 +335,15 @@ fn expect_admitted(
 fn sets_hold_what_clauses_admit(rt: HostRuntime) -> Result<(), Fail> {
     let alloc = rt.alloc();
     let (clauses, versions) = (clauses(alloc)?, candidates(alloc)?);
-    // `==` and `!=` take all 27 operands and 8 prefixes, `~=` the 21 of two numbers or more without a label, `===` all
-    // of both forms, the others the 25 without a label.
+    // `==` and `!=` take all 27 operands and 8 prefixes, `~=` the 21 of two numbers or more without
+    // a label, `===` all of both forms, the others the 25 without a label.
     assert_eq!(rt;
         clauses.len(),
         2 * (27 + 8) + 21 + 2 * 27 + 4 * 25,
         "clauses"
     );
-    // 8 operands take all 6 endings, 5 pre-releases and 2 labels 5, 5 post-releases 3, 7 developmental releases 2.
+    // 8 operands take all 6 endings, 5 pre-releases and 2 labels 5, 5 post-releases 3, 7
+    // developmental releases 2.
     assert_eq!(rt;
         versions.len(),
         41 + 8 * 6 + 7 * 5 + 5 * 3 + 7 * 2,

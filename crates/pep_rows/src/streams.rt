@@ -1,4 +1,5 @@
-//! The program over readers and writers that fail at a call, that give bytes without end, or that take none.
+//! The program over readers and writers that fail at a call, that give bytes without end, or that
+//! take none.
 
 use pep_tool::{Bytes, Counted, Failed, Sink, Source, run, write_text};
 use std::alloc::Global;

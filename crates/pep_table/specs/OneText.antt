@@ -1,6 +1,7 @@
--- One text for one set of demands: two tables of the same demands, with the points that all the demands have, are one
--- table, and a table has one text.
-use Rattle.std.proofs.Common.{◌≡◌, ℕ, suc, ◌<◌, ◌≤◌, Bool, true, false, List, [], ◌∷◌, ◌++◌, length, refl, sym, ap, subst, ◌∙◌, arith, inl, inr, Option, Some, None}
+-- One text for one set of demands: two tables of the same demands, with the points that all the
+-- demands have, are one table, and a table has one text.
+use Rattle.std.proofs.Common.{◌≡◌, ℕ, suc, ◌<◌, ◌≤◌, Bool, true, false, List, [], ◌∷◌, ◌++◌, length}
+use Rattle.std.proofs.Common.{refl, sym, ap, subst, ◌∙◌, arith, inl, inr, Option, Some, None}
 use Rattle.std.specs.Prelude.{Contains, IfSome, IsSome, bytes_eq, is_some, ◌↔◌}
 use Rattle.std.specs.Cmp.Lexicographic.{slice_cmp}
 use Rattle.std.specs.List.{All}
@@ -15,8 +16,10 @@ use Rattle.pep_require.specs.Requirement.{IsAscending}
 use Rattle.pep_table.specs.declared.verdict.Verdict.{Verdict}
 use Rattle.pep_table.specs.declared.verdict.Verdict.TheVariants.{Possible, Nothing, Conflict}
 use Rattle.pep_table.specs.Demand.{Demand, Demands, HaveSameDemands, clause, extra, url}
-use Rattle.pep_table.specs.JoinLaws.{Contains-from_IsIn, IsIn, IsIn-from_Contains, ascending_same, first_below, irreflexive, rest_ascends}
-use Rattle.pep_table.specs.Table.{AdmitsPoint, EntryParts, HasExactPoints, IsEntry, IsTable, IsValidEntry, TableParts, entry_at, names}
+use Rattle.pep_table.specs.JoinLaws.{Contains-from_IsIn, IsIn, IsIn-from_Contains, ascending_same}
+use Rattle.pep_table.specs.JoinLaws.{first_below, irreflexive, rest_ascends}
+use Rattle.pep_table.specs.Table.{AdmitsPoint, EntryParts, HasExactPoints, IsEntry, IsTable}
+use Rattle.pep_table.specs.Table.{IsValidEntry, TableParts, entry_at, names}
 use Rattle.pep_table.specs.TableText.{IsTableText, entry_text}
 use Rattle.pep_table.specs.Verdict.{IsEntryVerdict}
 
@@ -33,7 +36,8 @@ exclusive e (few, inl none) (small, some, way) = some none
 exclusive e (few, inr (texts, never)) (small, some, inl no_text) = some_text e.texts no_text texts
 exclusive e (few, inr (texts, never)) (small, some, inr (v, is, fits)) = never v is fits
 
-pub entry_verdict_one : (e : EntryParts) (v w : Verdict) → IsEntryVerdict e v → IsEntryVerdict e w → v ≡ w
+pub entry_verdict_one : (e : EntryParts) (v w : Verdict) → IsEntryVerdict e v → IsEntryVerdict e w →
+    v ≡ w
 entry_verdict_one e Possible Possible h g = refl
 entry_verdict_one e Nothing Nothing h g = refl
 entry_verdict_one e Conflict Conflict h g = refl
@@ -54,7 +58,8 @@ one_table_text (p ∷ t) x y h g =
 
 -- ---- entries of the same demands are one
 
-same_texts : (xs ys : List (List ℕ)) → IsAscending xs → IsAscending ys → ((x : List ℕ) → Contains xs x ↔ Contains ys x) → xs ≡ ys
+same_texts : (xs ys : List (List ℕ)) → IsAscending xs → IsAscending ys →
+    ((x : List ℕ) → Contains xs x ↔ Contains ys x) → xs ≡ ys
 same_texts xs ys up more same = ascending_same xs ys up more
     (λ x m. IsIn-from_Contains ys x ((same x).0 (Contains-from_IsIn xs x m)))
     (λ x m. IsIn-from_Contains xs x ((same x).1 (Contains-from_IsIn ys x m)))
@@ -69,15 +74,26 @@ one_answer_of false false h = refl
 
 -- the points of an entry are those that all its demands have
 abbrev ExactEntry : (Demand → Type 0) → EntryParts → Type 0
-ExactEntry Q e = (cut : Cut) → IsCut cut → IsPoint e.versions cut ↔ (IsPoint all_versions cut × ((d : Demand) → Q d → AdmitsPoint d cut))
+ExactEntry Q e =
+    (cut : Cut) → IsCut cut → IsPoint e.versions cut ↔ (IsPoint all_versions cut
+    × ((d : Demand) → Q d → AdmitsPoint d cut))
 
-one_entry : (Q W : Demand → Type 0) (e f : EntryParts) → ((d : Demand) → Q d ↔ W d) → IsValidEntry e → IsValidEntry f → IsEntry Q e → IsEntry W f →
+one_entry : (Q W : Demand → Type 0) (e f : EntryParts) → ((d : Demand) → Q d ↔ W d) →
+    IsValidEntry e → IsValidEntry f → IsEntry Q e → IsEntry W f →
     ExactEntry Q e → ExactEntry W f → e ≡ f
 one_entry Q W e f same ve vf ie fi pe pf =
-    let extras = same_texts e.extras f.extras ve.extras.0 vf.extras.0 (λ x. through (ie.extras x) (same (extra x)) (fi.extras x)) in
-    let urls = same_texts e.urls f.urls ve.urls.0 vf.urls.0 (λ u. through (ie.urls u) (same (url u)) (fi.urls u)) in
-    let texts = same_texts e.texts f.texts ve.texts.0 vf.texts.0 (λ t. through (ie.texts t) (same (clause (demanded t))) (fi.texts t)) in
-    let versions = same_points e.versions f.versions ve.versions vf.versions (λ cut is. one_answer_of (is_point e.versions cut) (is_point f.versions cut) (
+    let extras =
+    same_texts e.extras f.extras ve.extras.0 vf.extras.0
+    (λ x. through (ie.extras x) (same (extra x)) (fi.extras x)) in
+    let urls =
+    same_texts e.urls f.urls ve.urls.0 vf.urls.0 (λ u.
+    through (ie.urls u) (same (url u)) (fi.urls u)) in
+    let texts =
+    same_texts e.texts f.texts ve.texts.0 vf.texts.0 (λ t.
+    through (ie.texts t) (same (clause (demanded t))) (fi.texts t)) in
+    let versions =
+    same_points e.versions f.versions ve.versions vf.versions
+    (λ cut is. one_answer_of (is_point e.versions cut) (is_point f.versions cut) (
       (λ m. let q = (pe cut is).0 m in (pf cut is).1 (q.0, λ d w. q.1 d ((same d).1 w))),
       λ m. let w = (pf cut is).0 m in (pe cut is).1 (w.0, λ d q. w.1 d ((same d).0 q)),
     )) in
@@ -103,24 +119,31 @@ entry_first : (p : Named) (t : TableParts) → entry_at (p ∷ t) p.0 ≡ Some p
 entry_first p t = rw (eq_true p.0 p.0 refl) refl
 
 -- the entry of another name
-entry_other : (p : Named) (t : TableParts) (name : List ℕ) → (p.0 ≡ name → ⊥) → entry_at (p ∷ t) name ≡ entry_at t name
+entry_other : (p : Named) (t : TableParts) (name : List ℕ) → (p.0 ≡ name → ⊥) →
+    entry_at (p ∷ t) name ≡ entry_at t name
 entry_other p t name differ = rw (eq_false p.0 name differ) refl
 
 -- a name of the table has an entry there, and the other way round
-entry_there : (t : TableParts) (name : List ℕ) → IsIn (names t) name → (e : EntryParts) × (entry_at t name ≡ Some e)
+entry_there : (t : TableParts) (name : List ℕ) → IsIn (names t) name → (e : EntryParts)
+    × (entry_at t name ≡ Some e)
 entry_there [] name h = absurd h
 entry_there (p ∷ t) name h = by (bytes_eq p.0 name) refl h (λ m. entry_there t name m)
   where
-    by : (b : Bool) → bytes_eq p.0 name ≡ b → IsIn (names (p ∷ t)) name → (IsIn (names t) name → (e : EntryParts) × (entry_at t name ≡ Some e)) → (e : EntryParts) × (entry_at (p ∷ t) name ≡ Some e)
+    by : (b : Bool) → bytes_eq p.0 name ≡ b → IsIn (names (p ∷ t)) name →
+        (IsIn (names t) name → (e : EntryParts) × (entry_at t name ≡ Some e)) → (e : EntryParts)
+        × (entry_at (p ∷ t) name ≡ Some e)
     by true at m rest = (p.1, rw at refl)
-    by false at (inl same) rest = let found : true ≡ false = sym (eq_true p.0 name (sym same)) ∙ at in cc found
+    by false at (inl same) rest =
+        let found : true ≡ false = sym (eq_true p.0 name (sym same)) ∙ at in cc found
     by false at (inr m) rest = let more = rest m in (more.0, rw at more.1)
 
-name_there : (t : TableParts) (name : List ℕ) (e : EntryParts) → entry_at t name ≡ Some e → IsIn (names t) name
+name_there : (t : TableParts) (name : List ℕ) (e : EntryParts) → entry_at t name ≡ Some e →
+    IsIn (names t) name
 name_there [] name e h = cc h
 name_there (p ∷ t) name e h = by (bytes_eq p.0 name) refl (name_there t name e)
   where
-    by : (b : Bool) → bytes_eq p.0 name ≡ b → (entry_at t name ≡ Some e → IsIn (names t) name) → IsIn (names (p ∷ t)) name
+    by : (b : Bool) → bytes_eq p.0 name ≡ b → (entry_at t name ≡ Some e → IsIn (names t) name) →
+        IsIn (names (p ∷ t)) name
     by true at rest = inl (sym ((bytes_eq-Decides p.0 name).0 at))
     by false at rest = inr (rest (rw at at h))
 
@@ -132,55 +155,75 @@ absent t name never = by (entry_at t name) refl
     by (Some f) e = absurd (never (name_there t name f e))
 
 -- the first name of rising names is none of the others
-first_apart : (p : Named) (t : TableParts) (name : List ℕ) → IsAscending (names (p ∷ t)) → p.0 ≡ name → IsIn (names t) name → ⊥
-first_apart p t name up e m = irreflexive p.0 (subst (λ (n : List ℕ). slice_cmp nat_cmp p.0 n ≡ Less) (sym e) (first_below p.0 (names t) name up m))
+first_apart : (p : Named) (t : TableParts) (name : List ℕ) → IsAscending (names (p ∷ t)) →
+    p.0 ≡ name → IsIn (names t) name → ⊥
+first_apart p t name up e m =
+    irreflexive p.0 (subst (λ (n : List ℕ). slice_cmp nat_cmp p.0 n
+    ≡ Less) (sym e) (first_below p.0 (names t) name up m))
 
-same_named : (t s : TableParts) → names t ≡ names s → IsAscending (names t) → IsAscending (names s) → ((name : List ℕ) → entry_at t name ≡ entry_at s name) → t ≡ s
+same_named : (t s : TableParts) → names t ≡ names s → IsAscending (names t) →
+    IsAscending (names s) → ((name : List ℕ) → entry_at t name ≡ entry_at s name) → t ≡ s
 same_named [] [] e up more same = refl
 same_named [] (q ∷ s) e up more same = cc e
 same_named (p ∷ t) [] e up more same = cc e
 same_named (p ∷ t) (q ∷ s) e up more same =
     let first : p.0 ≡ q.0 = cc e in
     let others : names t ≡ names s = cc e in
-    let found : Some p.1 ≡ Some q.1 = sym (entry_first p t) ∙ same p.0 ∙ ap (entry_at (q ∷ s)) first ∙ entry_first q s in
+    let found : Some p.1 ≡ Some q.1 =
+    sym (entry_first p t) ∙ same p.0 ∙ ap (entry_at (q ∷ s)) first ∙ entry_first q s in
     let entry : p.1 ≡ q.1 = cc found in
-    let rest = same_named t s others (rest_ascends p.0 (names t) up) (rest_ascends q.0 (names s) more) (λ name. tail name (bytes_eq p.0 name) refl first) in
+    let rest =
+    same_named t s others (rest_ascends p.0 (names t) up) (rest_ascends q.0 (names s) more)
+    (λ name. tail name (bytes_eq p.0 name) refl first) in
     λ i. (first i, entry i) ∷ rest i
   where
-    tail : (name : List ℕ) (b : Bool) → bytes_eq p.0 name ≡ b → p.0 ≡ q.0 → entry_at t name ≡ entry_at s name
+    tail : (name : List ℕ) (b : Bool) → bytes_eq p.0 name ≡ b → p.0 ≡ q.0 →
+        entry_at t name ≡ entry_at s name
     tail name true at first =
         let is : p.0 ≡ name = (bytes_eq-Decides p.0 name).0 at in
-        absent t name (first_apart p t name up is) ∙ sym (absent s name (first_apart q s name more (sym first ∙ is)))
+        absent t name (first_apart p t name up is)
+        ∙ sym (absent s name (first_apart q s name more (sym first ∙ is)))
     tail name false at first =
-        let differ : p.0 ≡ name → ⊥ = λ is. let both : true ≡ false = sym (eq_true p.0 name is) ∙ at in cc both in
-        sym (entry_other p t name differ) ∙ same name ∙ entry_other q s name (λ is. differ (first ∙ is))
+        let differ : p.0 ≡ name → ⊥ =
+        λ is. let both : true ≡ false = sym (eq_true p.0 name is) ∙ at in cc both in
+        sym (entry_other p t name differ) ∙ same name
+        ∙ entry_other q s name (λ is. differ (first ∙ is))
 
 -- tables with the same entry at each name are one
-pub one_table : (t s : TableParts) → IsAscending (names t) → IsAscending (names s) → ((name : List ℕ) → entry_at t name ≡ entry_at s name) → t ≡ s
+pub one_table : (t s : TableParts) → IsAscending (names t) → IsAscending (names s) →
+    ((name : List ℕ) → entry_at t name ≡ entry_at s name) → t ≡ s
 one_table t s up more same = same_named t s
     (ascending_same (names t) (names s) up more
-    (λ name m. let found = entry_there t name m in name_there s name found.0 (sym (same name) ∙ found.1))
+    (λ name m. let found = entry_there t name m in name_there s name found.0 (sym (same name)
+    ∙ found.1))
     (λ name m. let found = entry_there s name m in name_there t name found.0 (same name ∙ found.1)))
     up more same
 
 -- ---- tables of the same demands
 
-valid_at : (t : TableParts) (name : List ℕ) (e : EntryParts) → All (λ (p : Named). IsValidEntry p.1) t → entry_at t name ≡ Some e → IsValidEntry e
+valid_at : (t : TableParts) (name : List ℕ) (e : EntryParts) →
+    All (λ (p : Named). IsValidEntry p.1) t → entry_at t name ≡ Some e → IsValidEntry e
 valid_at [] name e h at = cc at
-valid_at (p ∷ t) name e h at = by (bytes_eq p.0 name) refl (valid_at t name e (λ k d lt. h (suc k) d (omega (arith, lt))))
+valid_at (p ∷ t) name e h at =
+    by (bytes_eq p.0 name) refl (valid_at t name e (λ k d lt. h (suc k) d (omega (arith, lt))))
   where
-    by : (b : Bool) → bytes_eq p.0 name ≡ b → (entry_at t name ≡ Some e → IsValidEntry e) → IsValidEntry e
-    by true is rest = let same : Some p.1 ≡ Some e = rw is at at in let one : p.1 ≡ e = cc same in subst IsValidEntry one (h 0 p (omega arith))
+    by : (b : Bool) → bytes_eq p.0 name ≡ b → (entry_at t name ≡ Some e → IsValidEntry e) →
+        IsValidEntry e
+    by true is rest =
+        let same : Some p.1 ≡ Some e = rw is at at in let one : p.1 ≡ e = cc same in
+        subst IsValidEntry one (h 0 p (omega arith))
     by false is rest = rest (rw is at at)
 
 is_some_of : (o : Option EntryParts) (e : EntryParts) → o ≡ Some e → IsSome o
 is_some_of o e h = ap is_some h
 
-if_some_at : (o : Option EntryParts) (P : EntryParts → Type 0) (e : EntryParts) → IfSome o P → o ≡ Some e → P e
+if_some_at : (o : Option EntryParts) (P : EntryParts → Type 0) (e : EntryParts) → IfSome o P →
+    o ≡ Some e → P e
 if_some_at None P e h at = cc at
 if_some_at (Some f) P e h at = let same : f ≡ e = cc at in subst P same h
 
-same_entry_at : (Q W : Demands) (t s : TableParts) → HaveSameDemands Q W → IsTable Q t → HasExactPoints Q t → IsTable W s → HasExactPoints W s →
+same_entry_at : (Q W : Demands) (t s : TableParts) → HaveSameDemands Q W → IsTable Q t →
+    HasExactPoints Q t → IsTable W s → HasExactPoints W s →
     (name : List ℕ) → entry_at t name ≡ entry_at s name
 same_entry_at Q W t s same h hp g gp name = by (entry_at t name) (entry_at s name) refl refl
   where
@@ -195,15 +238,22 @@ same_entry_at Q W t s same h hp g gp name = by (entry_at t name) (entry_at s nam
         let there : IsSome (entry_at t name) = (h.names name).1 (q.0, (same name q.0).1 q.1) in
         cc (subst IsSome e there)
     by (Some a) (Some b) e f =
-        ap Some (one_entry (Q name) (W name) a b (same name) (valid_at t name a h.valid.entries e) (valid_at s name b g.valid.entries f)
-        (if_some_at (entry_at t name) (IsEntry (Q name)) a (h.entries name) e) (if_some_at (entry_at s name) (IsEntry (W name)) b (g.entries name) f)
-        (if_some_at (entry_at t name) (ExactEntry (Q name)) a (hp name) e) (if_some_at (entry_at s name) (ExactEntry (W name)) b (gp name) f))
+        ap Some (one_entry (Q name) (W name) a b (same name) (valid_at t name a h.valid.entries e)
+        (valid_at s name b g.valid.entries f)
+        (if_some_at (entry_at t name) (IsEntry (Q name)) a (h.entries name) e)
+        (if_some_at (entry_at s name) (IsEntry (W name)) b (g.entries name) f)
+        (if_some_at (entry_at t name) (ExactEntry (Q name)) a (hp name) e)
+        (if_some_at (entry_at s name) (ExactEntry (W name)) b (gp name) f))
 
 -- the tables of the same demands, with their points, are one table, and print one text
-pub same_table_of : (Q W : Demands) (t s : TableParts) → HaveSameDemands Q W → IsTable Q t → HasExactPoints Q t → IsTable W s → HasExactPoints W s → t ≡ s
-same_table_of Q W t s same h hp g gp = one_table t s h.valid.names.0 g.valid.names.0 (same_entry_at Q W t s same h hp g gp)
+pub same_table_of : (Q W : Demands) (t s : TableParts) → HaveSameDemands Q W → IsTable Q t →
+    HasExactPoints Q t → IsTable W s → HasExactPoints W s → t ≡ s
+same_table_of Q W t s same h hp g gp =
+    one_table t s h.valid.names.0 g.valid.names.0 (same_entry_at Q W t s same h hp g gp)
 
-pub one_text : (Q W : Demands) (t s : TableParts) (x y : List ℕ) → HaveSameDemands Q W → IsTable Q t → HasExactPoints Q t → IsTable W s → HasExactPoints W s →
+pub one_text : (Q W : Demands) (t s : TableParts) (x y : List ℕ) → HaveSameDemands Q W →
+    IsTable Q t → HasExactPoints Q t → IsTable W s → HasExactPoints W s →
     IsTableText t x → IsTableText s y → x ≡ y
 one_text Q W t s x y same h hp g gp tx sy =
-    one_table_text s x y (subst (λ (u : TableParts). IsTableText u x) (same_table_of Q W t s same h hp g gp) tx) sy
+    one_table_text s x y (subst (λ (u : TableParts). IsTableText u x)
+    (same_table_of Q W t s same h hp g gp) tx) sy

@@ -1,5 +1,8 @@
 -- The lines of a list, and what they give.
-use Rattle.std.proofs.Common.{◌≡◌, ◌≢◌, ℕ, zero, suc, ◌+◌, ◌<◌, ◌≤◌, ◌==◌, ◌⊎◌, Bool, true, cond, false, not, List, [], ◌∷◌, ◌++◌, length, length-append, map, refl, sym, ap, subst, ◌∙◌, arith, inl, inr, append_assoc, append-nil, Option, Some, None}
+use Rattle.std.proofs.Common.{◌≡◌, ◌≢◌, ℕ, zero, suc, ◌+◌, ◌<◌, ◌≤◌, ◌==◌, ◌⊎◌, Bool, true, cond}
+use Rattle.std.proofs.Common.{false, not, List, [], ◌∷◌, ◌++◌, length, length-append, map, refl}
+use Rattle.std.proofs.Common.{sym, ap, subst, ◌∙◌, arith, inl, inr, append_assoc, append-nil}
+use Rattle.std.proofs.Common.{Option, Some, None}
 use Rattle.std.specs.Borrow.{Bor}
 use Rattle.std.specs.Prelude.{IfSome, IsSome, slice_index_or, filter, IsUtf8}
 use Rattle.std.specs.List.{All, AllByRecursion, AllZip, onto_first}
@@ -15,21 +18,32 @@ use Rattle.pep_tool.specs.declared.fault.Cause.TheVariants as cause
 use Rattle.pep_tool.specs.declared.fault.LineFault.{LineFault}
 use Rattle.pep_tool.specs.declared.fault.LineFault.TheVariants as line_fault
 use Rattle.pep_tool.specs.Line.{ReadsLine, RefusesLine}
-use Rattle.pep_tool.specs.Lists.{IsListOf, content, input_limit, is_skipped, lines_of, requirement_lines}
+use Rattle.pep_tool.specs.Lists.{IsListOf, content, input_limit, is_skipped, lines_of}
+use Rattle.pep_tool.specs.Lists.{requirement_lines}
 use Rattle.pep_tool.specs.Refusal.{IsNumbered, IsRefusedLine, IsRefusedList}
 use Rattle.pep_tool.specs.Refusal.{by_content, by_encoding, by_length, by_line, by_size}
-use Rattle.pep_tool.specs.Sets.{Gathers, HasClause, IsGathered, IsGoodLine, IsReadOf, LineGives, LineParts, LinesGive, ListGives, MergesLine, MergesList, Pair, RefusesLineBytes, RefusesList, Sets, line_requirement, pairs_of}
+use Rattle.pep_tool.specs.Sets.{Gathers, HasClause, IsGathered, IsGoodLine, IsReadOf, LineGives}
+use Rattle.pep_tool.specs.Sets.{LineParts, LinesGive, ListGives, MergesLine, MergesList, Pair}
+use Rattle.pep_tool.specs.Sets.{RefusesLineBytes, RefusesList, Sets, line_requirement, pairs_of}
 use Rattle.pep_version.specs.Split.{left_parts}
 use Rattle.pep_tool.proofs.LineLemmas.{line_refused}
 
 -- ---- lines in turn
 
-pub gives_append : (done : List (List ℕ)) (ps : List Pair) (line : List ℕ) (more : List Pair) → LinesGive done ps → LineGives line more → LinesGive (done ++ line ∷ []) (ps ++ more)
-gives_append [] ps line more g h = (more, [], h, refl, ap (λ (l : List Pair). l ++ more) g ∙ sym (append-nil more))
-gives_append (d ∷ done) ps line more g h =
-    (g.0, g.1 ++ more, g.2, gives_append done g.1 line more g.3 h, ap (λ (l : List Pair). l ++ more) g.4 ∙ append_assoc g.0 g.1 more)
+pub gives_append : (done : List (List ℕ)) (ps : List Pair) (line : List ℕ) (more : List Pair) →
+    LinesGive done ps → LineGives line more → LinesGive (done ++ line ∷ []) (ps ++ more)
+gives_append [] ps line more g h =
+    (more, [], h, refl, ap (λ (l : List Pair). l ++ more) g ∙ sym (append-nil more))
+gives_append (d ∷ done) ps line more g h = (
+  g.0,
+  g.1 ++ more,
+  g.2,
+  gives_append done g.1 line more g.3 h,
+  ap (λ (l : List Pair). l ++ more) g.4 ∙ append_assoc g.0 g.1 more,
+)
 
-pub good_append : (done : List (List ℕ)) (line : List ℕ) → AllByRecursion IsGoodLine done → IsGoodLine line → AllByRecursion IsGoodLine (done ++ line ∷ [])
+pub good_append : (done : List (List ℕ)) (line : List ℕ) → AllByRecursion IsGoodLine done →
+    IsGoodLine line → AllByRecursion IsGoodLine (done ++ line ∷ [])
 good_append [] line g h = (h, tt)
 good_append (d ∷ done) line g h = (g.0, good_append done line g.1 h)
 
@@ -39,33 +53,40 @@ requirements_among lines = filter (λ x. not (is_skipped x)) (map content lines)
 
 -- what lines give in turn: lines of parts, whose pairs these are
 abbrev GivesParts : List (List ℕ) → List Pair → Type 0
-GivesParts lines ps = (ls : List LineParts) × AllZip ReadsLine (requirements_among lines) (map line_requirement ls) × AllByRecursion HasClause ls × (ps ≡ pairs_of ls)
+GivesParts lines ps =
+    (ls : List LineParts) × AllZip ReadsLine (requirements_among lines) (map line_requirement ls)
+    × AllByRecursion HasClause ls × (ps ≡ pairs_of ls)
 
 gives_parts : (lines : List (List ℕ)) (ps : List Pair) → LinesGive lines ps → GivesParts lines ps
 gives_parts [] ps g = ([], tt, tt, g)
 gives_parts (line ∷ lines) ps g = by g.0 g.2 (gives_parts lines g.1 g.3) g.4
   where
-    by : (first : List Pair) → LineGives line first → GivesParts lines g.1 → (ps ≡ first ++ g.1) → GivesParts (line ∷ lines) ps
+    by : (first : List Pair) → LineGives line first → GivesParts lines g.1 → (ps ≡ first ++ g.1) →
+        GivesParts (line ∷ lines) ps
     by first (inl h) (ls, z, some, are) e = (ls, rw h.0 z, some, e ∙ rw h.1 are)
     by first (inr h) (ls, z, some, are) e =
         (h.1.0 ∷ ls, rw h.0 (h.1.1, z), (h.1.2, some), e ∙ (λ i. h.1.3 i ++ are i))
 
-all_from : (P : List ℕ → Type 0) (lines : List (List ℕ)) → AllByRecursion IsGoodLine lines → ((line : List ℕ) → IsGoodLine line → P line) → All P lines
+all_from : (P : List ℕ → Type 0) (lines : List (List ℕ)) → AllByRecursion IsGoodLine lines →
+    ((line : List ℕ) → IsGoodLine line → P line) → All P lines
 all_from P [] g f = λ k d lt. absurd (omega (arith, lt))
 all_from P (line ∷ lines) g f = λ k d lt. by k d lt (all_from P lines g.1 f)
   where
-    by : (k : ℕ) (d : List ℕ) → k < length (line ∷ lines) → All P lines → P (slice_index_or (line ∷ lines) k d)
+    by : (k : ℕ) (d : List ℕ) → k < length (line ∷ lines) → All P lines →
+        P (slice_index_or (line ∷ lines) k d)
     by zero d lt rest = f line g.0
     by (suc k) d lt rest = rest k d (omega arith)
 
 -- good lines that give pairs are a list of them
-pub list_gives : (bytes : List ℕ) (ps : List Pair) → length bytes ≤ input_limit → AllByRecursion IsGoodLine (lines_of bytes) → LinesGive (lines_of bytes) ps → ListGives bytes ps
+pub list_gives : (bytes : List ℕ) (ps : List Pair) → length bytes ≤ input_limit →
+    AllByRecursion IsGoodLine (lines_of bytes) → LinesGive (lines_of bytes) ps → ListGives bytes ps
 list_gives bytes ps size good gives =
     let parts = gives_parts (lines_of bytes) ps gives in (
       parts.0,
       record {
         size = size;
-        short = all_from (λ line. length line ≤ line_limit) (lines_of bytes) good (λ line g. g.short);
+        short =
+            all_from (λ line. length line ≤ line_limit) (lines_of bytes) good (λ line g. g.short);
         texts = all_from IsUtf8 (lines_of bytes) good (λ line g. g.text);
         requirements = parts.1;
       },
@@ -75,32 +96,47 @@ list_gives bytes ps size good gives =
 
 -- ---- a line of a list
 
-at_seam : (xs : List (List ℕ)) (y : List ℕ) (ys : List (List ℕ)) (d : List ℕ) → slice_index_or (xs ++ y ∷ ys) (length xs) d ≡ y
+at_seam : (xs : List (List ℕ)) (y : List ℕ) (ys : List (List ℕ)) (d : List ℕ) →
+    slice_index_or (xs ++ y ∷ ys) (length xs) d ≡ y
 at_seam [] y ys d = refl
 at_seam (x ∷ xs) y ys d = at_seam xs y ys d
 
-zip_tail : (xs ys : List (List ℕ)) (rs : List RequirementParts) → AllZip ReadsLine (xs ++ ys) rs → (more : List RequirementParts) × AllZip ReadsLine ys more
+zip_tail : (xs ys : List (List ℕ)) (rs : List RequirementParts) → AllZip ReadsLine (xs ++ ys) rs →
+    (more : List RequirementParts) × AllZip ReadsLine ys more
 zip_tail [] ys rs z = (rs, z)
 zip_tail (x ∷ xs) ys [] z = absurd z
 zip_tail (x ∷ xs) ys (r ∷ rs) z = zip_tail xs ys rs z.1
 
-zip_first : (x : List ℕ) (xs : List (List ℕ)) (rs : List RequirementParts) → AllZip ReadsLine (x ∷ xs) rs → (r : RequirementParts) × ReadsLine x r
+zip_first : (x : List ℕ) (xs : List (List ℕ)) (rs : List RequirementParts) →
+    AllZip ReadsLine (x ∷ xs) rs → (r : RequirementParts) × ReadsLine x r
 zip_first x xs [] z = absurd z
 zip_first x xs (r ∷ rs) z = (r, z.0)
 
-kept_first : (line : List ℕ) (left : List (List ℕ)) (rs : List RequirementParts) → is_skipped (content line) ≡ false →
-    AllZip ReadsLine (requirements_among (line ∷ left)) rs → (r : RequirementParts) × ReadsLine (content line) r
-kept_first line left rs seen z = zip_first (content line) (requirements_among left) rs (rw seen at z)
+kept_first : (line : List ℕ) (left : List (List ℕ)) (rs : List RequirementParts) →
+    is_skipped (content line) ≡ false →
+    AllZip ReadsLine (requirements_among (line ∷ left)) rs → (r : RequirementParts)
+    × ReadsLine (content line) r
+kept_first line left rs seen z =
+    zip_first (content line) (requirements_among left) rs (rw seen at z)
 
 -- each line of a list is a good one
-pub line_of_list : (bytes : List ℕ) (done : List (List ℕ)) (line : List ℕ) (left : List (List ℕ)) (rs : List RequirementParts) →
+pub line_of_list : (bytes : List ℕ) (done : List (List ℕ)) (line : List ℕ) (left : List (List ℕ))
+    (rs : List RequirementParts) →
     lines_of bytes ≡ done ++ line ∷ left → IsListOf bytes rs → IsGoodLine line
 line_of_list bytes done line left rs e s =
-    let place : length done < length (lines_of bytes) = rw (e, length-append done (line ∷ left)) (omega arith) in
-    let here : slice_index_or (lines_of bytes) (length done) line ≡ line = ap (λ (l : List (List ℕ)). slice_index_or l (length done) line) e ∙ at_seam done line left line in
-    let split : requirement_lines bytes ≡ requirements_among done ++ requirements_among (line ∷ left) =
-    ap requirements_among e ∙ ap (filter (λ x. not (is_skipped x))) (map-append content done (line ∷ left)) ∙ filter-append (λ x. not (is_skipped x)) (map content done) (map content (line ∷ left)) in
-    let tail = zip_tail (requirements_among done) (requirements_among (line ∷ left)) rs (subst (λ (l : List (List ℕ)). AllZip ReadsLine l rs) split s.requirements) in
+    let place : length done < length (lines_of bytes) =
+    rw (e, length-append done (line ∷ left)) (omega arith) in
+    let here : slice_index_or (lines_of bytes) (length done) line ≡ line =
+    ap (λ (l : List (List ℕ)). slice_index_or l (length done) line) e
+    ∙ at_seam done line left line in
+    let split : requirement_lines bytes ≡ requirements_among done
+    ++ requirements_among (line ∷ left) =
+    ap requirements_among e ∙ ap (filter (λ x. not (is_skipped x)))
+    (map-append content done (line ∷ left))
+    ∙ filter-append (λ x. not (is_skipped x)) (map content done) (map content (line ∷ left)) in
+    let tail =
+    zip_tail (requirements_among done) (requirements_among (line ∷ left)) rs
+    (subst (λ (l : List (List ℕ)). AllZip ReadsLine l rs) split s.requirements) in
     record {
       short = subst (λ (l : List ℕ). length l ≤ line_limit) here (s.short (length done) line place);
       text = subst IsUtf8 here (s.texts (length done) line place);
@@ -117,7 +153,8 @@ spoiled line f (by_content g short text seen known refuses e) good =
     let r = good.requirement seen in line_refused (content line) g r.0 known refuses r.1
 
 -- bytes that are refused as a list are none
-pub refused_list : (bytes : List ℕ) (c : Cause) → IsRefusedList bytes c → (rs : List RequirementParts) → ¬ IsListOf bytes rs
+pub refused_list : (bytes : List ℕ) (c : Cause) → IsRefusedList bytes c →
+    (rs : List RequirementParts) → ¬ IsListOf bytes rs
 refused_list bytes c (by_size large e) rs s = absurd (omega (arith, large, s.size))
 refused_list bytes c (by_line number line f at refused e) rs s =
     spoiled line f refused (line_of_list bytes at.before line at.behind rs at.whole s)
@@ -135,22 +172,26 @@ known fault.LineTooLong = inr (λ e. cc e)
 known fault.UrlOverflow = inr (λ e. cc e)
 
 -- a fault of a line is no want of memory
-line_known : (line : List ℕ) (f : LineFault) → IsRefusedLine line f → f ≢ line_fault.Requirement fault.NoMemory
+line_known : (line : List ℕ) (f : LineFault) → IsRefusedLine line f →
+    f ≢ line_fault.Requirement fault.NoMemory
 line_known line f (by_length long e) memory = cc (e, memory)
 line_known line f (by_encoding short other e) memory = cc (e, memory)
 line_known line f (by_content g short text seen known refuses e) memory = known (cc (e, memory))
 
 -- a line whose content is refused
-pub content_refuses : (line : List ℕ) (f : RequireFault) → length line ≤ line_limit → IsUtf8 line → is_skipped (content line) ≡ false →
+pub content_refuses : (line : List ℕ) (f : RequireFault) → length line ≤ line_limit → IsUtf8 line →
+    is_skipped (content line) ≡ false →
     RefusesLine (content line) f → RefusesLineBytes line (line_fault.Requirement f)
 content_refuses line f short text seen refuses = by (known f)
   where
-    by : (f ≡ fault.NoMemory) ⊎ (f ≢ fault.NoMemory) → RefusesLineBytes line (line_fault.Requirement f)
+    by : (f ≡ fault.NoMemory) ⊎ (f ≢ fault.NoMemory) →
+        RefusesLineBytes line (line_fault.Requirement f)
     by (inl memory) = inl (ap line_fault.Requirement memory)
     by (inr other) = inr (by_content f short text seen other refuses refl)
 
 -- the cause of a fault of a line
-pub line_refuses : (bytes line : List ℕ) (number : ℕ) (f : LineFault) (c : Cause) → IsNumbered (lines_of bytes) number line →
+pub line_refuses : (bytes line : List ℕ) (number : ℕ) (f : LineFault) (c : Cause) →
+    IsNumbered (lines_of bytes) number line →
     RefusesLineBytes line f → (f ≡ line_fault.Requirement fault.NoMemory → c ≡ cause.NoMemory) →
     (f ≢ line_fault.Requirement fault.NoMemory → c ≡ cause.Line number f) → RefusesList bytes c
 line_refuses bytes line number f c at (inl memory) none told = inl (none memory)
@@ -159,13 +200,16 @@ line_refuses bytes line number f c at (inr refused) none told =
 
 -- the cause of a list that goes on behind its largest size
 cut_refuses : (bytes line : List ℕ) (number : ℕ) (c : Cause) → input_limit < length bytes →
-    ((longer : List ℕ) × IsNumbered (lines_of bytes) number longer × (length line ≤ length longer)) →
+    ((longer : List ℕ) × IsNumbered (lines_of bytes) number longer × (length line ≤ length longer))
+    →
     (line_limit < length line → c ≡ cause.Line number (line_fault.Requirement fault.LineTooLong)) →
     (length line ≤ line_limit → c ≡ cause.TooLarge) → RefusesList bytes c
 cut_refuses bytes line number c large at long fits = by (cases_lt line_limit (length line))
   where
     by : (line_limit < length line) ⊎ (length line ≤ line_limit) → RefusesList bytes c
-    by (inl more) = inr (by_line number at.0 (line_fault.Requirement fault.LineTooLong) at.1 (by_length (omega (arith, more, at.2)) refl) (long more))
+    by (inl more) =
+        inr (by_line number at.0 (line_fault.Requirement fault.LineTooLong) at.1
+        (by_length (omega (arith, more, at.2)) refl) (long more))
     by (inr less) = inr (by_size large (fits less))
 
 -- ---- the lines of a text that goes on
@@ -177,14 +221,16 @@ with_parts (a ∷ []) [] = a ∷ []
 with_parts (a ∷ []) (b ∷ more) = (a ++ b) ∷ more
 with_parts (a ∷ b ∷ parts) more = a ∷ with_parts (b ∷ parts) more
 
-onto_first-with_parts : (x : ℕ) (parts more : List (List ℕ)) → parts ≢ [] → with_parts (onto_first x parts) more ≡ onto_first x (with_parts parts more)
+onto_first-with_parts : (x : ℕ) (parts more : List (List ℕ)) → parts ≢ [] →
+    with_parts (onto_first x parts) more ≡ onto_first x (with_parts parts more)
 unfolding with_parts
 onto_first-with_parts x [] more some = absurd (some refl)
 onto_first-with_parts x (a ∷ []) [] some = refl
 onto_first-with_parts x (a ∷ []) (b ∷ more) some = refl
 onto_first-with_parts x (a ∷ b ∷ parts) more some = refl
 
-new-with_parts : (parts more : List (List ℕ)) → parts ≢ [] → with_parts ([] ∷ parts) more ≡ [] ∷ with_parts parts more
+new-with_parts : (parts more : List (List ℕ)) → parts ≢ [] →
+    with_parts ([] ∷ parts) more ≡ [] ∷ with_parts parts more
 unfolding with_parts
 new-with_parts [] more some = absurd (some refl)
 new-with_parts (a ∷ parts) more some = refl
@@ -208,9 +254,14 @@ lines_of-append [] y = by (lines_of y) (lines_of-some y)
 lines_of-append (b ∷ x) y = by (b == 10) (lines_of-append x y)
   where
     by : (t : Bool) → lines_of (x ++ y) ≡ with_parts (lines_of x) (lines_of y) →
-        cond t ([] ∷ lines_of (x ++ y)) (onto_first b (lines_of (x ++ y))) ≡ with_parts (cond t ([] ∷ lines_of x) (onto_first b (lines_of x))) (lines_of y)
-    by true rest = ap (λ (l : List (List ℕ)). [] ∷ l) rest ∙ sym (new-with_parts (lines_of x) (lines_of y) (lines_of-some x))
-    by false rest = ap (onto_first b) rest ∙ sym (onto_first-with_parts b (lines_of x) (lines_of y) (lines_of-some x))
+        cond t ([] ∷ lines_of (x ++ y)) (onto_first b (lines_of (x ++ y)))
+        ≡ with_parts (cond t ([] ∷ lines_of x) (onto_first b (lines_of x))) (lines_of y)
+    by true rest =
+        ap (λ (l : List (List ℕ)). [] ∷ l) rest
+        ∙ sym (new-with_parts (lines_of x) (lines_of y) (lines_of-some x))
+    by false rest =
+        ap (onto_first b) rest
+        ∙ sym (onto_first-with_parts b (lines_of x) (lines_of y) (lines_of-some x))
 
 -- a part that is not the last stays
 with_parts-seam : (done : List (List ℕ)) (line next : List ℕ) (left more : List (List ℕ)) →
@@ -218,7 +269,8 @@ with_parts-seam : (done : List (List ℕ)) (line next : List ℕ) (left more : L
 unfolding with_parts
 with_parts-seam [] line next left more = refl
 with_parts-seam (d ∷ []) line next left more = refl
-with_parts-seam (d ∷ e ∷ done) line next left more = ap (λ (l : List (List ℕ)). d ∷ l) (with_parts-seam (e ∷ done) line next left more)
+with_parts-seam (d ∷ e ∷ done) line next left more =
+    ap (λ (l : List (List ℕ)). d ∷ l) (with_parts-seam (e ∷ done) line next left more)
 
 -- the last part may grow
 with_parts-last : (done : List (List ℕ)) (line part : List ℕ) (more : List (List ℕ)) →
@@ -226,52 +278,75 @@ with_parts-last : (done : List (List ℕ)) (line part : List ℕ) (more : List (
 unfolding with_parts
 with_parts-last [] line part more = refl
 with_parts-last (d ∷ []) line part more = refl
-with_parts-last (d ∷ e ∷ done) line part more = ap (λ (l : List (List ℕ)). d ∷ l) (with_parts-last (e ∷ done) line part more)
+with_parts-last (d ∷ e ∷ done) line part more =
+    ap (λ (l : List (List ℕ)). d ∷ l) (with_parts-last (e ∷ done) line part more)
 
 -- the last line of what was read is the front of a line of the whole
-last_of_read : (bytes read more line : List ℕ) (done : List (List ℕ)) (number : ℕ) → bytes ≡ read ++ more → lines_of read ≡ done ++ line ∷ [] →
-    number ≡ length done + 1 → (longer : List ℕ) × IsNumbered (lines_of bytes) number longer × (length line ≤ length longer)
-last_of_read bytes read more line done number goes e counted = by (lines_of more) (lines_of-some more) refl
+last_of_read : (bytes read more line : List ℕ) (done : List (List ℕ)) (number : ℕ) → bytes ≡ read
+    ++ more → lines_of read ≡ done ++ line ∷ [] →
+    number ≡ length done + 1 → (longer : List ℕ) × IsNumbered (lines_of bytes) number longer
+    × (length line ≤ length longer)
+last_of_read bytes read more line done number goes e counted =
+    by (lines_of more) (lines_of-some more) refl
   where
-    by : (parts : List (List ℕ)) → parts ≢ [] → lines_of more ≡ parts → (longer : List ℕ) × IsNumbered (lines_of bytes) number longer × (length line ≤ length longer)
+    by : (parts : List (List ℕ)) → parts ≢ [] → lines_of more ≡ parts → (longer : List ℕ)
+        × IsNumbered (lines_of bytes) number longer × (length line ≤ length longer)
     by [] some are = absurd (some refl)
     by (part ∷ parts) some are = (
       line ++ part,
       record {
         before = done;
         behind = parts;
-        whole = ap lines_of goes ∙ lines_of-append read more ∙ (λ i. with_parts (e i) (are i)) ∙ with_parts-last done line part parts;
+        whole =
+            ap lines_of goes ∙ lines_of-append read more ∙ (λ i. with_parts (e i) (are i))
+            ∙ with_parts-last done line part parts;
         counted = counted;
       },
       rw (length-append line part) (omega arith),
     )
 
 -- why a list that goes on behind its largest size is refused in its last line
-pub cut_of_read : (bytes read line : List ℕ) (fits : Bool) (done : List (List ℕ)) (after : Option (Bor (List ℕ))) (number : ℕ) (c : Cause) →
-    fits ≡ false → after ≡ None → IsReadOf fits read bytes → lines_of read ≡ done ++ line ∷ left_parts 10 after → number ≡ length done + 1 →
+pub cut_of_read : (bytes read line : List ℕ) (fits : Bool) (done : List (List ℕ))
+    (after : Option (Bor (List ℕ))) (number : ℕ) (c : Cause) →
+    fits ≡ false → after ≡ None → IsReadOf fits read bytes → lines_of read ≡ done
+    ++ line ∷ left_parts 10 after → number ≡ length done + 1 →
     (line_limit < length line → c ≡ cause.Line number (line_fault.Requirement fault.LineTooLong)) →
     (length line ≤ line_limit → c ≡ cause.TooLarge) → RefusesList bytes c
 cut_of_read bytes read line true done after number c cut over is e counted long large = cc cut
-cut_of_read bytes read line false done (Some rest) number c cut over is e counted long large = cc over
+cut_of_read bytes read line false done (Some rest) number c cut over is e counted long large =
+    cc over
 cut_of_read bytes read line false done None number c cut over is e counted long large =
-    cut_refuses bytes line number c is.0 (last_of_read bytes read is.1.0 line done number is.1.1 e counted) long large
+    cut_refuses bytes line number c is.0 (last_of_read bytes read is.1.0 line done number is.1.1 e
+    counted) long large
 
 -- a line of what was read is a line of the whole, unless it is the last and the whole goes on
-pub line_of_read : (bytes read line : List ℕ) (fits : Bool) (done : List (List ℕ)) (after : Option (Bor (List ℕ))) (number : ℕ) →
-    IsReadOf fits read bytes → lines_of read ≡ done ++ line ∷ left_parts 10 after → (fits ≡ true) ⊎ IsSome after →
+pub line_of_read : (bytes read line : List ℕ) (fits : Bool) (done : List (List ℕ))
+    (after : Option (Bor (List ℕ))) (number : ℕ) →
+    IsReadOf fits read bytes → lines_of read ≡ done ++ line ∷ left_parts 10 after → (fits ≡ true)
+    ⊎ IsSome after →
     number ≡ length done + 1 → IsNumbered (lines_of bytes) number line
 line_of_read bytes read line true done after number is e more counted =
-    record { before = done; behind = left_parts 10 after; whole = ap lines_of is ∙ e; counted = counted }
+    record {
+      before = done;
+      behind = left_parts 10 after;
+      whole = ap lines_of is ∙ e;
+      counted =
+          counted;
+    }
 line_of_read bytes read line false done None number is e (inl fits) counted = cc fits
 line_of_read bytes read line false done None number is e (inr some) counted = cc some
-line_of_read bytes read line false done (Some rest) number is e more counted = by (lines_of rest.now) (lines_of-some rest.now) e
+line_of_read bytes read line false done (Some rest) number is e more counted =
+    by (lines_of rest.now) (lines_of-some rest.now) e
   where
-    by : (parts : List (List ℕ)) → parts ≢ [] → lines_of read ≡ done ++ line ∷ parts → IsNumbered (lines_of bytes) number line
+    by : (parts : List (List ℕ)) → parts ≢ [] → lines_of read ≡ done ++ line ∷ parts →
+        IsNumbered (lines_of bytes) number line
     by [] some are = absurd (some refl)
     by (next ∷ left) some are = record {
       before = done;
       behind = with_parts (next ∷ left) (lines_of is.1.0);
-      whole = ap lines_of is.1.1 ∙ lines_of-append read is.1.0 ∙ ap (λ (l : List (List ℕ)). with_parts l (lines_of is.1.0)) are
+      whole =
+          ap lines_of is.1.1 ∙ lines_of-append read is.1.0
+          ∙ ap (λ (l : List (List ℕ)). with_parts l (lines_of is.1.0)) are
           ∙ with_parts-seam done line next left (lines_of is.1.0);
       counted = counted;
     }
@@ -280,13 +355,19 @@ line_of_read bytes read line false done (Some rest) number is e more counted = b
 
 -- the lines before these were taken in
 abbrev pub SoFar : List ℕ → ℕ → List (List ℕ) → Sets → Sets → Type 0
-SoFar read number left old new = (done : List (List ℕ)) × (ps : List Pair) × (lines_of read ≡ done ++ left) × AllByRecursion IsGoodLine done × LinesGive done ps × Gathers old ps new
+SoFar read number left old new =
+    (done : List (List ℕ)) × (ps : List Pair) × (lines_of read ≡ done ++ left)
+    × AllByRecursion IsGoodLine done × LinesGive done ps × Gathers old ps new
     × (number ≡ length done)
 
-gathers_both : (old mid new : Sets) (ps more : List Pair) → Gathers old ps mid → Gathers mid more new → Gathers old (ps ++ more) new
-gathers_both old mid new ps more first second = λ qs g. subst (λ (l : List Pair). IsGathered l new) (append_assoc qs ps more) (second (qs ++ ps) (first qs g))
+gathers_both : (old mid new : Sets) (ps more : List Pair) → Gathers old ps mid →
+    Gathers mid more new → Gathers old (ps ++ more) new
+gathers_both old mid new ps more first second =
+    λ qs g. subst (λ (l : List Pair). IsGathered l new) (append_assoc qs ps more) (second (qs
+    ++ ps) (first qs g))
 
-pub so_far_more : (read line : List ℕ) (number : ℕ) (left : List (List ℕ)) (old mid new : Sets) → SoFar read number (line ∷ left) old mid → MergesLine line mid new →
+pub so_far_more : (read line : List ℕ) (number : ℕ) (left : List (List ℕ)) (old mid new : Sets) →
+    SoFar read number (line ∷ left) old mid → MergesLine line mid new →
     SoFar read (number + 1) left old new
 so_far_more read line number left old mid new s m = (
   s.0 ++ line ∷ [],
@@ -299,17 +380,23 @@ so_far_more read line number left old mid new s m = (
 )
 
 -- all lines were taken in
-pub so_far_all : (read : List ℕ) (number : ℕ) (old new : Sets) → length read ≤ input_limit → SoFar read number [] old new → MergesList read old new
+pub so_far_all : (read : List ℕ) (number : ℕ) (old new : Sets) → length read ≤ input_limit →
+    SoFar read number [] old new → MergesList read old new
 so_far_all read number old new size s =
-    let all : s.0 ≡ lines_of read = sym (append-nil s.0) ∙ sym s.2 in
-    (s.1, list_gives read s.1 size (subst (AllByRecursion IsGoodLine) all s.3) (subst (λ (l : List (List ℕ)). LinesGive l s.1) all s.4), s.5)
+    let all : s.0 ≡ lines_of read = sym (append-nil s.0) ∙ sym s.2 in (
+      s.1,
+      list_gives read s.1 size (subst (AllByRecursion IsGoodLine) all s.3)
+          (subst (λ (l : List (List ℕ)). LinesGive l s.1) all s.4),
+      s.5,
+    )
 
 -- how much is left
 abbrev pub left_len : Option (Bor (List ℕ)) → ℕ
 left_len None = 0
 left_len (Some rest) = suc (length rest.now)
 
-pub left_less : (n total : ℕ) (text : List ℕ) (after : Option (Bor (List ℕ))) → n + suc (length text) ≤ total → IfSome after (λ rest. length rest.now < length text) →
+pub left_less : (n total : ℕ) (text : List ℕ) (after : Option (Bor (List ℕ))) →
+    n + suc (length text) ≤ total → IfSome after (λ rest. length rest.now < length text) →
     n + 1 + left_len after ≤ total
 left_less n total text None h s = omega arith
 left_less n total text (Some rest) h s = omega (arith, s)

@@ -1,5 +1,7 @@
 -- What refusals of the program mean, and the lines that tell two of them.
-use Rattle.std.proofs.Common.{◌≡◌, ◌≢◌, ◌⊎◌, ◌∙◌, ℕ, ◌+◌, ◌≤◌, false, ap, List, [], ◌∷◌, ◌++◌, Option, Some, None, subst, Result, Ok, Err, IfOk, IfErr, codes, refl, inl, inr}
+use Rattle.std.proofs.Common.{◌≡◌, ◌≢◌, ◌⊎◌, ◌∙◌, ℕ, ◌+◌, ◌≤◌, false, ap, List, [], ◌∷◌, ◌++◌}
+use Rattle.std.proofs.Common.{Option, Some, None, subst, Result, Ok, Err, IfOk, IfErr, codes, refl}
+use Rattle.std.proofs.Common.{inl, inr}
 use Rattle.std.specs.Fmt.{digits}
 use Rattle.std.specs.Io.KnownBytes.{Consumes, IsAtEnd, Keeps}
 use Rattle.std.proofs.lemmas.List.Elements.{All-head}
@@ -13,7 +15,9 @@ use Rattle.pep_tool.specs.Lists.{input_limit}
 use Rattle.pep_tool.specs.Merge.{IsMerge}
 use Rattle.pep_tool.specs.Refusal.{IsRefused, RefusesInputs}
 use Rattle.pep_tool.specs.declared.fault.Place.TheVariants as place
-use Rattle.pep_tool.specs.Run.{Answers, MergesInput, IsVersionLine, Refuses, RefusesVersion, by_version, by_words, by_argument, by_memory, by_input, by_output, by_bytes, no_memory, Tells, TellsRefusal}
+use Rattle.pep_tool.specs.Run.{Answers, MergesInput, IsVersionLine, Refuses, RefusesVersion}
+use Rattle.pep_tool.specs.Run.{by_version, by_words, by_argument, by_memory, by_input, by_output}
+use Rattle.pep_tool.specs.Run.{by_bytes, no_memory, Tells, TellsRefusal}
 use Rattle.pep_tool.specs.Plan.{AskNothing, Asks, IsBadWords, show_version, standard}
 use Rattle.clap.specs.Words.{Text}
 use Rattle.std.proofs.Common.{length}
@@ -29,9 +33,12 @@ accepted_size i e h =
     a.1.size
 
 -- the table of a list that was read
-pub MergesInput-from_merge : {A : Type 0} (text_of : A → List ℕ) (r : Result A Fault) (i : Input) (left after : Option (List ℕ)) →
-    i.kind ≡ kind.List → Consumes left after i.bytes.items → (length i.bytes.items ≤ input_limit → IsAtEnd after) →
-    IfOk r (λ text. IsMerge (i ∷ []) (text_of text)) → IfOk r (λ text. MergesInput left after (text_of text))
+pub MergesInput-from_merge : {A : Type 0} (text_of : A →
+    List ℕ) (r : Result A Fault) (i : Input) (left after : Option (List ℕ)) →
+    i.kind ≡ kind.List → Consumes left after i.bytes.items →
+    (length i.bytes.items ≤ input_limit → IsAtEnd after) →
+    IfOk r (λ text. IsMerge (i ∷ []) (text_of text)) →
+    IfOk r (λ text. MergesInput left after (text_of text))
 MergesInput-from_merge text_of (Ok text) i left after e reads whole h = record {
   input = i;
   is_list = e;
@@ -42,42 +49,55 @@ MergesInput-from_merge text_of (Ok text) i left after e reads whole h = record {
 MergesInput-from_merge text_of (Err f) i left after e reads whole h = tt
 
 -- the one element of a list
-only : {A : Type 0} (x y : A) (before behind : List A) → x ∷ [] ≡ before ++ y ∷ behind → (before ≡ []) × (y ≡ x)
+only : {A : Type 0} (x y : A) (before behind : List A) → x ∷ [] ≡ before ++ y ∷ behind →
+    (before ≡ []) × (y ≡ x)
 only x y [] behind e = (refl, cc e)
 only x y (b ∷ []) behind e = cc e
 only x y (b ∷ d ∷ before) behind e = cc e
 
 -- the refusal of a list that was read
-pub Refuses-from_merge : {A : Type 0} (r : Result A Fault) (i : Input) (left after : Option (List ℕ)) (source : Device) →
-    i.kind ≡ kind.List → Consumes left after i.bytes.items → source.failed ≡ false → IfErr r (RefusesInputs (i ∷ [])) →
+pub Refuses-from_merge : {A : Type 0} (r : Result A Fault) (i : Input)
+    (left after : Option (List ℕ)) (source : Device) →
+    i.kind ≡ kind.List → Consumes left after i.bytes.items → source.failed ≡ false →
+    IfErr r (RefusesInputs (i ∷ [])) →
     IfErr r (λ fault. (output : Device) → Refuses [] left after source output fault)
 Refuses-from_merge (Ok text) i left after source e reads ready h = tt
-Refuses-from_merge (Err f) i left after source e reads ready (inl memory) = λ output. by_memory memory
-Refuses-from_merge (Err f) i left after source e reads ready (inr b) = λ output. by_bytes refl ready (record {
-  bytes = i.bytes.items;
-  reads = reads;
-  lies = b.lies ∙ ap place.Input (b.numbered.counted ∙ ap (λ (l : List Input). length l + 1) one.0);
-  refused = subst (λ k. IsRefused k i.bytes.items f.cause) e (subst (λ (j : Input). IsRefused j.kind j.bytes.items f.cause) one.1 b.refused);
-})
+Refuses-from_merge (Err f) i left after source e reads ready (inl memory) =
+    λ output. by_memory memory
+Refuses-from_merge (Err f) i left after source e reads ready (inr b) =
+    λ output. by_bytes refl ready (record {
+      bytes = i.bytes.items;
+      reads = reads;
+      lies = b.lies ∙ ap place.Input (b.numbered.counted
+          ∙ ap (λ (l : List Input). length l + 1) one.0);
+      refused = subst (λ k. IsRefused k i.bytes.items f.cause) e
+          (subst (λ (j : Input). IsRefused j.kind j.bytes.items f.cause) one.1 b.refused);
+    })
   where
     one : (b.numbered.before ≡ []) × (b.input ≡ i)
     one = only i b.input b.numbered.before b.numbered.behind b.numbered.whole
 
 -- a refusal of the table that words ask for
-pub Refuses-table : (words : List Text) (left after : Option (List ℕ)) (source output : Device) (fault : Fault) →
-    Asks words standard → Refuses [] left after source output fault → Refuses words left after source output fault
-Refuses-table words left after source output fault asked (by_words none bad) = absurd (none standard refl)
-Refuses-table words left after source output fault asked (by_argument argument other refuses) = absurd (not_shown argument other)
+pub Refuses-table : (words : List Text) (left after : Option (List ℕ)) (source output : Device)
+    (fault : Fault) →
+    Asks words standard → Refuses [] left after source output fault →
+    Refuses words left after source output fault
+Refuses-table words left after source output fault asked (by_words none bad) =
+    absurd (none standard refl)
+Refuses-table words left after source output fault asked (by_argument argument other refuses) =
+    absurd (not_shown argument other)
   where
     not_shown : (argument : Text) → show_version argument ≢ standard
     not_shown argument e = cc e
 Refuses-table words left after source output fault asked (by_memory e) = by_memory e
 Refuses-table words left after source output fault asked (by_input none h e) = by_input asked h e
 Refuses-table words left after source output fault asked (by_output h e) = by_output h e
-Refuses-table words left after source output fault asked (by_bytes none ready h) = by_bytes asked ready h
+Refuses-table words left after source output fault asked (by_bytes none ready h) =
+    by_bytes asked ready h
 
 -- what was told of a fault with which the program refuses
-pub TellsRefusal-from_tells : (words : List Text) (left after : Option (List ℕ)) (input output : Device) (fault : Fault)
+pub TellsRefusal-from_tells : (words : List Text) (left after : Option (List ℕ))
+    (input output : Device) (fault : Fault)
     (written told : Option (List ℕ)) (sink : Device) → Refuses words left after input output fault →
     Tells fault written told sink → TellsRefusal words left after input output written told sink
 TellsRefusal-from_tells words left after input output fault written told sink refuses (inl line) =
@@ -90,25 +110,32 @@ Keeps-itself None = tt
 Keeps-itself (Some a) = refl
 
 -- the line of a version that the words name
-pub Answers-from_line : {A : Type 0} (text_of : A → List ℕ) (r : Result A Fault) (words : List Text) (left : Option (List ℕ))
+pub Answers-from_line : {A : Type 0} (text_of : A →
+    List ℕ) (r : Result A Fault) (words : List Text) (left : Option (List ℕ))
     (argument given : Text) → given ≡ argument → Asks words (show_version argument)
-    → IfOk r (λ line. IsVersionLine given (text_of line)) → IfOk r (λ line. Answers words left left (text_of line))
+    → IfOk r (λ line. IsVersionLine given (text_of line)) →
+    IfOk r (λ line. Answers words left left (text_of line))
 Answers-from_line text_of (Ok line) words left argument given same asked h =
-    by_version argument asked (subst (λ (x : Text). IsVersionLine x (text_of line)) same h) (Keeps-itself left)
+    by_version argument asked (subst (λ (x : Text). IsVersionLine x (text_of line)) same h)
+    (Keeps-itself left)
 Answers-from_line text_of (Err f) words left argument given same asked h = tt
 
 -- the refusal of one
-pub Refuses-from_line : {A : Type 0} (r : Result A Fault) (words : List Text) (left : Option (List ℕ)) (source : Device)
+pub Refuses-from_line : {A : Type 0} (r : Result A Fault) (words : List Text)
+    (left : Option (List ℕ)) (source : Device)
     (argument given : Text) → given ≡ argument → Asks words (show_version argument)
     → IfErr r (λ fault. (fault ≡ no_memory) ⊎ RefusesVersion given fault)
     → IfErr r (λ fault. (output : Device) → Refuses words left left source output fault)
 Refuses-from_line (Ok line) words left source argument given same asked h = tt
-Refuses-from_line (Err f) words left source argument given same asked (inl memory) = λ output. by_memory memory
+Refuses-from_line (Err f) words left source argument given same asked (inl memory) =
+    λ output. by_memory memory
 Refuses-from_line (Err f) words left source argument given same asked (inr refuses) =
     λ output. by_argument argument asked (subst (λ (x : Text). RefusesVersion x f) same refuses)
 
 -- words that ask for nothing
-pub Refuses-from_plan : (words : List Text) (left after : Option (List ℕ)) (source output : Device) (fault : Fault)
-    → (fault ≡ no_memory) ⊎ (IsBadWords fault × AskNothing words) → Refuses words left after source output fault
+pub Refuses-from_plan : (words : List Text) (left after : Option (List ℕ)) (source output : Device)
+    (fault : Fault)
+    → (fault ≡ no_memory) ⊎ (IsBadWords fault × AskNothing words) →
+    Refuses words left after source output fault
 Refuses-from_plan words left after source output fault (inl memory) = by_memory memory
 Refuses-from_plan words left after source output fault (inr bad) = by_words bad.1 bad.0

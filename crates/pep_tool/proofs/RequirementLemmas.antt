@@ -1,22 +1,27 @@
 -- A line of a list is a requirement by the whole grammar.
-use Rattle.std.proofs.Common.{◌≡◌, ℕ, ◌==◌, ◌≤◌, List, [], ◌∷◌, ◌++◌, length, Option, None, Ok, refl, sym, ap, subst, ◌∙◌, arith, append-nil, append_assoc}
+use Rattle.std.proofs.Common.{◌≡◌, ℕ, ◌==◌, ◌≤◌, List, [], ◌∷◌, ◌++◌, length, Option, None, Ok}
+use Rattle.std.proofs.Common.{refl, sym, ap, subst, ◌∙◌, arith, append-nil, append_assoc}
 use Rattle.std.specs.List.{AllZip, join_with_byte}
 use Rattle.std.proofs.lemmas.List.Splits.{join_with_byte-slice_split, length-slice_split}
 use Rattle.pep_clause.specs.Clause.{Clause, operator_text}
 use Rattle.pep_clause.proofs.Written.{written-of}
-use Rattle.pep_require.specs.Reads.{IsBound, Reads, ReadsBounds as ReadsTargetBounds, ReadsExtras, ReadsTarget, Spaces, always, bare, no_comma, none}
+use Rattle.pep_require.specs.Reads.{IsBound, Reads, ReadsBounds as ReadsTargetBounds, ReadsExtras}
+use Rattle.pep_require.specs.Reads.{ReadsTarget, Spaces, always, bare, no_comma, none}
 use Rattle.pep_require.specs.Requirement.{RequirementParts, bounds}
 use Rattle.pep_tool.specs.Line.{ReadsBound, ReadsBounds, ReadsLine, pieces_of, plain_requirement}
 
 five_pieces : (a b c d e : List ℕ) → a ++ (b ++ (c ++ (d ++ e))) ≡ a ++ b ++ c ++ d ++ e
-five_pieces a b c d e = sym (append_assoc (a ++ b ++ c) d e ∙ append_assoc (a ++ b) c (d ++ e) ∙ append_assoc a b (c ++ (d ++ e)))
+five_pieces a b c d e =
+    sym (append_assoc (a ++ b ++ c) d e ∙ append_assoc (a ++ b) c (d ++ e)
+    ∙ append_assoc a b (c ++ (d ++ e)))
 
 with_nothing : (a : List ℕ) → a ≡ a ++ [] ++ [] ++ []
 with_nothing a = sym (append-nil (a ++ [] ++ []) ∙ append-nil (a ++ []) ∙ append-nil a)
 
 plain_pieces : (a b c : List ℕ) → a ++ (b ++ c) ≡ a ++ b ++ [] ++ [] ++ [] ++ c ++ [] ++ [] ++ []
 plain_pieces a b c =
-    sym (append_assoc a b c) ∙ ap (λ (t : List ℕ). t ++ c) (with_nothing (a ++ b)) ∙ with_nothing (a ++ b ++ [] ++ [] ++ [] ++ c)
+    sym (append_assoc a b c) ∙ ap (λ (t : List ℕ). t ++ c) (with_nothing (a ++ b))
+    ∙ with_nothing (a ++ b ++ [] ++ [] ++ [] ++ c)
 
 bound_is : (x : List ℕ) (c : Clause) → ReadsBound x c → IsBound x c
 bound_is x c s = record {
@@ -31,7 +36,8 @@ bound_is x c s = record {
   clause = written-of s.operator s.run c s.bytes s.clause;
 }
 
-bounds_zip : (pieces : List (List ℕ)) (cs : List Clause) → AllZip ReadsBound pieces cs → AllZip IsBound pieces cs
+bounds_zip : (pieces : List (List ℕ)) (cs : List Clause) → AllZip ReadsBound pieces cs →
+    AllZip IsBound pieces cs
 bounds_zip [] [] z = tt
 bounds_zip [] (c ∷ cs) z = absurd z
 bounds_zip (x ∷ pieces) [] z = absurd z
@@ -50,10 +56,19 @@ bounds_are x cs z = record {
 no_extras : ReadsExtras [] []
 no_extras = record { named = []; written = none; ascending = tt; same = λ n. (λ h. h, λ h. h) }
 
-plain_is_read : (x : List ℕ) (s : RequirementParts) (l : ReadsLine x s) → Reads x (plain_requirement l.normal l.clauses)
+plain_is_read : (x : List ℕ) (s : RequirementParts) (l : ReadsLine x s) →
+    Reads x (plain_requirement l.normal l.clauses)
 plain_is_read x s l = record {
   fits = l.fits;
-  spaces = record { first = l.first; second = []; third = []; fourth = []; fifth = []; blank = (l.blank, refl, refl, refl, refl) };
+  spaces = record {
+    first = l.first;
+    second = [];
+    third = [];
+    fourth = [];
+    fifth = [];
+    blank =
+        (l.blank, refl, refl, refl, refl);
+  };
   name = l.name;
   extras = [];
   target = l.bound;

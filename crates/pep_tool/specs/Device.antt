@@ -1,5 +1,6 @@
 -- Devices that give or take bytes.
-use Rattle.std.specs.Prelude.{◌≡◌, ℕ, ◌+◌, ◌-◌, ◌^◌, ◌<◌, ⊤, Bool, false, List, take, Option, Result, is_err, MatchResult}
+use Rattle.std.specs.Prelude.{◌≡◌, ℕ, ◌+◌, ◌-◌, ◌^◌, ◌<◌, ⊤, Bool, false, List, take, Option}
+use Rattle.std.specs.Prelude.{Result, is_err, MatchResult}
 use Rattle.std.specs.Io.KnownBytes.{Appends}
 
 -- how many calls a device has had, and whether one has failed
@@ -34,5 +35,8 @@ abbrev pub CountsCall : {A E : Type 0} → Device → Device → Result A E → 
 CountsCall old new result = (new.calls ≡ old.calls + 1) × (new.failed ≡ is_err result)
 
 -- Of a sink that tells its bytes: at Ok the text was written, and at a fault a part from its front
-abbrev pub WritesText : {E : Type 0} → List ℕ → Option (List ℕ) → Option (List ℕ) → Result ⊤ E → Type 0
-WritesText text old new result = MatchResult result (λ done. Appends old new text) (λ fault. (n : ℕ) × Appends old new (take n text))
+abbrev pub WritesText : {E : Type 0} → List ℕ → Option (List ℕ) → Option (List ℕ) → Result ⊤ E →
+    Type 0
+WritesText text old new result =
+    MatchResult result (λ done. Appends old new text) (λ fault. (n : ℕ)
+    × Appends old new (take n text))

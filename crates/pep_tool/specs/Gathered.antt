@@ -1,4 +1,5 @@
--- Which inputs are accepted, and what all of them demand. A line has no marker for now, so each requirement applies.
+-- Which inputs are accepted, and what all of them demand. A line has no marker for now, so each
+-- requirement applies.
 use Rattle.std.specs.Prelude.{ℕ, ◌⊎◌, List, [], ◌∷◌, Contains}
 use Rattle.pep_require.specs.Requirement.{RequirementParts}
 use Rattle.pep_table.specs.Demand.{Demands, RequirementDemands}

@@ -1,8 +1,11 @@
--- The line that a requirement is written as, as far as it is read for now: a name, and one clause or more joined by `,`.
--- The whole grammar is in `pep_require`; PyPA "Dependency specifiers", "Grammar" (PEP 508).
-use Rattle.std.specs.Prelude.{◌≡◌, ◌≢◌, ℕ, ◌<◌, ◌≤◌, ◌==◌, ◌⊎◌, ⊤, IsTrue, List, [], ◌∷◌, ◌++◌, drop, length, take_while, Option, Some, None, Ok, Err}
+-- The line that a requirement is written as, as far as it is read for now: a name, and one clause
+-- or more joined by `,`. The whole grammar is in `pep_require`; PyPA "Dependency specifiers",
+-- "Grammar" (PEP 508).
+use Rattle.std.specs.Prelude.{◌≡◌, ◌≢◌, ℕ, ◌<◌, ◌≤◌, ◌==◌, ◌⊎◌, ⊤, IsTrue, List, [], ◌∷◌, ◌++◌}
+use Rattle.std.specs.Prelude.{drop, length, take_while, Option, Some, None, Ok, Err}
 use Rattle.std.specs.List.{AllZip, list_all, slice_split}
-use Rattle.pep_clause.specs.Clause.{Clause, ClauseOf, IsClauseOf, demanded_text, is_clause_byte, operator_of, operator_text}
+use Rattle.pep_clause.specs.Clause.{Clause, ClauseOf, IsClauseOf, demanded_text, is_clause_byte}
+use Rattle.pep_clause.specs.Clause.{operator_of, operator_text}
 use Rattle.pep_clause.specs.declared.fault.ClauseFault.TheVariants as clause_fault
 use Rattle.pep_clause.specs.declared.op.Op.{Op}
 use Rattle.pep_clause.specs.declared.op.Op.TheVariants as op
@@ -18,8 +21,9 @@ use Rattle.pep_require.specs.declared.fault.RequireFault.TheVariants as fault
 abbrev pub plain_requirement : List ℕ → List Clause → RequirementParts
 plain_requirement name cs = record { name = name; extras = []; target = bounds cs; marker = None }
 
--- The text is read as the clause: an operator and what a clause has behind it, with white space before, between and behind
--- them. A clause with `===` is none for now: its text has no place in the table yet.
+-- The text is read as the clause: an operator and what a clause has behind it, with white space
+-- before, between and behind them. A clause with `===` is none for now: its text has no place in
+-- the table yet.
 pub record ReadsBound (x : List ℕ) (c : Clause) : Type 0 where
   pub before : List ℕ
   pub operator : Op
@@ -72,12 +76,14 @@ after_run x = without_leading_blanks (drop (length (clause_run x)) x)
 abbrev pub IsOperand : Op → List ℕ → Clause → Type 0
 IsOperand o x c = ClauseOf o (clause_run x) (Ok c) × (after_run x ≡ [])
 
--- Behind the operator: no clause, with the clause's fault, or something behind the clause. What stands behind `===` is no
--- version for now.
+-- Behind the operator: no clause, with the clause's fault, or something behind the clause. What
+-- stands behind `===` is no version for now.
 abbrev pub RefusesOperand : Op → List ℕ → RequireFault → Type 0
 RefusesOperand op.Exact x f = f ≡ fault.BadClause clause_fault.BadVersion
-RefusesOperand o x (fault.BadClause e) = (e ≢ clause_fault.NoMemory) × ClauseOf o (clause_run x) (Err e)
-RefusesOperand o x fault.Trailing = ((c : Clause) × ClauseOf o (clause_run x) (Ok c)) × (0 < length (after_run x))
+RefusesOperand o x (fault.BadClause e) =
+    (e ≢ clause_fault.NoMemory) × ClauseOf o (clause_run x) (Err e)
+RefusesOperand o x fault.Trailing =
+    ((c : Clause) × ClauseOf o (clause_run x) (Ok c)) × (0 < length (after_run x))
 RefusesOperand o x f = ⊥
 
 -- no operator, or a fault behind it
@@ -86,12 +92,14 @@ RefusesFound None x f = f ≡ fault.BadClause clause_fault.NoOperator
 RefusesFound (Some o) x f = RefusesOperand o (after_operator o x) f
 
 abbrev pub RefusesBound : List ℕ → RequireFault → Type 0
-RefusesBound x f = RefusesFound (operator_of (without_leading_blanks x)) (without_leading_blanks x) f
+RefusesBound x f =
+    RefusesFound (operator_of (without_leading_blanks x)) (without_leading_blanks x) f
 
 -- the first piece that is no clause has this fault
 abbrev pub RefusesPieces : List (List ℕ) → RequireFault → Type 0
 RefusesPieces [] f = ⊥
-RefusesPieces (x ∷ pieces) f = RefusesBound x f ⊎ (((c : Clause) × ReadsBound x c) × RefusesPieces pieces f)
+RefusesPieces (x ∷ pieces) f =
+    RefusesBound x f ⊎ (((c : Clause) × ReadsBound x c) × RefusesPieces pieces f)
 
 abbrev pub RefusesBounds : List ℕ → RequireFault → Type 0
 RefusesBounds x f = RefusesPieces (pieces_of x) f

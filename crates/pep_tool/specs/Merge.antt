@@ -8,10 +8,12 @@ use Rattle.pep_table.specs.Verdict.{IsVerdict}
 use Rattle.pep_tool.specs.declared.input.Input.{Input}
 use Rattle.pep_tool.specs.Gathered.{IsAccepted, Gathered}
 
--- The verdict that is printed for each name is the verdict on all demands on it: `none` exactly if no version meets
--- them all.
+-- The verdict that is printed for each name is the verdict on all demands on it: `none` exactly if
+-- no version meets them all.
 abbrev pub ShowsVerdicts : Demands → TableParts → Type 0
-ShowsVerdicts Q t = (name : List ℕ) → IfSome (entry_at t name) (λ e. (w : Verdict) → Shows e w → IsVerdict (Q name) w)
+ShowsVerdicts Q t =
+    (name : List ℕ) → IfSome (entry_at t name) (λ e. (w : Verdict) → Shows e w →
+    IsVerdict (Q name) w)
 
 -- every input is accepted, and this is the text of the table of all that they demand
 pub record IsMerge (inputs : List Input) (x : List ℕ) : Type 0 where

@@ -1,8 +1,11 @@
--- What the words of the command line ask for. How words are read is clap's own definition, of the command below.
-use Rattle.std.specs.Prelude.{◌≡◌, List, [], ◌∷◌, Option, Some, None, codes, true, option_and_then, option_map, string_bytes, ⊤, if◌then◌else◌}
+-- What the words of the command line ask for. How words are read is clap's own definition, of the
+-- command below.
+use Rattle.std.specs.Prelude.{◌≡◌, List, [], ◌∷◌, Option, Some, None, codes, true, option_and_then}
+use Rattle.std.specs.Prelude.{option_map, string_bytes, ⊤, if◌then◌else◌}
 use Rattle.std.specs.Str.{bytes_eq}
 use Rattle.clap.specs.Simple.{on_top}
-use Rattle.clap.specs.Words.{App, Row, Rule, Text, fault_of, first_of, new_app, new_rule, subcommand_of, with_rule, with_subcommand}
+use Rattle.clap.specs.Words.{App, Row, Rule, Text, fault_of, first_of, new_app, new_rule}
+use Rattle.clap.specs.Words.{subcommand_of, with_rule, with_subcommand}
 use Rattle.clap.specs.declared.builder.ArgAction.TheVariants.{Set}
 use Rattle.pep_tool.specs.declared.fault.Cause.{Cause}
 use Rattle.pep_tool.specs.declared.fault.Cause.TheVariants as cause
@@ -23,7 +26,12 @@ version_command = with_rule (new_app (codes "version")) version_text
 
 -- the program: one of its commands is wanted, and its own name is not among the words
 abbrev pub bare_program : App
-bare_program = on_top (λ s. record s { no_binary_name = true; subcommand_required = true }) (new_app (codes "tubrambutan"))
+bare_program =
+    on_top (λ s. record s {
+      no_binary_name = true;
+      subcommand_required =
+          true;
+    }) (new_app (codes "tubrambutan"))
 
 abbrev pub program : App
 program = with_subcommand bare_program version_command.top
@@ -42,10 +50,12 @@ request (plan.ShowVersion text) = show_version (string_bytes text)
 
 -- what a command that was met asks for, by the values of its arguments
 abbrev pub request_of : Text × List Row → Option Request
-request_of met = if bytes_eq met.0 (codes "version") then option_map show_version (first_of (codes "TEXT") met.1) else None
+request_of met =
+    if bytes_eq met.0 (codes "version") then option_map show_version (first_of (codes "TEXT") met.1)
+    else None
 
--- No words ask for the table of the input. Else clap finds no fault in the words, and the command that it meets in them
--- says what they ask for.
+-- No words ask for the table of the input. Else clap finds no fault in the words, and the command
+-- that it meets in them says what they ask for.
 abbrev pub Asks : List Text → Request → Type 0
 Asks [] r = r ≡ standard
 Asks (word ∷ rest) r = (fault_of program (word ∷ rest) ≡ [])

@@ -1,5 +1,7 @@
--- What a refusal says of the inputs: which of them is at fault, which line of it, and why. Nothing else is answered.
-use Rattle.std.specs.Prelude.{◌≡◌, ◌≢◌, ℕ, ◌+◌, ◌<◌, ◌≤◌, ◌⊎◌, false, List, ◌∷◌, ◌++◌, length, IsUtf8}
+-- What a refusal says of the inputs: which of them is at fault, which line of it, and why. Nothing
+-- else is answered.
+use Rattle.std.specs.Prelude.{◌≡◌, ◌≢◌, ℕ, ◌+◌, ◌<◌, ◌≤◌, ◌⊎◌, false, List, ◌∷◌, ◌++◌, length}
+use Rattle.std.specs.Prelude.{IsUtf8}
 use Rattle.pep_require.specs.Reads.{line_limit}
 use Rattle.pep_require.specs.declared.fault.RequireFault.{RequireFault}
 use Rattle.pep_require.specs.declared.fault.RequireFault.TheVariants as require
@@ -27,18 +29,24 @@ pub record IsNumbered {A : Type 0} (xs : List A) (number : ℕ) (x : A) : Type 0
   pub whole : xs ≡ before ++ x ∷ behind
   pub counted : number ≡ length before + 1
 
--- Why a line is refused: it is longer than a line may be; or else it isn't UTF-8; or else it isn't skipped, and its content
--- is refused as a requirement.
+-- Why a line is refused: it is longer than a line may be; or else it isn't UTF-8; or else it isn't
+-- skipped, and its content is refused as a requirement.
 pub data IsRefusedLine (line : List ℕ) (fault : LineFault) : Type 0 where
-  by_length : line_limit < length line → fault ≡ line_fault.Requirement require.LineTooLong → IsRefusedLine line fault
-  by_encoding : length line ≤ line_limit → ¬ IsUtf8 line → fault ≡ line_fault.NotUtf8 → IsRefusedLine line fault
-  by_content : (f : RequireFault) → length line ≤ line_limit → IsUtf8 line → is_skipped (content line) ≡ false
-      → f ≢ require.NoMemory → RefusesLine (content line) f → fault ≡ line_fault.Requirement f → IsRefusedLine line fault
+  by_length : line_limit < length line → fault ≡ line_fault.Requirement require.LineTooLong →
+      IsRefusedLine line fault
+  by_encoding : length line ≤ line_limit → ¬ IsUtf8 line → fault ≡ line_fault.NotUtf8 →
+      IsRefusedLine line fault
+  by_content : (f : RequireFault) → length line ≤ line_limit → IsUtf8 line →
+      is_skipped (content line) ≡ false
+      → f ≢ require.NoMemory → RefusesLine (content line) f → fault ≡ line_fault.Requirement f →
+      IsRefusedLine line fault
 
--- Why bytes are refused as a list: they are more than a list may have, or the line with this number is refused.
+-- Why bytes are refused as a list: they are more than a list may have, or the line with this number
+-- is refused.
 pub data IsRefusedList (bytes : List ℕ) (c : Cause) : Type 0 where
   by_size : input_limit < length bytes → c ≡ cause.TooLarge → IsRefusedList bytes c
-  by_line : (number : ℕ) (line : List ℕ) (fault : LineFault) → IsNumbered (lines_of bytes) number line
+  by_line : (number : ℕ) (line : List ℕ) (fault : LineFault) →
+      IsNumbered (lines_of bytes) number line
       → IsRefusedLine line fault → c ≡ cause.Line number fault → IsRefusedList bytes c
 
 -- why bytes are refused as an input of this kind
@@ -54,6 +62,7 @@ pub record BlamesInput (inputs : List Input) (fault : Fault) : Type 0 where
   pub refused : IsRefused input.kind input.bytes.items fault.cause
   pub not_accepted : ¬ IsAccepted input
 
--- Why inputs are refused with this fault: one of them is at fault, or memory is wanting, of which nothing is said.
+-- Why inputs are refused with this fault: one of them is at fault, or memory is wanting, of which
+-- nothing is said.
 abbrev pub RefusesInputs : List Input → Fault → Type 0
 RefusesInputs inputs fault = (fault ≡ no_memory) ⊎ BlamesInput inputs fault

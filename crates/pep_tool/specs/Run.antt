@@ -1,5 +1,6 @@
 -- What a run of the program does to its streams.
-use Rattle.std.specs.Prelude.{◌≡◌, ◌≢◌, ◌⊎◌, ℕ, IsTrue, false, List, [], ◌∷◌, ◌++◌, Option, Ok, Err, codes}
+use Rattle.std.specs.Prelude.{◌≡◌, ◌≢◌, ◌⊎◌, ℕ, IsTrue, false, List, [], ◌∷◌, ◌++◌, Option, Ok, Err}
+use Rattle.std.specs.Prelude.{codes}
 use Rattle.std.specs.Io.KnownBytes.{Appends, Consumes, IsAtEnd, Keeps}
 use Rattle.clap.specs.Words.{Text}
 use Rattle.pep_version.specs.Spelling.{Reads}
@@ -27,8 +28,8 @@ read_fault = record { place = place.Input 1; cause = cause.ReadFault }
 abbrev pub write_fault : Fault
 write_fault = record { place = place.Nowhere; cause = cause.WriteFault }
 
--- Of a source that tells its bytes: all that was left was read, and this is the text of the table of these bytes, as
--- one list.
+-- Of a source that tells its bytes: all that was left was read, and this is the text of the table
+-- of these bytes, as one list.
 pub record MergesInput (left after : Option (List ℕ)) (text : List ℕ) : Type 0 where
   pub input : Input
   pub is_list : input.kind ≡ kind.List
@@ -42,18 +43,20 @@ pub record IsVersionLine (argument line : List ℕ) : Type 0 where
   pub reads : Reads argument (Ok version)
   pub text : line ≡ normal_text version ++ codes "\n"
 
--- The text is what the words ask for: the table of the input, or the line of a version, and then the input is left as it
--- was.
+-- The text is what the words ask for: the table of the input, or the line of a version, and then
+-- the input is left as it was.
 pub data Answers (words : List Text) (left after : Option (List ℕ)) (text : List ℕ) : Type 0 where
   by_table : Asks words standard → MergesInput left after text → Answers words left after text
-  by_version : (argument : Text) → Asks words (show_version argument) → IsVersionLine argument text → Keeps left after
+  by_version : (argument : Text) → Asks words (show_version argument) →
+      IsVersionLine argument text → Keeps left after
       → Answers words left after text
 
 -- .. and that text was written to a sink that tells its bytes
-pub record PrintsAnswer (words : List Text) (left after written printed : Option (List ℕ)) : Type 0 where
-  pub text : List ℕ
-  pub answers : Answers words left after text
-  pub writes : Appends written printed text
+pub record PrintsAnswer (words : List Text) (left after written printed : Option (List ℕ)) : Type 0
+  where
+    pub text : List ℕ
+    pub answers : Answers words left after text
+    pub writes : Appends written printed text
 
 -- the bytes that were read are refused, as one list, which is input 1
 pub record RefusesInput (left after : Option (List ℕ)) (fault : Fault) : Type 0 where
@@ -69,15 +72,20 @@ pub record RefusesVersion (argument : Text) (fault : Fault) : Type 0 where
   pub known : reason ≢ version_fault.NoMemory
   pub is : fault ≡ record { place = place.Nowhere; cause = cause.BadArgument reason }
 
--- Why the program refuses with this fault: the words ask for nothing, a version that they name can't be read, memory is
--- wanting, the input failed, the output failed, or what was read is refused. Of an input that failed no byte is judged.
-pub data Refuses (words : List Text) (left after : Option (List ℕ)) (input output : Device) (fault : Fault) : Type 0 where
+-- Why the program refuses with this fault: the words ask for nothing, a version that they name
+-- can't be read, memory is wanting, the input failed, the output failed, or what was read is
+-- refused. Of an input that failed no byte is judged.
+pub data Refuses (words : List Text) (left after : Option (List ℕ)) (input output : Device)
+    (fault : Fault) : Type 0 where
   by_words : AskNothing words → IsBadWords fault → Refuses words left after input output fault
-  by_argument : (argument : Text) → Asks words (show_version argument) → RefusesVersion argument fault
+  by_argument : (argument : Text) → Asks words (show_version argument) →
+      RefusesVersion argument fault
       → Refuses words left after input output fault
   by_memory : fault ≡ no_memory → Refuses words left after input output fault
-  by_input : Asks words standard → IsTrue input.failed → fault ≡ read_fault → Refuses words left after input output fault
-  by_output : IsTrue output.failed → fault ≡ write_fault → Refuses words left after input output fault
+  by_input : Asks words standard → IsTrue input.failed → fault ≡ read_fault →
+      Refuses words left after input output fault
+  by_output : IsTrue output.failed → fault ≡ write_fault →
+      Refuses words left after input output fault
   by_bytes : Asks words standard → input.failed ≡ false → RefusesInput left after fault
       → Refuses words left after input output fault
 
@@ -88,10 +96,12 @@ WritesLine line written told sink = sink.failed ≡ false → Appends written to
 -- the line of the fault was written, or that of want of memory
 abbrev pub Tells : Fault → Option (List ℕ) → Option (List ℕ) → Device → Type 0
 Tells fault written told sink =
-    WritesLine (fault_line fault) written told sink ⊎ WritesLine (fault_line no_memory) written told sink
+    WritesLine (fault_line fault) written told sink
+    ⊎ WritesLine (fault_line no_memory) written told sink
 
 -- the line of a fault was written, with which the program refuses
-pub record TellsRefusal (words : List Text) (left after : Option (List ℕ)) (input output : Device) (written told : Option (List ℕ)) (sink : Device) : Type 0 where
+pub record TellsRefusal (words : List Text) (left after : Option (List ℕ)) (input output : Device)
+    (written told : Option (List ℕ)) (sink : Device) : Type 0 where
   pub fault : Fault
   pub refuses : Refuses words left after input output fault
   pub line : WritesLine (fault_line fault) written told sink

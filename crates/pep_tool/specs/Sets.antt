@@ -1,6 +1,8 @@
--- THE CODE'S WAY, and no part of any meaning: how the code keeps what the lines read so far demand, as a map from
--- each name to the versions that all clauses on it admit.
-use Rattle.std.specs.Prelude.{◌≡◌, ◌≢◌, ℕ, ◌&&◌, ◌⊎◌, ⊤, ◌<◌, Bool, true, false, List, [], ◌∷◌, ◌++◌, bytes_eq, map, Option, Some, None, if◌then◌else◌, codes, ◌≤◌, length, IsUtf8}
+-- THE CODE'S WAY, and no part of any meaning: how the code keeps what the lines read so far demand,
+-- as a map from each name to the versions that all clauses on it admit.
+use Rattle.std.specs.Prelude.{◌≡◌, ◌≢◌, ℕ, ◌&&◌, ◌⊎◌, ⊤, ◌<◌, Bool, true, false, List, [], ◌∷◌}
+use Rattle.std.specs.Prelude.{◌++◌, bytes_eq, map, Option, Some, None, if◌then◌else◌, codes, ◌≤◌}
+use Rattle.std.specs.Prelude.{length, IsUtf8}
 use Rattle.std.specs.BTreeMap.{BTreeMap, get}
 use Rattle.std.specs.List.{AllByRecursion, list_all}
 use Rattle.pep_version.specs.Version.{IsVersion, Version}
@@ -57,7 +59,8 @@ HasClause l = l.1 ≢ []
 -- the clauses on a name
 abbrev pub clauses_on : List ℕ → List Pair → List Clause
 clauses_on name [] = []
-clauses_on name (p ∷ ps) = if bytes_eq p.0 name then p.1 ∷ clauses_on name ps else clauses_on name ps
+clauses_on name (p ∷ ps) =
+    if bytes_eq p.0 name then p.1 ∷ clauses_on name ps else clauses_on name ps
 
 -- the ranges hold just what all the clauses admit, cut by cut and version by version
 pub record HoldsClauses (cs : List Clause) (ranges : List Range) : Type 0 where
@@ -68,7 +71,9 @@ pub record HoldsClauses (cs : List Clause) (ranges : List Range) : Type 0 where
 
 -- the ranges hold what both hold
 abbrev pub Meets : List Range → List Range → List Range → Type 0
-Meets a b s = IsNormal s × ((cut : Cut) → is_point s cut ≡ is_point a cut && is_point b cut) × ((v : Version) → is_in s v ≡ is_in a v && is_in b v) × HasVersionUnlessEmpty s
+Meets a b s =
+    IsNormal s × ((cut : Cut) → is_point s cut ≡ is_point a cut && is_point b cut)
+    × ((v : Version) → is_in s v ≡ is_in a v && is_in b v) × HasVersionUnlessEmpty s
 
 -- the ranges hold what these clauses admit, and what was kept before
 abbrev pub Folds : Option (List Range) → List Clause → List Range → Type 0
@@ -109,16 +114,21 @@ Gathers old more new = (ps : List Pair) → IsGathered ps old → IsGathered (ps
 -- a line gives no pair where it is skipped, and else its clauses with its name
 abbrev pub LineGives : List ℕ → List Pair → Type 0
 LineGives line more = ((is_skipped (content line) ≡ true) × (more ≡ []))
-    ⊎ ((is_skipped (content line) ≡ false) × ((l : LineParts) × ReadsLine (content line) (line_requirement l) × HasClause l × (more ≡ with_name l.0 l.1)))
+    ⊎ ((is_skipped (content line) ≡ false) × ((l : LineParts)
+    × ReadsLine (content line) (line_requirement l) × HasClause l × (more ≡ with_name l.0 l.1)))
 
 -- lines give pairs in turn
 abbrev pub LinesGive : List (List ℕ) → List Pair → Type 0
 LinesGive [] ps = ps ≡ []
-LinesGive (line ∷ lines) ps = (first : List Pair) × (rest : List Pair) × LineGives line first × LinesGive lines rest × (ps ≡ first ++ rest)
+LinesGive (line ∷ lines) ps =
+    (first : List Pair) × (rest : List Pair) × LineGives line first × LinesGive lines rest
+    × (ps ≡ first ++ rest)
 
 -- the bytes are a list with these pairs
 abbrev pub ListGives : List ℕ → List Pair → Type 0
-ListGives bytes ps = (ls : List LineParts) × IsListOf bytes (map line_requirement ls) × AllByRecursion HasClause ls × (ps ≡ pairs_of ls)
+ListGives bytes ps =
+    (ls : List LineParts) × IsListOf bytes (map line_requirement ls) × AllByRecursion HasClause ls
+    × (ps ≡ pairs_of ls)
 
 -- the ranges hold what the clauses that the text is read as admit
 abbrev pub MeansBounds : List ℕ → List Range → Type 0
@@ -130,17 +140,20 @@ MeansBound x s = (c : Clause) × ReadsBound x c × HoldsClauses (c ∷ []) s
 
 -- .. of a whole line with this name
 abbrev pub MeansLine : List ℕ → List ℕ → List Range → Type 0
-MeansLine x name s = (cs : List Clause) × ReadsLine x (plain_requirement name cs) × ArePlain cs × HoldsClauses cs s
+MeansLine x name s =
+    (cs : List Clause) × ReadsLine x (plain_requirement name cs) × ArePlain cs × HoldsClauses cs s
 
 -- a line that a list may have
 pub record IsGoodLine (line : List ℕ) : Type 0 where
   pub short : length line ≤ line_limit
   pub text : IsUtf8 line
-  pub requirement : is_skipped (content line) ≡ false → (r : RequirementParts) × ReadsLine (content line) r
+  pub requirement : is_skipped (content line) ≡ false → (r : RequirementParts)
+      × ReadsLine (content line) r
 
 -- the line is one that a list may have, and the second map keeps what it gives
 abbrev pub MergesLine : List ℕ → Sets → Sets → Type 0
-MergesLine line old new = (more : List Pair) × IsGoodLine line × LineGives line more × Gathers old more new
+MergesLine line old new =
+    (more : List Pair) × IsGoodLine line × LineGives line more × Gathers old more new
 
 -- the bytes are a list, and the second map keeps what it gives
 abbrev pub MergesList : List ℕ → Sets → Sets → Type 0
@@ -154,10 +167,12 @@ RefusesLineBytes line f = (f ≡ line_fault.Requirement fault.NoMemory) ⊎ IsRe
 abbrev pub RefusesList : List ℕ → Cause → Type 0
 RefusesList bytes c = (c ≡ NoMemory) ⊎ IsRefusedList bytes c
 
--- the bytes are what was read; or they are more than a list may have, and what was read is their front
+-- the bytes are what was read; or they are more than a list may have, and what was read is their
+-- front
 abbrev pub IsReadOf : Bool → List ℕ → List ℕ → Type 0
 IsReadOf true read bytes = bytes ≡ read
-IsReadOf false read bytes = (input_limit < length bytes) × ((more : List ℕ) × (bytes ≡ read ++ more))
+IsReadOf false read bytes =
+    (input_limit < length bytes) × ((more : List ℕ) × (bytes ≡ read ++ more))
 
 -- the table that the map stands for
 abbrev pub plain_entry : List Range → EntryParts
@@ -172,7 +187,9 @@ table_of sets = map named_entry sets.entries
 -- inputs give pairs in turn
 abbrev pub InputsGive : List Input → List Pair → Type 0
 InputsGive [] ps = ps ≡ []
-InputsGive (i ∷ inputs) ps = (first : List Pair) × (rest : List Pair) × ListGives i.bytes.items first × InputsGive inputs rest × (ps ≡ first ++ rest)
+InputsGive (i ∷ inputs) ps =
+    (first : List Pair) × (rest : List Pair) × ListGives i.bytes.items first
+    × InputsGive inputs rest × (ps ≡ first ++ rest)
 
 -- ---- its text
 
@@ -189,7 +206,8 @@ range_lines [] = []
 range_lines (r ∷ rest) = range_line r ++ range_lines rest
 
 abbrev pub plain_entry_text : List ℕ → List Range → List ℕ
-plain_entry_text name ranges = line (name ++ codes " " ++ verdict_word (shown ranges)) ++ range_lines ranges
+plain_entry_text name ranges =
+    line (name ++ codes " " ++ verdict_word (shown ranges)) ++ range_lines ranges
 
 -- the entries one after another
 abbrev pub plain_text : List (List ℕ × List Range) → List ℕ

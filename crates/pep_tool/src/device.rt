@@ -18,7 +18,8 @@ use thiserror::Error;
 #[error("a read or a write failed")]
 pub struct Failed;
 
-/// A reader or a writer of std that counts its calls. Clauses see it as the reader or writer, and a device.
+/// A reader or a writer of std that counts its calls. Clauses see it as the reader or writer, and a
+/// device.
 #[derive(Drop)]
 pub struct Counted<D> {
     inner: D,
@@ -31,7 +32,11 @@ impl<D> Model for Counted<D> {
 
     ghost Value = { Counting D };
 
-    ghost view = { λ s. record { inner = s.inner; device = record { calls = s.calls; failed = s.failed } } };
+    ghost view = { λ s. record {
+      inner = s.inner;
+      device =
+          record { calls = s.calls; failed = s.failed };
+    } };
 }
 
 impl<D> Counted<D> {

@@ -12,9 +12,11 @@ ghost use Rattle.pep_tool.specs.Lists.{IsListOf};
 ghost use Rattle.pep_tool.specs.Merge.{IsMerge};
 ghost use Rattle.pep_tool.specs.Refusal.{IsRefused};
 
-/// Inputs that demand the same have one text, whatever the order, the grouping and the repeats of their lines.
+/// Inputs that demand the same have one text, whatever the order, the grouping and the repeats of
+/// their lines.
 pub fn one_text()
-    ensures { (a b : List Input) (x y : List ℕ) → IsMerge a x → IsMerge b y → HaveSameDemands (Gathered a) (Gathered b) → x ≡ y }
+    ensures { (a b : List Input) (x y : List ℕ) → IsMerge a x → IsMerge b y →
+        HaveSameDemands (Gathered a) (Gathered b) → x ≡ y }
 {}
 
 /// A line that a list has is a requirement, by the whole grammar of PEP 508.
@@ -29,7 +31,8 @@ pub fn one_line()
 
 /// Bytes are one list of requirements at most.
 pub fn one_list()
-    ensures { (bytes : List ℕ) (rs qs : List RequirementParts) → IsListOf bytes rs → IsListOf bytes qs → rs ≡ qs }
+    ensures { (bytes : List ℕ) (rs qs : List RequirementParts) → IsListOf bytes rs →
+        IsListOf bytes qs → rs ≡ qs }
 {}
 
 /// An input that is refused, with whatever cause, is no list of requirements.

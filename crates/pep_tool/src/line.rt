@@ -4,7 +4,14 @@ ghost use Rattle.std.specs.Prelude.{◌≡◌, ◌≢◌, ◌⊎◌, Err, None, 
 ghost use Rattle.std.specs.List.{list_all};
 ghost use Rattle.pep_clause.specs.Clause.{ClauseOf, is_clause_byte};
 ghost use Rattle.pep_marker.specs.Name.{is_name_byte, name_of};
-ghost use Rattle.pep_tool.specs.Line.{IsOperand, ReadsBound, RefusesBound, RefusesBounds, RefusesLine, RefusesOperand};
+ghost use Rattle.pep_tool.specs.Line.{
+  IsOperand,
+  ReadsBound,
+  RefusesBound,
+  RefusesBounds,
+  RefusesLine,
+  RefusesOperand,
+};
 ghost use Rattle.pep_tool.specs.Sets.{MeansBound, MeansBounds, MeansLine};
 
 use crate::sets::narrow;
@@ -46,7 +53,8 @@ fn read_clause(alloc: Global, operator: Op, text: &[u8]) -> Result<Clause, Requi
     requires { IsTrue (list_all is_clause_byte text.now) }
     ensures ok { IfOk result (λ c. ClauseOf operator text.now (Ok c)) }
     ensures refusal { IfErr result (λ e. (e ≡ RequireFault.NoMemory)
-        ⊎ ((f : ClauseFault) × (e ≡ RequireFault.BadClause f) × (f ≢ ClauseFault.NoMemory) × ClauseOf operator text.now (Err f))) }
+        ⊎ ((f : ClauseFault) × (e ≡ RequireFault.BadClause f) × (f ≢ ClauseFault.NoMemory)
+        × ClauseOf operator text.now (Err f))) }
 {
     let Ok(text) = std::str::from_utf8(text) else {
         unreachable!();
@@ -62,7 +70,8 @@ fn read_clause(alloc: Global, operator: Op, text: &[u8]) -> Result<Clause, Requi
 fn read_operand(alloc: Global, operator: Op, text: &[u8]) -> Result<Clause, RequireFault>
     requires { operator ≢ Op.Exact }
     ensures ok { IfOk result (IsOperand operator text.now) }
-    ensures refusal { IfErr result (λ e. (e ≡ RequireFault.NoMemory) ⊎ RefusesOperand operator text.now e) }
+    ensures refusal { IfErr result (λ e. (e ≡ RequireFault.NoMemory)
+        ⊎ RefusesOperand operator text.now e) }
 {
     let (run, rest) = text.split_at(clause_run(text));
     let clause = read_clause(alloc, operator, run)?;
@@ -118,10 +127,11 @@ fn read_bounds(alloc: Global, text: &[u8]) -> Result<VersionSet, RequireFault>
     Ok(versions)
 }
 
-/// Reads a line as a name and clauses (PEP 508). Each refusal is the first check that fails: 38 where the line has more
-/// than 65,536 bytes, 37 where it begins with `-`, 31 where it begins with no name; then, for each clause in turn, 33 with
-/// 11 where no operator stands, 33 with 12 to 16 where what follows it is refused (see `Clause::of`; `===` is 12 for now),
-/// 36 where something follows that; 40 where a growth was refused.
+/// Reads a line as a name and clauses (PEP 508). Each refusal is the first check that fails: 38
+/// where the line has more than 65,536 bytes, 37 where it begins with `-`, 31 where it begins with
+/// no name; then, for each clause in turn, 33 with 11 where no operator stands, 33 with 12 to 16
+/// where what follows it is refused (see `Clause::of`; `===` is 12 for now), 36 where something
+/// follows that; 40 where a growth was refused.
 pub(crate) fn read_line(alloc: Global, line: &[u8]) -> Result<Line, RequireFault>
     ensures ok { IfOk result (λ l. MeansLine line.now l.name l.versions) }
     ensures refusal { IfErr result (RefusesLine line.now) }

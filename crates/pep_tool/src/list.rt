@@ -3,7 +3,13 @@
 ghost use Rattle.std.specs.Prelude.{◌≡◌, ◌≢◌, ℕ, ◌<◌, ◌≤◌, List, length, IfErr, IsTrue, OnOk};
 ghost use Rattle.pep_require.specs.Reads.{line_limit};
 ghost use Rattle.pep_tool.specs.Lists.{content, input_limit, is_skipped};
-ghost use Rattle.pep_tool.specs.Sets.{IsReadOf, MergesLine, MergesList, RefusesLineBytes, RefusesList};
+ghost use Rattle.pep_tool.specs.Sets.{
+  IsReadOf,
+  MergesLine,
+  MergesList,
+  RefusesLineBytes,
+  RefusesList,
+};
 
 use crate::fault::{Cause, LineFault};
 use crate::line::{LINE_LIMIT, read_line};
@@ -62,7 +68,8 @@ fn merge_line(alloc: Global, sets: &mut Sets, line: &[u8]) -> Result<(), LineFau
 /// Why the bytes are no list: a fault of a line, or want of memory, which has no place.
 fn line_cause(number: u64, fault: LineFault) -> Cause
     ensures memory { fault ≡ LineFault.Requirement RequireFault.NoMemory → result ≡ Cause.NoMemory }
-    ensures line { fault ≢ LineFault.Requirement RequireFault.NoMemory → result ≡ Cause.Line number fault }
+    ensures line { fault ≢ LineFault.Requirement RequireFault.NoMemory →
+        result ≡ Cause.Line number fault }
 {
     match fault {
         LineFault::Requirement(RequireFault::NoMemory) => Cause::NoMemory,
@@ -70,9 +77,11 @@ fn line_cause(number: u64, fault: LineFault) -> Cause
     }
 }
 
-/// The fault of a list that goes on behind its largest size, in this line: that of the limit which is passed first.
+/// The fault of a list that goes on behind its largest size, in this line: that of the limit which
+/// is passed first.
 fn cut_off(number: u64, line: &[u8]) -> Cause
-    ensures long { line_limit < length line.now → result ≡ Cause.Line number (LineFault.Requirement RequireFault.LineTooLong) }
+    ensures long { line_limit < length line.now →
+        result ≡ Cause.Line number (LineFault.Requirement RequireFault.LineTooLong) }
     ensures large { length line.now ≤ line_limit → result ≡ Cause.TooLarge }
 {
     if line.len() > LINE_LIMIT {
@@ -82,11 +91,12 @@ fn cut_off(number: u64, line: &[u8]) -> Cause
     }
 }
 
-/// Takes what lines demand into the sets. Where the list does not fit its largest size these are its first lines, and
-/// the last of them is cut.
+/// Takes what lines demand into the sets. Where the list does not fit its largest size these are
+/// its first lines, and the last of them is cut.
 fn merge_lines(alloc: Global, sets: &mut Sets, read: &[u8], fits: bool) -> Result<(), Cause>
     ensures fits { OnOk result (IsTrue fits) }
-    ensures ok { OnOk result (length read.now ≤ input_limit → MergesList read.now sets.old sets.new) }
+    ensures ok { OnOk result (length read.now ≤ input_limit →
+        MergesList read.now sets.old sets.new) }
     ensures refused { IfErr result (λ cause. (bytes : List ℕ) → IsReadOf fits read.now bytes
         → RefusesList bytes cause) }
 {
@@ -106,9 +116,10 @@ fn merge_lines(alloc: Global, sets: &mut Sets, read: &[u8], fits: bool) -> Resul
     Ok(())
 }
 
-/// Takes what the lines of a list demand into the sets (see `Kind::List`). Faults come in the order of the bytes: 57
-/// with 38 at the 65,537th byte of a line, 57 with another fault of the line at its end, 56 at the 16,777,217th byte
-/// of the list, which is the fault where both fall on one byte; 60 where a growth was refused.
+/// Takes what the lines of a list demand into the sets (see `Kind::List`). Faults come in the order
+/// of the bytes: 57 with 38 at the 65,537th byte of a line, 57 with another fault of the line at
+/// its end, 56 at the 16,777,217th byte of the list, which is the fault where both fall on one
+/// byte; 60 where a growth was refused.
 pub(crate) fn merge_list(alloc: Global, sets: &mut Sets, bytes: &[u8]) -> Result<(), Cause>
     ensures ok { OnOk result (MergesList bytes.now sets.old sets.new) }
     ensures refused { IfErr result (RefusesList bytes.now) }

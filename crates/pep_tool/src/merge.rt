@@ -45,11 +45,12 @@ fn gather_inputs(alloc: Global, inputs: &[Input]) -> Result<Sets, Fault>
     Ok(sets)
 }
 
-/// The text of the table of all inputs, in which order, grouping and repeats of their lines don't matter.
+/// The text of the table of all inputs, in which order, grouping and repeats of their lines don't
+/// matter.
 ///
-/// An input that is no list of requirements is refused, with its number, counted from 1, as the place: 56 where it has
-/// more than 16,777,216 bytes, 57 for a line (see [`Cause`]); the first fault of the first such input is answered. Want of
-/// memory is 60, without a place.
+/// An input that is no list of requirements is refused, with its number, counted from 1, as the
+/// place: 56 where it has more than 16,777,216 bytes, 57 for a line (see [`Cause`]); the first
+/// fault of the first such input is answered. Want of memory is 60, without a place.
 pub fn merge_bytes(alloc: Global, inputs: &[Input]) -> Result<String, Fault>
     ensures merged { IfOk result (λ text. IsMerge inputs.now (string_bytes text)) }
     ensures refused { IfErr result (RefusesInputs inputs.now) }

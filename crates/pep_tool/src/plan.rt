@@ -1,8 +1,28 @@
 //! What the words of the command line ask for.
 
-ghost use Rattle.std.specs.Prelude.{◌≡◌, ◌≢◌, ◌⊎◌, IfErr, IfOk, None, Some, map, option_and_then, option_map, string_bytes};
+ghost use Rattle.std.specs.Prelude.{
+  ◌≡◌,
+  ◌≢◌,
+  ◌⊎◌,
+  IfErr,
+  IfOk,
+  None,
+  Some,
+  map,
+  option_and_then,
+  option_map,
+  string_bytes,
+};
 ghost use Rattle.clap.specs.Words.{app_of, kind_of, subcommand_rows_of};
-ghost use Rattle.pep_tool.specs.Plan.{AskNothing, Asks, IsBadWords, program, request, request_of, show_version};
+ghost use Rattle.pep_tool.specs.Plan.{
+  AskNothing,
+  Asks,
+  IsBadWords,
+  program,
+  request,
+  request_of,
+  show_version,
+};
 ghost use Rattle.pep_tool.specs.Run.{no_memory};
 
 use crate::fault::{Cause, Fault, Place};
@@ -40,7 +60,8 @@ fn program<'a>(alloc: Global) -> Result<Command<'a>, AllocError>
 
 // The fault of words that clap refuses, with its text.
 fn words_fault(alloc: Global, error: &Error) -> Fault
-    ensures { (result ≡ no_memory) ⊎ (IsBadWords result × (kind_of error.now ≢ ErrorKind.OutOfMemory)) }
+    ensures { (result ≡ no_memory) ⊎ (IsBadWords result
+        × (kind_of error.now ≢ ErrorKind.OutOfMemory)) }
 {
     if error.kind() == ErrorKind::OutOfMemory {
         return Fault::no_memory();
@@ -56,7 +77,8 @@ fn words_fault(alloc: Global, error: &Error) -> Fault
 
 // The text of `version TEXT`, where that command was met.
 fn version_text<'a>(matches: &ArgMatches<'a>) -> Option<&'a str>
-    ensures { option_map (λ text. show_version text.now) result ≡ option_and_then request_of (subcommand_rows_of matches.now) }
+    ensures { option_map (λ text. show_version text.now) result
+        ≡ option_and_then request_of (subcommand_rows_of matches.now) }
 {
     let (name, found) = matches.subcommand()?;
     if name != "version" {
@@ -67,9 +89,11 @@ fn version_text<'a>(matches: &ArgMatches<'a>) -> Option<&'a str>
 
 // The plan of the command that was met.
 fn plan_met(alloc: Global, matches: &ArgMatches<'_>) -> Result<Plan, Fault>
-    ensures plan { IfOk result (λ p. option_and_then request_of (subcommand_rows_of matches.now) ≡ Some (request p)) }
+    ensures plan { IfOk result (λ p. option_and_then request_of (subcommand_rows_of matches.now)
+        ≡ Some (request p)) }
     ensures refused { IfErr result (λ fault. (fault ≡ no_memory)
-        ⊎ (IsBadWords fault × (option_and_then request_of (subcommand_rows_of matches.now) ≡ None))) }
+        ⊎ (IsBadWords fault
+        × (option_and_then request_of (subcommand_rows_of matches.now) ≡ None))) }
 {
     let Some(text) = version_text(matches) else {
         return Err(Fault {
@@ -82,10 +106,11 @@ fn plan_met(alloc: Global, matches: &ArgMatches<'_>) -> Result<Plan, Fault>
     })
 }
 
-/// What the words of the command line ask for, the program's own name not among them. They are read by `clap`.
+/// What the words of the command line ask for, the program's own name not among them. They are read
+/// by `clap`.
 ///
-/// No words are the standard plan. Words that `clap` refuses, a request for help among them, are `BadWords`, 61, with the
-/// text of `clap`. A growth that is refused is 60.
+/// No words are the standard plan. Words that `clap` refuses, a request for help among them, are
+/// `BadWords`, 61, with the text of `clap`. A growth that is refused is 60.
 pub fn plan_of(alloc: Global, words: &[String]) -> Result<Plan, Fault>
     ensures plan { IfOk result (λ p. Asks (map string_bytes words.now) (request p)) }
     ensures refused { IfErr result (λ fault. (fault ≡ no_memory)

@@ -25,7 +25,8 @@ fn push_cut(alloc: Global, text: &mut String, cut: &Cut) -> Result<(), Fault>
 }
 
 fn push_range(alloc: Global, text: &mut String, range: &Range) -> Result<(), Fault>
-    ensures ok { OnOk result (string_bytes text.new ≡ string_bytes text.old ++ range_line range.now) }
+    ensures ok { OnOk result (string_bytes text.new ≡ string_bytes text.old
+        ++ range_line range.now) }
     ensures faults { IfErr result (λ fault. fault ≡ no_memory) }
 {
     text.push_str("  range ")?;
@@ -37,7 +38,8 @@ fn push_range(alloc: Global, text: &mut String, range: &Range) -> Result<(), Fau
 }
 
 fn push_ranges(alloc: Global, text: &mut String, ranges: &[Range]) -> Result<(), Fault>
-    ensures ok { OnOk result (string_bytes text.new ≡ string_bytes text.old ++ range_lines ranges.now) }
+    ensures ok { OnOk result (string_bytes text.new ≡ string_bytes text.old
+        ++ range_lines ranges.now) }
     ensures faults { IfErr result (λ fault. fault ≡ no_memory) }
 {
     for range in ranges {
@@ -53,7 +55,8 @@ fn verdict_word(set: &VersionSet) -> &'static str
 }
 
 fn push_entry(alloc: Global, text: &mut String, name: &str, set: &VersionSet) -> Result<(), Fault>
-    ensures ok { OnOk result (string_bytes text.new ≡ string_bytes text.old ++ plain_entry_text name.now set.now) }
+    ensures ok { OnOk result (string_bytes text.new ≡ string_bytes text.old
+        ++ plain_entry_text name.now set.now) }
     ensures faults { IfErr result (λ fault. fault ≡ no_memory) }
 {
     text.push_str(name)?;
@@ -63,7 +66,8 @@ fn push_entry(alloc: Global, text: &mut String, name: &str, set: &VersionSet) ->
     push_ranges(alloc, text, set.ranges())
 }
 
-/// The text of the table: for each name a line with its verdict, then a line for each of its ranges.
+/// The text of the table: for each name a line with its verdict, then a line for each of its
+/// ranges.
 pub(crate) fn table_text(alloc: Global, sets: &Sets) -> Result<String, Fault>
     ensures ok { IfOk result (λ text. IsTableText (table_of sets.now) (string_bytes text)) }
     ensures ordered { OnOk result (IsOrdered name_cmp sets.now) }

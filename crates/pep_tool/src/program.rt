@@ -1,11 +1,41 @@
 //! The program, but for its streams.
 
-ghost use Rattle.std.specs.Prelude.{◌≡◌, ◌≢◌, ◌⊎◌, ◌≤◌, ◌+◌, ◌↔◌, [], IfOk, IfErr, OnOk, OnErr, IsErrOf, IsTrue, false, length, map, string_bytes};
+ghost use Rattle.std.specs.Prelude.{
+  ◌≡◌,
+  ◌≢◌,
+  ◌⊎◌,
+  ◌≤◌,
+  ◌+◌,
+  ◌↔◌,
+  [],
+  IfOk,
+  IfErr,
+  OnOk,
+  OnErr,
+  IsErrOf,
+  IsTrue,
+  false,
+  length,
+  map,
+  string_bytes,
+};
 ghost use Rattle.std.specs.Io.KnownBytes.{Consumes, IsAtEnd, Keeps};
 ghost use Rattle.pep_tool.specs.Device.{Device, IsFresh};
 ghost use Rattle.pep_tool.specs.Lists.{input_limit};
 ghost use Rattle.pep_tool.specs.Plan.{Asks, standard};
-ghost use Rattle.pep_tool.specs.Run.{Answers, IsVersionLine, MergesInput, PrintsAnswer, Refuses, RefusesVersion, Tells, TellsRefusal, WritesLine, no_memory, read_fault};
+ghost use Rattle.pep_tool.specs.Run.{
+  Answers,
+  IsVersionLine,
+  MergesInput,
+  PrintsAnswer,
+  Refuses,
+  RefusesVersion,
+  Tells,
+  TellsRefusal,
+  WritesLine,
+  no_memory,
+  read_fault,
+};
 
 use crate::device::{Sink, Source};
 use crate::fault::{Cause, Fault, Place};
@@ -28,14 +58,16 @@ const NO_MEMORY_LINE: &str = "refused code 60\n";
 
 /// The program, but for its streams: does what the words ask for, and answers the exit status.
 ///
-/// Without words it reads the whole input as one list, at most 16,777,217 bytes of it, and then writes the text of the
-/// table to `output`, status 0. With the words `version TEXT` it reads nothing, and writes the normal text of the version
-/// (PEP 440, "Normalization") and a line feed, status 0.
+/// Without words it reads the whole input as one list, at most 16,777,217 bytes of it, and then
+/// writes the text of the table to `output`, status 0. With the words `version TEXT` it reads
+/// nothing, and writes the normal text of the version (PEP 440, "Normalization") and a line feed,
+/// status 0.
 ///
-/// Any refusal is status 2, with the line of [`Fault::text`] on `faults` and nothing on `output` but where writing there
-/// failed: 61 for other words, with the text of `clap`; 62 with 1 or 2 for a text that is no version; 58 where reading
-/// failed, which lies in input 1 and comes before any fault of the bytes; 60 for want of memory; the refusals of
-/// [`merge_bytes`]; and 63 where writing failed. A failure to write to `faults` changes nothing.
+/// Any refusal is status 2, with the line of [`Fault::text`] on `faults` and nothing on `output`
+/// but where writing there failed: 61 for other words, with the text of `clap`; 62 with 1 or 2 for
+/// a text that is no version; 58 where reading failed, which lies in input 1 and comes before any
+/// fault of the bytes; 60 for want of memory; the refusals of [`merge_bytes`]; and 63 where writing
+/// failed. A failure to write to `faults` changes nothing.
 pub fn run<R: Files + AllocGlobal, I: Source, O: Sink, F: Sink>(
     rt: &R,
     words: &[String],
@@ -50,7 +82,8 @@ pub fn run<R: Files + AllocGlobal, I: Source, O: Sink, F: Sink>(
 
     // At status 0 what the words ask for was printed, and nothing was told.
     ensures printed { result ≡ 0
-        → PrintsAnswer (map string_bytes words.now) (I.left input.old) (I.left input.new) (O.written output.old)
+        → PrintsAnswer (map string_bytes words.now) (I.left input.old) (I.left input.new)
+        (O.written output.old)
         (O.written output.new) }
     ensures no_failure { result ≡ 0
         → ((I.device input.new).failed ≡ false) × ((O.device output.new).failed ≡ false) }
@@ -61,7 +94,8 @@ pub fn run<R: Files + AllocGlobal, I: Source, O: Sink, F: Sink>(
 
     // At status 2 a fault was told, and nothing was printed.
     ensures told { result ≡ 2
-        → TellsRefusal (map string_bytes words.now) (I.left input.old) (I.left input.new) (I.device input.new)
+        → TellsRefusal (map string_bytes words.now) (I.left input.old) (I.left input.new)
+        (I.device input.new)
         (O.device output.new) (F.written faults.old) (F.written faults.new) (F.device faults.new) }
     ensures silent { result ≡ 2 → (O.device output.new).failed ≡ false
         → Keeps (O.written output.old) (O.written output.new) }
@@ -87,13 +121,16 @@ fn print_answer<I: Source, O: Sink>(
     ensures no_failure { OnOk result
         (((I.device input.new).failed ≡ false) × ((O.device output.new).failed ≡ false)) }
     ensures printed { OnOk result
-        (PrintsAnswer (map string_bytes words.now) (I.left input.old) (I.left input.new) (O.written output.old)
+        (PrintsAnswer (map string_bytes words.now) (I.left input.old) (I.left input.new)
+        (O.written output.old)
         (O.written output.new)) }
     ensures refused { IfErr result
-        (Refuses (map string_bytes words.now) (I.left input.old) (I.left input.new) (I.device input.new)
+        (Refuses (map string_bytes words.now) (I.left input.old) (I.left input.new)
+        (I.device input.new)
         (O.device output.new)) }
     ensures silent { OnErr result
-        ((O.device output.new).failed ≡ false → Keeps (O.written output.old) (O.written output.new)) }
+        ((O.device output.new).failed ≡ false →
+        Keeps (O.written output.old) (O.written output.new)) }
     ensures unread { ¬ Asks (map string_bytes words.now) standard → input.new ≡ input.old }
 {
     let text = answer(alloc, words, input)?;
@@ -104,10 +141,12 @@ fn print_answer<I: Source, O: Sink>(
 fn answer<S: Source>(alloc: Global, words: &[String], source: &mut S) -> Result<String, Fault>
     requires { IsFresh (S.device source.old) }
     ensures answers { IfOk result
-        (λ text. Answers (map string_bytes words.now) (S.left source.old) (S.left source.new) (string_bytes text)) }
+        (λ text. Answers (map string_bytes words.now) (S.left source.old) (S.left source.new)
+        (string_bytes text)) }
     ensures no_failure { OnOk result ((S.device source.new).failed ≡ false) }
     ensures refused { IfErr result (λ fault. (output : Device)
-        → Refuses (map string_bytes words.now) (S.left source.old) (S.left source.new) (S.device source.new) output fault) }
+        → Refuses (map string_bytes words.now) (S.left source.old) (S.left source.new)
+        (S.device source.new) output fault) }
     ensures unread { ¬ Asks (map string_bytes words.now) standard → source.new ≡ source.old }
 {
     match plan_of(alloc, words)? {
@@ -119,7 +158,8 @@ fn answer<S: Source>(alloc: Global, words: &[String], source: &mut S) -> Result<
 // The line of the version that a text spells.
 fn version_line(alloc: Global, argument: &str) -> Result<String, Fault>
     ensures line { IfOk result (λ line. IsVersionLine argument.now (string_bytes line)) }
-    ensures refused { IfErr result (λ fault. (fault ≡ no_memory) ⊎ RefusesVersion argument.now fault) }
+    ensures refused { IfErr result (λ fault. (fault ≡ no_memory)
+        ⊎ RefusesVersion argument.now fault) }
 {
     let version = match Version::read(alloc, argument) {
         Ok(version) => version,
@@ -167,8 +207,10 @@ fn merge_input<S: Source>(alloc: Global, source: &mut S) -> Result<String, Fault
 // The bytes of the input, and no more than the limit and one.
 fn read_all<S: Source>(alloc: Global, source: &mut S) -> Result<Vec<u8>, Fault>
     requires { IsFresh (S.device source.old) }
-    ensures bytes { IfOk result (λ bytes. Consumes (S.left source.old) (S.left source.new) bytes.items) }
-    ensures whole { IfOk result (λ bytes. length bytes.items ≤ input_limit → IsAtEnd (S.left source.new)) }
+    ensures bytes { IfOk result (λ bytes. Consumes (S.left source.old)
+        (S.left source.new) bytes.items) }
+    ensures whole { IfOk result (λ bytes. length bytes.items ≤ input_limit →
+        IsAtEnd (S.left source.new)) }
     ensures bound { IfOk result (λ bytes. length bytes.items ≤ input_limit + 1) }
     ensures calls { (S.device source.new).calls ≤ input_limit + 1 }
     ensures failed { IsTrue (S.device source.new).failed ↔ IsErrOf result read_fault }
@@ -207,7 +249,8 @@ fn tell<F: Sink>(alloc: Global, fault: &Fault, faults: &mut F)
 // Writes a line as far as the sink takes it.
 fn tell_line<F: Sink>(faults: &mut F, line: &str)
     requires { IsFresh (F.device faults.old) }
-    ensures { WritesLine line.now (F.written faults.old) (F.written faults.new) (F.device faults.new) }
+    ensures { WritesLine line.now (F.written faults.old) (F.written faults.new)
+        (F.device faults.new) }
 {
     let _ = write_text(faults, line);
 }

@@ -16,8 +16,8 @@ pub trait Sink {
     /// Its calls, and whether one failed.
     ghost device: { Self → Device };
 
-    /// Writes some bytes of the front of `buf`, and answers how many. A call that takes no byte of a slice that isn't
-    /// empty has failed.
+    /// Writes some bytes of the front of `buf`, and answers how many. A call that takes no byte of
+    /// a slice that isn't empty has failed.
     fn push(&mut self, buf: &[u8]) -> Result<usize, Failed>
         requires { IsReady (device self.old) }
         ensures bound { WritesAtMost result buf.now }

@@ -16,7 +16,8 @@ pub trait Source {
     /// Its calls, and whether one failed.
     ghost device: { Self → Device };
 
-    /// Reads some bytes to the front of `buf`, and answers how many. None into a slice that isn't empty is the end.
+    /// Reads some bytes to the front of `buf`, and answers how many. None into a slice that isn't
+    /// empty is the end.
     fn pull(&mut self, buf: &mut [u8]) -> Result<usize, Failed>
         requires { IsReady (device self.old) }
         ensures bound { ReadsAtMost result buf.new }

@@ -4,4 +4,5 @@ use Rattle.pep_tool.proofs.laws.one_text.Goals as goal
 
 pub returns : goal.returns
 returns c = λ a b x y m n same.
-    laws.one_text (Gathered a) (Gathered b) m.table n.table x y same m.is_table m.points n.is_table n.points m.text n.text
+    laws.one_text (Gathered a) (Gathered b) m.table n.table x y same m.is_table m.points n.is_table
+    n.points m.text n.text

@@ -6,7 +6,8 @@ use Rattle.pep_tool.proofs.list.merge_list.Goals as goal
 pub returns-then-bytes-le-INPUT_LIMIT-clause-refused :
     goal.returns-then-bytes-le-INPUT_LIMIT-clause-refused
 returns-then-bytes-le-INPUT_LIMIT-clause-refused c =
-    IfErr-weaker c.merge_lines.result _ _ (λ cause refuses. refuses c.args.bytes.now refl) c.merge_lines.ensures.refused
+    IfErr-weaker c.merge_lines.result _ _ (λ cause refuses.
+    refuses c.args.bytes.now refl) c.merge_lines.ensures.refused
 
 pub returns-else-bytes-le-INPUT_LIMIT-clause-refused :
     goal.returns-else-bytes-le-INPUT_LIMIT-clause-refused
@@ -14,5 +15,8 @@ returns-else-bytes-le-INPUT_LIMIT-clause-refused c =
     let goes = sym (take-append-drop 16777216 c.args.bytes.now)
     ∙ (λ i. sym c.split_at.ensures.front i ++ sym c.split_at.ensures.back i) in
     IfErr-weaker c.merge_lines-else-bytes-le-INPUT_LIMIT.result _ _
-    (λ cause refuses. refuses c.args.bytes.now (omega (arith, c.if-bytes-le-INPUT_LIMIT.false), (c.split_at.result.1.now, goes)))
+    (λ cause refuses. refuses c.args.bytes.now (
+      omega (arith, c.if-bytes-le-INPUT_LIMIT.false),
+      (c.split_at.result.1.now, goes),
+    ))
     c.merge_lines-else-bytes-le-INPUT_LIMIT.ensures.refused

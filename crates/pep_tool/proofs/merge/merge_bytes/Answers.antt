@@ -12,10 +12,14 @@ use Rattle.pep_tool.specs.Sets.{MergesInputs, Sets, table_of}
 use Rattle.pep_tool.proofs.MergeLemmas.{merges}
 use Rattle.pep_tool.proofs.merge.merge_bytes.Goals as goal
 
-merged : (r : Result (String Global) Fault) (inputs : List Input) (sets : Sets) → MergesInputs inputs sets →
-    IfOk r (λ text. IsTableText (table_of sets) (string_bytes text)) → OnOk r (IsOrdered name_cmp sets) → IfOk r (λ text. IsMerge inputs (string_bytes text))
+merged : (r : Result (String Global) Fault) (inputs : List Input) (sets : Sets) →
+    MergesInputs inputs sets →
+    IfOk r (λ text. IsTableText (table_of sets) (string_bytes text)) →
+    OnOk r (IsOrdered name_cmp sets) → IfOk r (λ text. IsMerge inputs (string_bytes text))
 merged (Ok text) inputs sets m t o = merges inputs sets (string_bytes text) m o t
 merged (Err fault) inputs sets m t o = tt
 
 pub returns-clause-merged : goal.returns-clause-merged
-returns-clause-merged c = merged c.table_text.result c.args.inputs.now c.in_ok-sets.sets c.in_ok-sets.ensures.ok c.table_text.ensures.ok c.table_text.ensures.ordered
+returns-clause-merged c =
+    merged c.table_text.result c.args.inputs.now c.in_ok-sets.sets c.in_ok-sets.ensures.ok
+    c.table_text.ensures.ok c.table_text.ensures.ordered

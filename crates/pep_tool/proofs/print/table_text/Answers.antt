@@ -8,7 +8,10 @@ use Rattle.pep_tool.proofs.print.table_text.Goals as goal
 
 pub returns-clause-ok : goal.returns-clause-ok
 returns-clause-ok c =
-    let over : c.loop-name.name-iterator ≡ [] = rest_all deref_pair c.loop-name.name-iterator c.next.new.self c.next.result c.in-None.is c.next.ensures.steps in
+    let over : c.loop-name.name-iterator ≡ [] =
+    rest_all deref_pair c.loop-name.name-iterator c.next.new.self c.next.result c.in-None.is
+    c.next.ensures.steps in
     let bytes = string_bytes c.loop-name.text in
     printed_text c.args.sets.now bytes
-    (sym (append-nil bytes) ∙ ap (λ (es : List (List ℕ × List Range)). bytes ++ plain_text es) (sym over) ∙ c.loop-name.invariant)
+    (sym (append-nil bytes) ∙ ap (λ (es : List (List ℕ × List Range)). bytes
+    ++ plain_text es) (sym over) ∙ c.loop-name.invariant)

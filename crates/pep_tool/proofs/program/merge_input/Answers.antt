@@ -8,9 +8,11 @@ pub returns-clause-merged : goal.returns-clause-merged
 returns-clause-merged g c =
     let i : Input = record { kind = kind.List; bytes = c.in_ok-bytes.bytes } in
     let read = c.in_ok-bytes.ensures in
-    MergesInput-from_merge string_bytes c.merge_bytes.result i _ _ refl read.bytes read.whole c.merge_bytes.ensures.merged
+    MergesInput-from_merge string_bytes c.merge_bytes.result i _ _ refl read.bytes read.whole
+    c.merge_bytes.ensures.merged
 
 pub returns-clause-refused : goal.returns-clause-refused
 returns-clause-refused g c =
     let i : Input = record { kind = kind.List; bytes = c.in_ok-bytes.bytes } in
-    Refuses-from_merge c.merge_bytes.result i _ _ _ refl c.in_ok-bytes.ensures.bytes (search rules) c.merge_bytes.ensures.refused
+    Refuses-from_merge c.merge_bytes.result i _ _ _ refl c.in_ok-bytes.ensures.bytes
+    (search rules) c.merge_bytes.ensures.refused

@@ -6,10 +6,13 @@ use Rattle.pep_tool.proofs.write.write_text.Goals as goal
 pub loop-done-preserved : goal.loop-done-preserved
 loop-done-preserved g c =
     let bytes = c.as_bytes-bytes.result.now in
-    let positive : 0 < c.in-Ok.count = c.in-Ok.ensures.some (simp (length-take, length-drop) (omega arith)) in
+    let positive : 0 < c.in-Ok.count =
+    c.in-Ok.ensures.some (simp (length-take, length-drop) (omega arith)) in
     record {
       within = omega (arith, simp (length-take, length-drop) at c.in-Ok.ensures.bound);
-      written = Appends-more _ _ _ bytes c.loop-done.done c.in-Ok.count c.loop-done.invariant.written c.in-Ok.ensures.bytes;
+      written =
+          Appends-more _ _ _ bytes c.loop-done.done c.in-Ok.count c.loop-done.invariant.written
+          c.in-Ok.ensures.bytes;
       calls = omega (arith, c.in-Ok.ensures.counts.0);
       ready = c.in-Ok.ensures.counts.1;
     }

@@ -6,7 +6,8 @@ use Rattle.pep_tool.proofs.write.write_text.Given as goal
 abbrev pub invariant-loop-done : goal.invariant-loop-done
 invariant-loop-done g l = record {
   within : l.done ≤ length l.bytes;
-  written : Appends (g.W.Sink.written l.initial.sink) (g.W.Sink.written l.sink) (take l.done l.bytes);
+  written : Appends (g.W.Sink.written l.initial.sink) (g.W.Sink.written l.sink)
+      (take l.done l.bytes);
   calls : (g.W.Sink.device l.sink).calls ≤ l.done;
   ready : (g.W.Sink.device l.sink).failed ≡ false;
 }
