@@ -8,10 +8,12 @@ use Rattle.pep_version.specs.Laws.{is_same-true, same-parts}
 use Rattle.pep_version.specs.Order.{phase_rank, version_cmp, without_end_zeros}
 use Rattle.pep_version.specs.Version.{Segment, number, Version, word}
 
+-- what a pre-release part feeds: whether it is there, and its phase and number
 abbrev pub feed_pre : Option (Phase × ℕ) → HashWrites
 feed_pre None = fed.u8 0
 feed_pre (Some p) = fed.u8 (phase_rank p.0) ++ fed.u64 p.1
 
+-- what a segment feeds: which kind it is, and its number or word
 abbrev pub feed_segment : Segment → HashWrites
 feed_segment (number n) = fed.u8 0 ++ fed.u64 n
 feed_segment (word letters) = fed.u8 1 ++ fed.str letters

@@ -31,6 +31,7 @@ stage_of None None (Some n) = 0
 stage_of None None None = 4
 stage_of None (Some n) dev = 4
 
+-- the stage of a version
 abbrev pub stage : Version → ℕ
 stage v = stage_of v.pre v.post v.dev
 
@@ -39,6 +40,7 @@ abbrev pub pre_number_of : Option (Phase × ℕ) → ℕ
 pre_number_of None = 0
 pre_number_of (Some p) = p.1
 
+-- the number of the pre-release of a version, and 0 where there is none
 abbrev pub pre_number : Version → ℕ
 pre_number v = pre_number_of v.pre
 
@@ -81,10 +83,11 @@ Below v w = version_cmp v w ≡ Less
 abbrev pub Same : Version → Version → Type 0
 Same v w = version_cmp v w ≡ Equal
 
--- the same two as tests
+-- whether the first version is below the second
 abbrev pub is_below : Version → Version → Bool
 is_below v w = is_lt (version_cmp v w)
 
+-- whether neither is below the other
 abbrev pub is_same : Version → Version → Bool
 is_same v w = is_eq (version_cmp v w)
 
@@ -92,13 +95,15 @@ is_same v w = is_eq (version_cmp v w)
 abbrev pub public_version : Version → Version
 public_version v = record v { label = [] }
 
--- the version without its developmental release part, and without its pre- and post-release parts
+-- the version without its developmental release part
 abbrev pub without_dev : Version → Version
 without_dev v = record v { dev = None }
 
+-- the version without its post-release part
 abbrev pub without_post : Version → Version
 without_post v = record v { post = None }
 
+-- the version without its pre-release part
 abbrev pub without_pre : Version → Version
 without_pre v = record v { pre = None }
 

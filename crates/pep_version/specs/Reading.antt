@@ -15,15 +15,17 @@ use Rattle.pep_version.specs.Version.{Segment, Version}
 
 -- ---- digits and separators
 
--- the digits at the front, and what is behind them
+-- the digits at the front
 abbrev pub front : List ℕ → List ℕ
 front [] = []
 front (b ∷ rest) = if is_ascii_digit b then b ∷ front rest else []
 
+-- what is left behind these digits
 abbrev pub behind : List ℕ → List ℕ
 behind [] = []
 behind (b ∷ rest) = if is_ascii_digit b then behind rest else b ∷ rest
 
+-- the text begins with a digit
 abbrev pub starts_digit : List ℕ → Bool
 starts_digit [] = false
 starts_digit (b ∷ rest) = is_ascii_digit b
@@ -73,6 +75,7 @@ abbrev pub table : List (Phase × List ℕ)
 table = (Alpha, codes "alpha") ∷ (Alpha, codes "a") ∷ (Beta, codes "beta") ∷ (Beta, codes "b")
     ∷ (Rc, codes "preview") ∷ (Rc, codes "pre") ∷ (Rc, codes "rc") ∷ (Rc, codes "c") ∷ []
 
+-- the phase, where its word was found, and else what the other words give
 abbrev pub phase_or : Phase → Option (List ℕ) → Option (Phase × List ℕ) → Option (Phase × List ℕ)
 phase_or phase (Some text) other = Some (phase, text)
 phase_or phase None other = other
@@ -82,10 +85,12 @@ abbrev pub behind_phase : List (Phase × List ℕ) → List ℕ → Option (Phas
 behind_phase [] text = None
 behind_phase (w ∷ words) text = phase_or w.0 (stripped w.1 text) (behind_phase words text)
 
+-- the phase with its number, where a number was read, and what is behind it
 abbrev pub with_phase : Phase → Option (ℕ × List ℕ) → List ℕ → Option (Phase × ℕ) × List ℕ
 with_phase phase None text = (None, text)
 with_phase phase (Some q) text = (Some (phase, q.0), q.1)
 
+-- the pre-release part, where its word was found, and what is behind it
 abbrev pub pre_taken : Option (Phase × List ℕ) → List ℕ → Option (Phase × ℕ) × List ℕ
 pre_taken None text = (None, text)
 pre_taken (Some q) text = with_phase q.0 (number_behind (Some q.1)) text
@@ -109,10 +114,11 @@ read_post text = taken (or_else (implicit_number text) (read_word_and_number pos
 abbrev pub read_dev : List ℕ → Option ℕ × List ℕ
 read_dev text = taken (read_word_and_number dev_words text) text
 
--- the parts behind the pre-release part, and all parts behind the release
+-- the parts behind the pre-release part, and what is behind them
 abbrev pub read_post_dev : List ℕ → Option ℕ × (Option ℕ × List ℕ)
 read_post_dev text = ((read_post text).0, read_dev (read_post text).1)
 
+-- all parts behind the release, and what is behind them
 abbrev pub read_suffix : List ℕ → Option (Phase × ℕ) × (Option ℕ × (Option ℕ × List ℕ))
 read_suffix text = ((read_pre text).0, read_post_dev (read_pre text).1)
 
@@ -123,13 +129,14 @@ abbrev pub goes_on : List ℕ → Bool
 goes_on [] = false
 goes_on (b ∷ rest) = is_ascii_digit b || ((b == 46) && starts_digit rest)
 
--- the release, and what is behind it
+-- the release
 abbrev pub release_front : List ℕ → List ℕ
 release_front [] = []
 release_front (b ∷ rest) =
     if is_ascii_digit b then b ∷ release_front rest else if (b == 46) && starts_digit rest
     then b ∷ release_front rest else []
 
+-- what is left behind the release
 abbrev pub release_behind : List ℕ → List ℕ
 release_behind [] = []
 release_behind (b ∷ rest) =
@@ -143,10 +150,12 @@ abbrev pub bang : List ℕ → Option (List ℕ)
 bang [] = None
 bang (b ∷ rest) = if b == 33 then Some rest else None
 
+-- a text without a `v` at its front ("Preceding v character")
 abbrev pub without_v : List ℕ → List ℕ
 without_v [] = []
 without_v (b ∷ rest) = if b == 118 then rest else b ∷ rest
 
+-- the epoch, where a `!` stands behind the digits, and what is behind it; else 0 and the whole text
 abbrev pub epoch_taken : Option (List ℕ) → List ℕ → ℕ × List ℕ
 epoch_taken None text = (0, text)
 epoch_taken (Some rest) text = (digits_value 10 (front text), rest)
@@ -162,6 +171,7 @@ abbrev pub read_label : List ℕ → List Segment
 read_label [] = []
 read_label (b ∷ text) = map segment_of_run (separated_parts text)
 
+-- the version with this epoch, this release and the parts behind it
 abbrev pub with_suffix : ℕ → List ℕ → Option (Phase × ℕ) × (Option ℕ × (Option ℕ × List ℕ)) →
     Version
 with_suffix epoch release s =
@@ -174,9 +184,11 @@ with_suffix epoch release s =
       label = read_label s.1.1.1;
     }
 
+-- the version with this epoch, read from its release on
 abbrev pub from_release : ℕ → List ℕ → Version
 from_release epoch text = with_suffix epoch (release_front text) (read_suffix (release_behind text))
 
+-- the version whose epoch was read, and what is behind the epoch
 abbrev pub from_epoch : ℕ × List ℕ → Version
 from_epoch e = from_release e.0 e.1
 

@@ -21,6 +21,7 @@ lower text = str_to_ascii_lowercase text
 abbrev pub IsDigits : Bor (List ℕ) → Type 0
 IsDigits digits = IsTrue (list_all is_ascii_digit digits.now)
 
+-- the number that the digits write
 abbrev pub value_of : Bor (List ℕ) → ℕ
 value_of digits = digits_value 10 digits.now
 
@@ -29,6 +30,7 @@ abbrev pub left_of : Option (Bor (List ℕ)) → Option (List ℕ)
 left_of None = None
 left_of (Some rest) = Some (lower rest.now)
 
+-- a phase and what is left, if a phase was found
 abbrev pub phase_left_of : Option (Phase × Bor (List ℕ)) → Option (Phase × List ℕ)
 phase_left_of None = None
 phase_left_of (Some p) = Some (p.0, lower p.1.now)
@@ -38,10 +40,12 @@ abbrev pub number_of : Option (Bor (List ℕ) × Bor (List ℕ)) → Option (ℕ
 number_of None = None
 number_of (Some p) = Some (value_of p.0, lower p.1.now)
 
+-- the number of a part, if the part is there
 abbrev pub optional_of : Option (Bor (List ℕ)) → Option ℕ
 optional_of None = None
 optional_of (Some digits) = Some (value_of digits)
 
+-- the phase and the number of a pre-release part, if it is there
 abbrev pub pre_of : Option (Phase × Bor (List ℕ)) → Option (Phase × ℕ)
 pre_of None = None
 pre_of (Some p) = Some (p.0, value_of p.1)
@@ -51,6 +55,7 @@ abbrev pub left_runs : Option (Bor (List ℕ)) → List (List ℕ)
 left_runs None = []
 left_runs (Some text) = separated_parts (lower text.now)
 
+-- the segments of a label whose text stands behind its `+`, if there is one
 abbrev pub label_of : Option (Bor (List ℕ)) → List Segment
 label_of label = map segment_of_run (left_runs label)
 

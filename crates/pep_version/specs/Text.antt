@@ -38,6 +38,7 @@ post_text post = part_text (codes ".post") post
 abbrev pub dev_text : Option ℕ → List ℕ
 dev_text dev = part_text (codes ".dev") dev
 
+-- a segment: its number in decimal, or its word
 abbrev pub segment_text : Segment → List ℕ
 segment_text (number n) = decimal n
 segment_text (word letters) = letters

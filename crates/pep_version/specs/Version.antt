@@ -28,11 +28,11 @@ abbrev pub is_empty : {A : Type 0} → List A → Bool
 is_empty [] = true
 is_empty (x ∷ xs) = false
 
--- a word of a label: letters in lower case and digits, with a letter among them ("Local version
--- segments")
+-- a byte of a word of a label: a letter in lower case or a digit ("Local version segments")
 abbrev pub is_word_byte : ℕ → Bool
 is_word_byte b = is_ascii_lowercase b || is_ascii_digit b
 
+-- a word of a label: such bytes, with a letter among them
 abbrev pub is_word : List ℕ → Bool
 is_word letters = list_all is_word_byte letters && list_any is_ascii_lowercase letters
 
@@ -45,6 +45,7 @@ IsSegment (word letters) = IsTrue (is_word letters)
 abbrev pub Fits : ℕ → Type 0
 Fits n = n < 2 ^ 64
 
+-- a number of a label fits; a word has no bound
 abbrev pub SegmentFits : Segment → Type 0
 SegmentFits (number n) = Fits n
 SegmentFits (word letters) = Unit {0}

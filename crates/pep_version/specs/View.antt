@@ -6,6 +6,7 @@ use Rattle.pep_version.specs.declared.parts.Label.{Label}
 use Rattle.pep_version.specs.declared.parts.Label.TheVariants as stored
 use Rattle.pep_version.specs.declared.parts.Phase.{Phase}
 
+-- the segment that is stored
 abbrev pub segment_of : Label → Segment
 segment_of (stored.Number n) = number n
 segment_of (stored.Word text) = word (string_bytes text)

@@ -28,15 +28,15 @@ ghost use Rattle.pep_version.specs.Order.{
   phase_rank,
   place_cmp,
   place_of,
-  release_version,
-  with_suffixes,
   pre_number_of,
   release_cmp,
+  release_version,
   segment_cmp,
   short_release,
   stage_of,
   suffix_cmp,
   version_cmp,
+  with_suffixes,
   without_end_zeros,
 };
 ghost use Rattle.pep_version.specs.Version.{IsVersion};
