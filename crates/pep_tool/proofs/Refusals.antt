@@ -8,7 +8,11 @@ use Rattle.std.proofs.lemmas.List.Elements.{All-head}
 use Rattle.pep_tool.specs.declared.fault.Fault.{Fault}
 use Rattle.pep_tool.specs.declared.input.Input.{Input}
 use Rattle.pep_tool.specs.declared.input.Kind.TheVariants as kind
+use Rattle.pep_version.specs.Spelling.{Reads}
+use Rattle.pep_version.specs.declared.fault.VersionFault.{VersionFault}
+use Rattle.pep_version.specs.declared.fault.VersionFault.TheVariants as version_fault
 use Rattle.pep_tool.specs.Device.{Device}
+use Rattle.pep_tool.specs.InnerFault.{fault_of_version}
 use Rattle.pep_tool.specs.FaultLine.{fault_line}
 use Rattle.pep_tool.specs.Gathered.{IsAccepted, AcceptsBytes}
 use Rattle.pep_tool.specs.Lists.{input_limit}
@@ -139,3 +143,12 @@ pub Refuses-from_plan : (words : List Text) (left after : Option (List ℕ)) (so
     Refuses words left after source output fault
 Refuses-from_plan words left after source output fault (inl memory) = by_memory memory
 Refuses-from_plan words left after source output fault (inr bad) = by_words bad.1 bad.0
+
+-- the fault of a version that can't be read
+pub refused_version : (argument : Text) (reason : VersionFault) → Reads argument (Err reason) →
+    (fault_of_version reason ≡ no_memory) ⊎ RefusesVersion argument (fault_of_version reason)
+refused_version argument version_fault.NoMemory h = inl refl
+refused_version argument version_fault.NotAVersion h =
+    inr (record { reason = version_fault.NotAVersion; reads = h; known = λ e. cc e; is = refl })
+refused_version argument version_fault.NumberTooLarge h =
+    inr (record { reason = version_fault.NumberTooLarge; reads = h; known = λ e. cc e; is = refl })

@@ -43,7 +43,7 @@ use crate::input::{Input, Kind};
 use crate::merge::merge_bytes;
 use crate::plan::{Plan, plan_of};
 use crate::write::write_text;
-use pep_version::{Version, VersionFault};
+use pep_version::Version;
 use std::alloc::Global;
 use std::rt::Files;
 
@@ -161,30 +161,10 @@ fn version_line(alloc: Global, argument: &str) -> Result<String, Fault>
     ensures refused { IfErr result (λ fault. (fault ≡ no_memory)
         ⊎ RefusesVersion argument.now fault) }
 {
-    let version = match Version::read(alloc, argument) {
-        Ok(version) => version,
-        Err(fault) => return Err(version_fault(fault)),
-    };
-    let Ok(mut line) = version.text(alloc) else {
-        return Err(Fault::no_memory());
-    };
+    let version = Version::read(alloc, argument)?;
+    let mut line = version.text(alloc)?;
     line.push_str("\n")?;
     Ok(line)
-}
-
-// A fault of a version on the command line.
-fn version_fault(fault: VersionFault) -> Fault
-    ensures memory { fault ≡ VersionFault.NoMemory → result ≡ no_memory }
-    ensures other { fault ≢ VersionFault.NoMemory
-        → result ≡ record { place = Place.Nowhere; cause = Cause.BadArgument fault } }
-{
-    if fault == VersionFault::NoMemory {
-        return Fault::no_memory();
-    }
-    Fault {
-        place: Place::Nowhere,
-        cause: Cause::BadArgument(fault),
-    }
 }
 
 // The text of the table of the input.
