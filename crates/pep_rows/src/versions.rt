@@ -214,7 +214,11 @@ fn refuses_parts(rt: HostRuntime) -> Result<(), Fail> {
 fn tells_faults(rt: HostRuntime) -> Result<(), Fail> {
     for (fault, code, text) in [
         (VersionFault::NotAVersion, 1, "not a version"),
-        (VersionFault::NumberTooLarge, 2, "a number of the version is too large"),
+        (
+            VersionFault::NumberTooLarge,
+            2,
+            "a number of the version is too large",
+        ),
         (VersionFault::NoMemory, 3, "out of memory"),
     ] {
         assert_eq!(rt; fault.code(), code);
@@ -226,8 +230,14 @@ fn tells_faults(rt: HostRuntime) -> Result<(), Fail> {
 
 #[test]
 fn splits_texts(rt: HostRuntime) {
-    assert_eq!(rt; first_part(b"1.20.3", b'.'), (b"1".as_slice(), Some(b"20.3".as_slice())));
-    assert_eq!(rt; first_part(b".", b'.'), (b"".as_slice(), Some(b"".as_slice())));
+    assert_eq!(rt;
+        first_part(b"1.20.3", b'.'),
+        (b"1".as_slice(), Some(b"20.3".as_slice()))
+    );
+    assert_eq!(rt;
+        first_part(b".", b'.'),
+        (b"".as_slice(), Some(b"".as_slice()))
+    );
     assert_eq!(rt; first_part(b"1.0", b','), (b"1.0".as_slice(), None));
     for byte in 0..=255_u8 {
         assert_eq!(rt; is_separator(byte), b"-_.".contains(&byte), "at {byte}");
