@@ -19,9 +19,10 @@ use Rattle.pep_version.proofs.Connectives.{and_first, and_second}
 use Rattle.pep_version.proofs.SplitLemmas.{split-at, split-whole}
 use Rattle.pep_version.proofs.Readers.{behind-append, front-append}
 
-pub is_empty_lower : (xs : List ℕ) → is_empty (lower xs) ≡ (length xs == 0)
-is_empty_lower [] = refl
-is_empty_lower (x ∷ xs) = grind arith
+-- a text has no byte where it has none in lower case
+pub no_byte : (xs : List ℕ) → is_empty (lower xs) ≡ (length xs == 0)
+no_byte [] = refl
+no_byte (x ∷ xs) = grind arith
 
 digit-lower : (b : ℕ) → is_ascii_digit b ≡ true → to_ascii_lowercase b ≡ b
 digit-lower b h = grind (arith, nat_tests)

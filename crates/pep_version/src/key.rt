@@ -355,7 +355,8 @@ fn hash_segment<H: Hasher>(segment: &Label, state: &mut H)
 }
 
 fn hash_label<H: Hasher>(label: &[Label], state: &mut H)
-    ensures { state.new ≡ fold H.write state.old (fed.slice feed_segment (map segment_of label.now)) }
+    ensures { state.new
+        ≡ fold H.write state.old (fed.slice feed_segment (map segment_of label.now)) }
 {
     state.write_usize(label.len());
     for segment in label {

@@ -292,7 +292,7 @@ fn has_run_bytes(run: &[u8]) -> bool
 }
 
 // Whether the text is one or more letters and digits.
-#[tactic(auto, using(crate::proofs::SliceLemmas::is_empty_lower, crate::proofs::SliceLemmas::run_bytes))]
+#[tactic(auto, using(crate::proofs::SliceLemmas::no_byte, crate::proofs::SliceLemmas::run_bytes))]
 fn is_run(run: &[u8]) -> bool
     ensures { result ≡ is_run (lower run.now) }
 {
