@@ -21,3 +21,5 @@ mod sets;
 mod streams;
 #[cfg(test)]
 mod vectors;
+#[cfg(test)]
+mod versions;

@@ -1,8 +1,7 @@
 -- The line that tells a fault.
 use Rattle.std.specs.Prelude.{ℕ, codes, decimal, List, [], ◌∷◌, ◌++◌, map, string_bytes}
 use Rattle.std.specs.List.{concat}
-use Rattle.pep_version.specs.declared.fault.VersionFault.{VersionFault}
-use Rattle.pep_version.specs.declared.fault.VersionFault.TheVariants as version
+use Rattle.pep_version.specs.Code.{version_code}
 use Rattle.pep_clause.specs.Code.{clause_code}
 use Rattle.pep_marker.specs.declared.fault.MarkerFault.{MarkerFault}
 use Rattle.pep_marker.specs.declared.fault.MarkerFault.TheVariants as marker
@@ -17,11 +16,6 @@ use Rattle.pep_tool.specs.declared.fault.Place.{Place}
 use Rattle.pep_tool.specs.declared.fault.Place.TheVariants as place
 
 -- ---- the codes, from the outermost to the innermost
-
-abbrev pub version_code : VersionFault → ℕ
-version_code version.NotAVersion = 1
-version_code version.NumberTooLarge = 2
-version_code version.NoMemory = 3
 
 abbrev pub marker_code : MarkerFault → ℕ
 marker_code marker.BadName = 21

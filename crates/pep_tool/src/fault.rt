@@ -1,7 +1,8 @@
 //! Faults of inputs and of the program, and the line that tells one.
 
 ghost use Rattle.std.specs.Prelude.{◌≡◌, ◌++◌, ◌∷◌, codes, decimal, string_bytes, OnOk, option_to_list};
-ghost use Rattle.pep_tool.specs.FaultLine.{version_code, marker_code, require_codes, line_codes, cause_codes, codes_text, place_text, line_text, words_text};
+ghost use Rattle.pep_version.specs.Code.{version_code};
+ghost use Rattle.pep_tool.specs.FaultLine.{marker_code, require_codes, line_codes, cause_codes, codes_text, place_text, line_text, words_text};
 
 use itoa::Buffer;
 use pep_marker::MarkerFault;

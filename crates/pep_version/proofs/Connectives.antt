@@ -1,8 +1,10 @@
--- Facts on tests that are joined by `&&`, `||` and `not`, for all crates. What std has of them is handed on from
--- there.
+-- Facts on tests that are joined by `&&`, `||` and `not`, for all crates. What std has of them is
+-- handed on from there.
 use Rattle.std.proofs.Common.{◌≡◌, ◌&&◌, ◌||◌, not, Bool, true, false, refl, sym}
-pub use Rattle.std.proofs.lemmas.Bool.{and_from, and_left, and_parts, and_right, cases_Bool, not-true, or_from, or_left, or_parts, or_right}
-pub use Rattle.std.proofs.Math.Bool.{and-false, and-or_distrib_left, and-or_distrib_right, and-true, not-not, or-false, or-true, or_assoc}
+pub use Rattle.std.proofs.lemmas.Bool.{and_from, and_left, and_parts, and_right, cases_Bool}
+pub use Rattle.std.proofs.lemmas.Bool.{not-true, or_from, or_left, or_parts, or_right}
+pub use Rattle.std.proofs.Math.Bool.{and-false, and-or_distrib_left, and-or_distrib_right, and-true}
+pub use Rattle.std.proofs.Math.Bool.{not-not, or-false, or-true, or_assoc}
 
 -- both tests of a conjunction pass where it does
 pub and_first : (p q : Bool) → (p && q) ≡ true → p ≡ true

@@ -16,16 +16,19 @@ abbrev pub feed_segment : Segment → HashWrites
 feed_segment (number n) = fed.u8 0 ++ fed.u64 n
 feed_segment (word letters) = fed.u8 1 ++ fed.str letters
 
--- the parts, the release without the zeros at its end
-abbrev pub feed_version : Version → HashWrites
-feed_version v =
-    fed.u64 v.epoch ++ fed.slice fed.u64 (without_end_zeros v.release) ++ feed_pre v.pre ++ fed.option fed.u64 v.post ++ fed.option fed.u64 v.dev
-    ++ fed.slice feed_segment v.label
+-- what a key feeds: its parts, the release without the zeros at its end. Another crate cites this
+-- name and `key_feed-alike` alone, so that keys may come to feed otherwise
+unfoldable pub key_feed : Version → HashWrites
+key_feed v =
+    fed.u64 v.epoch ++ fed.slice fed.u64 (without_end_zeros v.release) ++ feed_pre v.pre
+    ++ fed.option fed.u64 v.post ++ fed.option fed.u64 v.dev ++ fed.slice feed_segment v.label
 
 -- versions that are the same in order feed the same
-pub feed_version-alike : Alike (eq_by_cmp version_cmp) feed_version
-feed_version-alike = record {
+pub key_feed-alike : Alike (eq_by_cmp version_cmp) key_feed
+unfolding key_feed
+key_feed-alike = record {
   fed = λ v w h. let e = same-parts v w ((is_same-true v w).0 h) in
-      λ i. fed.u64 (e.epoch i) ++ fed.slice fed.u64 (e.release i) ++ feed_pre (e.pre i) ++ fed.option fed.u64 (e.post i) ++ fed.option fed.u64 (e.dev i)
+      λ i. fed.u64 (e.epoch i) ++ fed.slice fed.u64 (e.release i) ++ feed_pre (e.pre i)
+      ++ fed.option fed.u64 (e.post i) ++ fed.option fed.u64 (e.dev i)
       ++ fed.slice feed_segment (e.label i);
 }

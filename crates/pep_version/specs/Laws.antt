@@ -1,17 +1,20 @@
--- Laws of the order of versions: it is total, and `place_of` gives one representative of each class of
--- versions that are the same in order.
-use Rattle.std.proofs.Common.{◌≡◌, ◌<◌, ℕ, zero, suc, ◌==◌, ◌&&◌, List, [], ◌∷◌, length, drop, slice_index, true, Option, Some, None, refl, sym, ap, subst, ◌∙◌, false, ◌↔◌, arith}
-use Rattle.std.specs.Cmp.{IsTotalOrder, nat_cmp_is, nat_cmp_total, on_total, then_total, tied_itself}
+-- The order of versions is total, and versions that are the same in order have the same parts, the
+-- zeros at the ends of their releases apart. Ghost members cite both.
+use Rattle.std.proofs.Common.{◌≡◌, ℕ, zero, suc, ◌==◌, ◌&&◌, List, [], ◌∷◌, true, Option, Some}
+use Rattle.std.proofs.Common.{None, refl, sym, ap, subst, ◌∙◌, false, ◌↔◌, arith}
+use Rattle.std.specs.Cmp.{IsTotalOrder, nat_cmp_is, nat_cmp_total, on_total, then_total}
 use Rattle.std.specs.Cmp.Lexicographic.{lists_total, nat_list_cmp_total, options_total, slice_cmp}
 use Rattle.std.specs.FinMap.{IsAntisymmetric, nat_cmp-IsAntisymmetric, slice_cmp-IsAntisymmetric}
 use Rattle.std.specs.Option.{option_cmp}
-use Rattle.std.specs.Ordering.{is_eq, is_lt, nat_cmp, on, ordering_then, then_cmp}
+use Rattle.std.specs.Ordering.{is_eq, nat_cmp, on, ordering_then, then_cmp}
 use Rattle.std.specs.Prelude.{if◌then◌else◌}
 use Rattle.std.specs.declared.cmp.Ordering.{Ordering}
 use Rattle.std.specs.declared.cmp.Ordering.TheVariants.{Less, Equal, Greater}
 use Rattle.pep_version.specs.declared.parts.Phase.{Phase}
 use Rattle.pep_version.specs.declared.parts.Phase.TheVariants.{Alpha, Beta, Rc}
-use Rattle.pep_version.specs.Order.{Below, Same, is_below, is_same, dev_cmp, phase_rank, place_cmp, place_of, pre_number, pre_number_of, release_cmp, segment_cmp, short_release, stage, stage_of, suffix_cmp, version_cmp, without_end_zeros}
+use Rattle.pep_version.specs.Order.{Same, is_same, dev_cmp, phase_rank, place_cmp, pre_number}
+use Rattle.pep_version.specs.Order.{pre_number_of, release_cmp, segment_cmp, stage, stage_of}
+use Rattle.pep_version.specs.Order.{suffix_cmp, version_cmp, without_end_zeros}
 use Rattle.pep_version.specs.Version.{Segment, number, Version, is_empty, word}
 
 -- what a chain of two comparisons that ties says of each
@@ -30,15 +33,7 @@ then_equal Less = refl
 then_equal Equal = refl
 then_equal Greater = refl
 
--- the tests of the order and what they say
-pub is_below-true : (v w : Version) → is_below v w ≡ true ↔ Below v w
-is_below-true v w = (told (version_cmp v w), λ e. ap is_lt e)
-  where
-    told : (r : Ordering) → is_lt r ≡ true → r ≡ Less
-    told Less e = refl
-    told Equal e = cc e
-    told Greater e = cc e
-
+-- the test whether versions are the same in order
 pub is_same-true : (v w : Version) → is_same v w ≡ true ↔ Same v w
 is_same-true v w = (told (version_cmp v w), λ e. ap is_eq e)
   where
@@ -47,14 +42,9 @@ is_same-true v w = (told (version_cmp v w), λ e. ap is_eq e)
     told Equal e = refl
     told Greater e = cc e
 
--- `is_empty` as code tests it
-pub is_empty-length : {A : Type 0} (xs : List A) → is_empty xs ≡ (length xs == 0)
-is_empty-length [] = refl
-is_empty-length (x ∷ xs) = grind arith
-
 -- ---- releases
 
-positive : (n : ℕ) → (suc n == 0) ≡ false
+pub positive : (n : ℕ) → (suc n == 0) ≡ false
 positive n = grind arith
 
 zero_below : (n : ℕ) → nat_cmp 0 (suc n) ≡ Less
@@ -64,20 +54,24 @@ above_zero : (n : ℕ) → nat_cmp (suc n) 0 ≡ Greater
 above_zero n = sym (nat_cmp_is (suc n) 0 Greater (omega arith))
 
 -- a number in front of a list without zeros at its end
-abbrev with_first : ℕ → List ℕ → List ℕ
+abbrev pub with_first : ℕ → List ℕ → List ℕ
 with_first n rest = if (n == 0) && is_empty rest then [] else n ∷ rest
 
-first_below : (n : ℕ) (rest : List ℕ) → ordering_then (nat_cmp 0 n) (slice_cmp nat_cmp [] rest) ≡ slice_cmp nat_cmp [] (with_first n rest)
+first_below : (n : ℕ) (rest : List ℕ) → ordering_then (nat_cmp 0 n) (slice_cmp nat_cmp [] rest)
+    ≡ slice_cmp nat_cmp [] (with_first n rest)
 first_below zero [] = refl
 first_below zero (x ∷ xs) = refl
 first_below (suc n) rest = rw (zero_below n, positive n) refl
 
-first_above : (n : ℕ) (rest : List ℕ) → ordering_then (nat_cmp n 0) (slice_cmp nat_cmp rest []) ≡ slice_cmp nat_cmp (with_first n rest) []
+first_above : (n : ℕ) (rest : List ℕ) → ordering_then (nat_cmp n 0) (slice_cmp nat_cmp rest [])
+    ≡ slice_cmp nat_cmp (with_first n rest) []
 first_above zero [] = refl
 first_above zero (x ∷ xs) = refl
 first_above (suc n) rest = rw (above_zero n, positive n) refl
 
-first_both : (m n : ℕ) (rest more : List ℕ) → ordering_then (nat_cmp m n) (slice_cmp nat_cmp rest more) ≡ slice_cmp nat_cmp (with_first m rest) (with_first n more)
+first_both : (m n : ℕ) (rest more : List ℕ) →
+    ordering_then (nat_cmp m n) (slice_cmp nat_cmp rest more)
+    ≡ slice_cmp nat_cmp (with_first m rest) (with_first n more)
 first_both zero n [] more = first_below n more
 first_both zero zero (x ∷ xs) [] = refl
 first_both zero zero (x ∷ xs) (y ∷ ys) = refl
@@ -87,23 +81,23 @@ first_both (suc m) zero rest (y ∷ ys) = rw (above_zero m, positive m, above_ze
 first_both (suc m) (suc n) rest more = rw (positive m, positive n) refl
 
 -- releases compare as lists, once the zeros at their ends are gone
-pub release_cmp-lists : (xs ys : List ℕ) → release_cmp xs ys ≡ slice_cmp nat_cmp (without_end_zeros xs) (without_end_zeros ys)
+pub release_cmp-lists : (xs ys : List ℕ) → release_cmp xs ys
+    ≡ slice_cmp nat_cmp (without_end_zeros xs) (without_end_zeros ys)
 release_cmp-lists [] [] = refl
-release_cmp-lists [] (n ∷ more) = ap (ordering_then (nat_cmp 0 n)) (release_cmp-lists [] more) ∙ first_below n (without_end_zeros more)
-release_cmp-lists (m ∷ rest) [] = ap (ordering_then (nat_cmp m 0)) (release_cmp-lists rest []) ∙ first_above m (without_end_zeros rest)
+release_cmp-lists [] (n ∷ more) =
+    ap (ordering_then (nat_cmp 0 n)) (release_cmp-lists [] more)
+    ∙ first_below n (without_end_zeros more)
+release_cmp-lists (m ∷ rest) [] =
+    ap (ordering_then (nat_cmp m 0)) (release_cmp-lists rest [])
+    ∙ first_above m (without_end_zeros rest)
 release_cmp-lists (m ∷ rest) (n ∷ more) =
-    ap (ordering_then (nat_cmp m n)) (release_cmp-lists rest more) ∙ first_both m n (without_end_zeros rest) (without_end_zeros more)
-
--- one step of a comparison, where a missing number is 0
-pub release_cmp-step : (xs ys : List ℕ)
-    → release_cmp xs ys ≡ ordering_then (nat_cmp (slice_index xs 0) (slice_index ys 0)) (release_cmp (drop 1 xs) (drop 1 ys))
-release_cmp-step [] [] = refl
-release_cmp-step [] (n ∷ more) = refl
-release_cmp-step (m ∷ rest) [] = refl
-release_cmp-step (m ∷ rest) (n ∷ more) = refl
+    ap (ordering_then (nat_cmp m n)) (release_cmp-lists rest more)
+    ∙ first_both m n (without_end_zeros rest) (without_end_zeros more)
 
 pub release_total : IsTotalOrder release_cmp
-release_total = subst IsTotalOrder (λ i xs ys. sym (release_cmp-lists xs ys) i) (on_total without_end_zeros nat_list_cmp_total)
+release_total =
+    subst IsTotalOrder (λ i xs ys. sym (release_cmp-lists xs ys) i)
+    (on_total without_end_zeros nat_list_cmp_total)
 
 -- ---- the other parts
 
@@ -115,7 +109,8 @@ dev_number : Option ℕ → ℕ
 dev_number None = 0
 dev_number (Some n) = n
 
-dev_cmp-chain : (x y : Option ℕ) → then_cmp (on dev_rank nat_cmp) (on dev_number nat_cmp) x y ≡ dev_cmp x y
+dev_cmp-chain : (x y : Option ℕ) → then_cmp (on dev_rank nat_cmp) (on dev_number nat_cmp) x y
+    ≡ dev_cmp x y
 unfolding dev_rank dev_number
 dev_cmp-chain None None = refl
 dev_cmp-chain None (Some n) = refl
@@ -123,7 +118,8 @@ dev_cmp-chain (Some m) None = refl
 dev_cmp-chain (Some m) (Some n) = refl
 
 pub dev_total : IsTotalOrder dev_cmp
-dev_total = subst IsTotalOrder (λ i x y. dev_cmp-chain x y i) (then_total (on_total dev_rank nat_cmp_total) (on_total dev_number nat_cmp_total))
+dev_total = subst IsTotalOrder (λ i x y. dev_cmp-chain x y i)
+    (then_total (on_total dev_rank nat_cmp_total) (on_total dev_number nat_cmp_total))
 
 segment_rank : Segment → ℕ
 segment_rank (word letters) = 0
@@ -137,7 +133,9 @@ segment_number : Segment → ℕ
 segment_number (word letters) = 0
 segment_number (number n) = n
 
-segment_cmp-chain : (x y : Segment) → then_cmp (on segment_rank nat_cmp) (then_cmp (on segment_letters (slice_cmp nat_cmp)) (on segment_number nat_cmp)) x y ≡ segment_cmp x y
+segment_cmp-chain : (x y : Segment) → then_cmp (on segment_rank nat_cmp)
+    (then_cmp (on segment_letters (slice_cmp nat_cmp)) (on segment_number nat_cmp)) x y
+    ≡ segment_cmp x y
 unfolding segment_rank segment_letters segment_number
 segment_cmp-chain (word a) (word b) = then_equal (slice_cmp nat_cmp a b)
 segment_cmp-chain (word a) (number n) = refl
@@ -146,15 +144,21 @@ segment_cmp-chain (number m) (number n) = refl
 
 pub segment_total : IsTotalOrder segment_cmp
 segment_total = subst IsTotalOrder (λ i x y. segment_cmp-chain x y i)
-    (then_total (on_total segment_rank nat_cmp_total) (then_total (on_total segment_letters nat_list_cmp_total) (on_total segment_number nat_cmp_total)))
+    (then_total (on_total segment_rank nat_cmp_total)
+    (then_total (on_total segment_letters nat_list_cmp_total)
+    (on_total segment_number nat_cmp_total)))
 
 pub place_total : IsTotalOrder place_cmp
-place_total = then_total (on_total (λ (v : Version). v.epoch) nat_cmp_total) (on_total (λ (v : Version). v.release) release_total)
+place_total =
+    then_total (on_total (λ (v : Version). v.epoch) nat_cmp_total)
+    (on_total (λ (v : Version). v.release) release_total)
 
 pub suffix_total : IsTotalOrder suffix_cmp
-suffix_total = then_total (then_total (on_total stage nat_cmp_total) (on_total pre_number nat_cmp_total))
+suffix_total =
+    then_total (then_total (on_total stage nat_cmp_total) (on_total pre_number nat_cmp_total))
     (then_total (on_total (λ (v : Version). v.post) (options_total nat_cmp_total))
-    (then_total (on_total (λ (v : Version). v.dev) dev_total) (on_total (λ (v : Version). v.label) (lists_total segment_total))))
+    (then_total (on_total (λ (v : Version). v.dev) dev_total)
+    (on_total (λ (v : Version). v.label) (lists_total segment_total))))
 
 -- the order of versions is total
 pub version_total : IsTotalOrder version_cmp
@@ -184,7 +188,8 @@ phase_is_no_stage Rc None None e = cc e
 phase_is_no_stage Rc None (Some n) e = cc e
 phase_is_no_stage Rc (Some n) dev e = cc e
 
-pre_from_stage : (p q : Option (Phase × ℕ)) (post dev : Option ℕ) → stage_of p post dev ≡ stage_of q post dev → pre_number_of p ≡ pre_number_of q → p ≡ q
+pre_from_stage : (p q : Option (Phase × ℕ)) (post dev : Option ℕ) →
+    stage_of p post dev ≡ stage_of q post dev → pre_number_of p ≡ pre_number_of q → p ≡ q
 pre_from_stage None None post dev e n = refl
 pre_from_stage None (Some q) post dev e n = absurd (phase_is_no_stage q.0 post dev (sym e))
 pre_from_stage (Some p) None post dev e n = absurd (phase_is_no_stage p.0 post dev e)
@@ -203,32 +208,14 @@ dev_cmp-anti (Some m) None e = cc e
 dev_cmp-anti (Some m) (Some n) e = ap Some (nat_cmp-IsAntisymmetric m n e)
 
 pub segment_cmp-anti : IsAntisymmetric segment_cmp
-segment_cmp-anti (word a) (word b) e = ap word (slice_cmp-IsAntisymmetric nat_cmp-IsAntisymmetric a b e)
+segment_cmp-anti (word a) (word b) e =
+    ap word (slice_cmp-IsAntisymmetric nat_cmp-IsAntisymmetric a b e)
 segment_cmp-anti (word a) (number n) e = cc e
 segment_cmp-anti (number m) (word b) e = cc e
 segment_cmp-anti (number m) (number n) e = ap number (nat_cmp-IsAntisymmetric m n e)
 
--- a number in front, told from the list without the zeros at its end
-first_told : (m n : ℕ) (rest more : List ℕ) → with_first m rest ≡ with_first n more → ◌≡◌ {A = List ℕ} (m ∷ rest) (n ∷ more)
-first_told zero zero [] [] e = refl
-first_told zero zero [] (y ∷ ys) e = cc e
-first_told zero zero (x ∷ xs) [] e = cc e
-first_told zero zero (x ∷ xs) (y ∷ ys) e = e
-first_told zero (suc n) [] more e = cc (rw (positive n) at e)
-first_told zero (suc n) (x ∷ xs) more e = rw (positive n) at e
-first_told (suc m) zero rest [] e = cc (rw (positive m) at e)
-first_told (suc m) zero rest (y ∷ ys) e = rw (positive m) at e
-first_told (suc m) (suc n) rest more e = rw (positive m, positive n) at e
-
--- releases that tie have one short form
-pub short_release-tied : (xs ys : List ℕ) → 0 < length xs → 0 < length ys → release_cmp xs ys ≡ Equal → short_release xs ≡ short_release ys
-short_release-tied [] ys h g e = absurd (omega arith)
-short_release-tied (m ∷ rest) [] h g e = absurd (omega arith)
-short_release-tied (m ∷ rest) (n ∷ more) h g e =
-    first_told m n (without_end_zeros rest) (without_end_zeros more)
-    (slice_cmp-IsAntisymmetric nat_cmp-IsAntisymmetric _ _ (sym (release_cmp-lists (m ∷ rest) (n ∷ more)) ∙ e))
-
--- what versions that are the same in order have alike: all but the zeros at the ends of their releases
+-- what versions that are the same in order have alike: all but the zeros at the ends of their
+-- releases
 pub record SameParts (v w : Version) : Type 0 where
   pub epoch : v.epoch ≡ w.epoch
   pub release : without_end_zeros v.release ≡ without_end_zeros w.release
@@ -242,51 +229,26 @@ same-parts v w same =
     let place = then_first (place_cmp v w) (suffix_cmp v w) same in
     let suffix = then_second (place_cmp v w) (suffix_cmp v w) same in
     let epoch : v.epoch ≡ w.epoch = nat_cmp-IsAntisymmetric _ _ (then_first _ _ place) in
-    let release = slice_cmp-IsAntisymmetric nat_cmp-IsAntisymmetric _ _ (sym (release_cmp-lists v.release w.release) ∙ then_second _ _ place) in
+    let release =
+    slice_cmp-IsAntisymmetric nat_cmp-IsAntisymmetric _ _
+    (sym (release_cmp-lists v.release w.release) ∙ then_second _ _ place) in
     let stages = then_first _ _ suffix in
     let others = then_second _ _ suffix in
     let stage_is : stage v ≡ stage w = nat_cmp-IsAntisymmetric _ _ (then_first _ _ stages) in
-    let number_is : pre_number v ≡ pre_number w = nat_cmp-IsAntisymmetric _ _ (then_second _ _ stages) in
+    let number_is : pre_number v ≡ pre_number w =
+    nat_cmp-IsAntisymmetric _ _ (then_second _ _ stages) in
     let post : v.post ≡ w.post = option_cmp-anti _ _ (then_first _ _ others) in
     let last = then_second _ _ others in
     let dev : v.dev ≡ w.dev = dev_cmp-anti _ _ (then_first _ _ last) in
-    let label : v.label ≡ w.label = slice_cmp-IsAntisymmetric segment_cmp-anti _ _ (then_second _ _ last) in
-    let stage_at : stage_of v.pre w.post w.dev ≡ stage_of w.pre w.post w.dev = (λ i. stage_of v.pre (sym post i) (sym dev i)) ∙ stage_is in
-    record { epoch = epoch; release = release; pre = pre_from_stage v.pre w.pre w.post w.dev stage_at number_is; post = post; dev = dev; label = label }
-
--- versions that are the same in order have one place
-pub place_of-same : (v w : Version) → 0 < length v.release → 0 < length w.release → Same v w → place_of v ≡ place_of w
-place_of-same v w some_v some_w same =
-    let e = same-parts v w same in
-    let release = short_release-tied v.release w.release some_v some_w (then_second _ _ (then_first (place_cmp v w) (suffix_cmp v w) same)) in
-    λ i. record { epoch = e.epoch i; release = release i; pre = e.pre i; post = e.post i; dev = e.dev i; label = e.label i }
-
--- taking the zeros away twice is as taking them away once
-pub without_end_zeros-twice : (xs : List ℕ) → without_end_zeros (without_end_zeros xs) ≡ without_end_zeros xs
-without_end_zeros-twice [] = refl
-without_end_zeros-twice (n ∷ rest) = step n (without_end_zeros rest) (without_end_zeros-twice rest)
-  where
-    step : (n : ℕ) (ys : List ℕ) → without_end_zeros ys ≡ ys → without_end_zeros (with_first n ys) ≡ with_first n ys
-    step zero [] e = refl
-    step zero (y ∷ ys) e = ap (with_first 0) e
-    step (suc n) ys e = rw (positive n, positive n) (ap (λ (l : List ℕ). suc n ∷ l) e)
-
-pub without_end_zeros-short : (xs : List ℕ) → without_end_zeros (short_release xs) ≡ without_end_zeros xs
-without_end_zeros-short [] = refl
-without_end_zeros-short (n ∷ rest) = ap (with_first n) (without_end_zeros-twice rest)
-
--- the order looks at places alone
-pub version_cmp-place_of : (v w : Version) → version_cmp (place_of v) (place_of w) ≡ version_cmp v w
-version_cmp-place_of v w =
-    let releases : release_cmp (short_release v.release) (short_release w.release) ≡ release_cmp v.release w.release =
-    release_cmp-lists (short_release v.release) (short_release w.release)
-    ∙ (λ i. slice_cmp nat_cmp (without_end_zeros-short v.release i) (without_end_zeros-short w.release i))
-    ∙ sym (release_cmp-lists v.release w.release) in
-    λ i. ordering_then (ordering_then (nat_cmp v.epoch w.epoch) (releases i)) (suffix_cmp v w)
-
--- two versions are the same in order exactly if they have one place
-pub Same-place_of : (v w : Version) → 0 < length v.release → 0 < length w.release → Same v w ↔ (place_of v ≡ place_of w)
-Same-place_of v w some_v some_w = (
-  place_of-same v w some_v some_w,
-  λ e. sym (version_cmp-place_of v w) ∙ ap (version_cmp (place_of v)) (sym e) ∙ tied_itself version_total (place_of v),
-)
+    let label : v.label ≡ w.label =
+    slice_cmp-IsAntisymmetric segment_cmp-anti _ _ (then_second _ _ last) in
+    let stage_at : stage_of v.pre w.post w.dev ≡ stage_of w.pre w.post w.dev =
+    (λ i. stage_of v.pre (sym post i) (sym dev i)) ∙ stage_is in
+    record {
+      epoch = epoch;
+      release = release;
+      pre = pre_from_stage v.pre w.pre w.post w.dev stage_at number_is;
+      post = post;
+      dev = dev;
+      label = label;
+    }

@@ -3,7 +3,8 @@ use Rattle.std.specs.Prelude.{◌≡◌, ℕ, List, Result, Ok, Err, Vec, ⊤}
 use Rattle.std.specs.List.{AllByRecursion}
 use Rattle.std.specs.declared.alloc.Global.{Global}
 use Rattle.pep_version.specs.declared.fault.VersionFault.{VersionFault}
-use Rattle.pep_version.specs.declared.fault.VersionFault.TheVariants.{NotAVersion, NumberTooLarge, NoMemory}
+use Rattle.pep_version.specs.declared.fault.VersionFault.TheVariants.{NotAVersion, NumberTooLarge}
+use Rattle.pep_version.specs.declared.fault.VersionFault.TheVariants.{NoMemory}
 use Rattle.pep_version.specs.Version.{Fits}
 
 -- the answer is these numbers; or one of them is too large

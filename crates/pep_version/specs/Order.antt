@@ -1,5 +1,6 @@
 -- The order of versions ("Summary of permitted suffixes and relative ordering").
-use Rattle.std.specs.Prelude.{◌≡◌, ℕ, ◌==◌, ◌&&◌, Bool, List, [], ◌∷◌, Option, Some, None, if◌then◌else◌}
+use Rattle.std.specs.Prelude.{◌≡◌, ℕ, ◌==◌, ◌&&◌, Bool, List, [], ◌∷◌, Option, Some, None}
+use Rattle.std.specs.Prelude.{if◌then◌else◌}
 use Rattle.std.specs.Cmp.Lexicographic.{slice_cmp}
 use Rattle.std.specs.Option.{option_cmp}
 use Rattle.std.specs.Ordering.{is_eq, is_lt, nat_cmp, on, ordering_then, then_cmp}
@@ -22,8 +23,8 @@ phase_rank Alpha = 1
 phase_rank Beta = 2
 phase_rank Rc = 3
 
--- where the version stands within its release: first a developmental release of the release itself, then
--- the pre-releases by phase, then the release and its post-releases
+-- where the version stands within its release: first a developmental release of the release itself,
+-- then the pre-releases by phase, then the release and its post-releases
 abbrev pub stage_of : Option (Phase × ℕ) → Option ℕ → Option ℕ → ℕ
 stage_of (Some p) post dev = phase_rank p.0
 stage_of None None (Some n) = 0
@@ -41,7 +42,8 @@ pre_number_of (Some p) = p.1
 abbrev pub pre_number : Version → ℕ
 pre_number v = pre_number_of v.pre
 
--- a version without a developmental release part comes after those with one ("Developmental releases")
+-- a version without a developmental release part comes after those with one ("Developmental
+-- releases")
 abbrev pub dev_cmp : Option ℕ → Option ℕ → Ordering
 dev_cmp None None = Equal
 dev_cmp None (Some n) = Greater
@@ -59,14 +61,15 @@ segment_cmp (number m) (number n) = nat_cmp m n
 abbrev pub place_cmp : Version → Version → Ordering
 place_cmp = then_cmp (on (λ v. v.epoch) nat_cmp) (on (λ v. v.release) release_cmp)
 
--- the order within one release. No post-release part is below any; of labels the shorter is below where it
--- begins the longer, so no label is below any
+-- the order within one release. No post-release part is below any; of labels the shorter is below
+-- where it begins the longer, so no label is below any
 abbrev pub suffix_cmp : Version → Version → Ordering
-suffix_cmp = then_cmp (then_cmp (on stage nat_cmp) (on pre_number nat_cmp)) (then_cmp (on (λ v. v.post) (option_cmp nat_cmp))
+suffix_cmp = then_cmp (then_cmp (on stage nat_cmp) (on pre_number nat_cmp))
+    (then_cmp (on (λ v. v.post) (option_cmp nat_cmp))
     (then_cmp (on (λ v. v.dev) dev_cmp) (on (λ v. v.label) (slice_cmp segment_cmp))))
 
--- the order of versions: the first of epoch, release, stage with number, post-release, developmental
--- release and label in which the two differ
+-- the order of versions: the first of epoch, release, stage with number, post-release,
+-- developmental release and label in which the two differ
 abbrev pub version_cmp : Version → Version → Ordering
 version_cmp = then_cmp place_cmp suffix_cmp
 
@@ -99,10 +102,27 @@ without_post v = record v { post = None }
 abbrev pub without_pre : Version → Version
 without_pre v = record v { pre = None }
 
+-- the version with these pre-, post- and developmental release parts in place of its own
+abbrev pub with_suffixes : Version → Option (Phase × ℕ) → Option ℕ → Option ℕ → Version
+with_suffixes v pre post dev = record v { pre = pre; post = post; dev = dev }
+
+-- a final release, or its developmental release of this number ("Final releases",
+-- "Developmental releases")
+abbrev pub release_version : ℕ → List ℕ → Option ℕ → Version
+release_version epoch release dev = record {
+  epoch = epoch;
+  release = release;
+  pre = None;
+  post = None;
+  dev = dev;
+  label = [];
+}
+
 -- a list without the zeros at its end
 abbrev pub without_end_zeros : List ℕ → List ℕ
 without_end_zeros [] = []
-without_end_zeros (n ∷ rest) = if (n == 0) && is_empty (without_end_zeros rest) then [] else n ∷ without_end_zeros rest
+without_end_zeros (n ∷ rest) =
+    if (n == 0) && is_empty (without_end_zeros rest) then [] else n ∷ without_end_zeros rest
 
 -- a release without the zeros at its end, except that its first number stays
 abbrev pub short_release : List ℕ → List ℕ

@@ -1,12 +1,15 @@
--- How a text is read as a version: from its front, greedily, part by part. This is the code's way: what a text
--- spells is said in `Spelling` without it, and the two are proved to agree. The text is in lower case here.
-use Rattle.std.specs.Prelude.{ℕ, ◌==◌, ◌&&◌, ◌||◌, Bool, false, true, List, [], ◌∷◌, Option, Some, None, codes, if◌then◌else◌, map}
+-- How a text is read as a version: from its front, greedily, part by part. This is the code's way:
+-- what a text spells is said in `Spelling` without it, and the two are proved to agree. The text is
+-- in lower case here.
+use Rattle.std.specs.Prelude.{ℕ, ◌==◌, ◌&&◌, ◌||◌, Bool, false, true, List, [], ◌∷◌, Option, Some}
+use Rattle.std.specs.Prelude.{None, codes, if◌then◌else◌, map}
 use Rattle.std.specs.Char.{is_ascii_digit}
 use Rattle.std.specs.List.{list_all}
 use Rattle.std.specs.Str.Parse.{digits_value}
 use Rattle.pep_version.specs.declared.parts.Phase.{Phase}
 use Rattle.pep_version.specs.declared.parts.Phase.TheVariants.{Alpha, Beta, Rc}
-use Rattle.pep_version.specs.Spelling.{dev_words, dotted_parts, is_run, post_words, segment_of_run, separated_parts}
+use Rattle.pep_version.specs.Spelling.{dev_words, dotted_parts, is_run, post_words, segment_of_run}
+use Rattle.pep_version.specs.Spelling.{separated_parts}
 use Rattle.pep_version.specs.Bytes.{is_separator}
 use Rattle.pep_version.specs.Version.{Segment, Version}
 
@@ -51,7 +54,8 @@ behind_word (word ∷ words) text = or_else (stripped word text) (behind_word wo
 -- the number behind a word and an optional separator, and what is behind the number
 abbrev pub number_behind : Option (List ℕ) → Option (ℕ × List ℕ)
 number_behind None = None
-number_behind (Some text) = Some (digits_value 10 (front (without_separator text)), behind (without_separator text))
+number_behind (Some text) =
+    Some (digits_value 10 (front (without_separator text)), behind (without_separator text))
 
 -- an optional separator, one of the words, an optional separator and a number
 abbrev pub read_word_and_number : List (List ℕ) → List ℕ → Option (ℕ × List ℕ)
@@ -66,7 +70,8 @@ taken (Some q) text = (Some q.0, q.1)
 
 -- the pre-release words; the longer of two stands before the one that begins it
 abbrev pub table : List (Phase × List ℕ)
-table = (Alpha, codes "alpha") ∷ (Alpha, codes "a") ∷ (Beta, codes "beta") ∷ (Beta, codes "b") ∷ (Rc, codes "preview") ∷ (Rc, codes "pre") ∷ (Rc, codes "rc") ∷ (Rc, codes "c") ∷ []
+table = (Alpha, codes "alpha") ∷ (Alpha, codes "a") ∷ (Beta, codes "beta") ∷ (Beta, codes "b")
+    ∷ (Rc, codes "preview") ∷ (Rc, codes "pre") ∷ (Rc, codes "rc") ∷ (Rc, codes "c") ∷ []
 
 abbrev pub phase_or : Phase → Option (List ℕ) → Option (Phase × List ℕ) → Option (Phase × List ℕ)
 phase_or phase (Some text) other = Some (phase, text)
@@ -92,7 +97,9 @@ read_pre text = pre_taken (behind_phase table (without_separator text)) text
 -- `-` and a number
 abbrev pub implicit_number : List ℕ → Option (ℕ × List ℕ)
 implicit_number [] = None
-implicit_number (b ∷ rest) = if (b == 45) && starts_digit rest then Some (digits_value 10 (front rest), behind rest) else None
+implicit_number (b ∷ rest) =
+    if (b == 45) && starts_digit rest then Some (digits_value 10 (front rest), behind rest)
+    else None
 
 -- the post-release part, and what is behind it
 abbrev pub read_post : List ℕ → Option ℕ × List ℕ
@@ -119,11 +126,15 @@ goes_on (b ∷ rest) = is_ascii_digit b || ((b == 46) && starts_digit rest)
 -- the release, and what is behind it
 abbrev pub release_front : List ℕ → List ℕ
 release_front [] = []
-release_front (b ∷ rest) = if is_ascii_digit b then b ∷ release_front rest else if (b == 46) && starts_digit rest then b ∷ release_front rest else []
+release_front (b ∷ rest) =
+    if is_ascii_digit b then b ∷ release_front rest else if (b == 46) && starts_digit rest
+    then b ∷ release_front rest else []
 
 abbrev pub release_behind : List ℕ → List ℕ
 release_behind [] = []
-release_behind (b ∷ rest) = if is_ascii_digit b then release_behind rest else if (b == 46) && starts_digit rest then release_behind rest else b ∷ rest
+release_behind (b ∷ rest) =
+    if is_ascii_digit b then release_behind rest else if (b == 46) && starts_digit rest
+    then release_behind rest else b ∷ rest
 
 -- ---- the epoch, and the `v` before it
 
@@ -151,8 +162,17 @@ abbrev pub read_label : List ℕ → List Segment
 read_label [] = []
 read_label (b ∷ text) = map segment_of_run (separated_parts text)
 
-abbrev pub with_suffix : ℕ → List ℕ → Option (Phase × ℕ) × (Option ℕ × (Option ℕ × List ℕ)) → Version
-with_suffix epoch release s = record { epoch = epoch; release = map (digits_value 10) (dotted_parts release); pre = s.0; post = s.1.0; dev = s.1.1.0; label = read_label s.1.1.1 }
+abbrev pub with_suffix : ℕ → List ℕ → Option (Phase × ℕ) × (Option ℕ × (Option ℕ × List ℕ)) →
+    Version
+with_suffix epoch release s =
+    record {
+      epoch = epoch;
+      release = map (digits_value 10) (dotted_parts release);
+      pre = s.0;
+      post = s.1.0;
+      dev = s.1.1.0;
+      label = read_label s.1.1.1;
+    }
 
 abbrev pub from_release : ℕ → List ℕ → Version
 from_release epoch text = with_suffix epoch (release_front text) (read_suffix (release_behind text))
@@ -177,7 +197,9 @@ is_label_text (b ∷ text) = (b == 43) && list_all is_run (separated_parts text)
 abbrev pub behind_epoch : List ℕ → List ℕ
 behind_epoch text = (read_epoch (without_v text)).1
 
--- the text spells what is read from it: the epoch, if any, and the release begin with a digit, and what is left
--- behind the last part is a label
+-- the text spells what is read from it: the epoch, if any, and the release begin with a digit, and
+-- what is left behind the last part is a label
 abbrev pub passes : List ℕ → Bool
-passes text = starts_digit (without_v text) && starts_digit (behind_epoch text) && is_label_text (read_label_text text)
+passes text =
+    starts_digit (without_v text) && starts_digit (behind_epoch text)
+    && is_label_text (read_label_text text)

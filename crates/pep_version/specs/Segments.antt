@@ -1,10 +1,11 @@
--- What reading the numbers and words of a text that was cut answers.
+-- What reading the numbers and words of a text that was sliced answers.
 use Rattle.std.specs.Prelude.{◌≡◌, ℕ, List, Option, Result, Ok, Err, Vec, map, ⊤}
 use Rattle.std.specs.List.{AllByRecursion}
 use Rattle.std.specs.Option.{IfSome}
 use Rattle.std.specs.declared.alloc.Global.{Global}
 use Rattle.pep_version.specs.declared.fault.VersionFault.{VersionFault}
-use Rattle.pep_version.specs.declared.fault.VersionFault.TheVariants.{NotAVersion, NumberTooLarge, NoMemory}
+use Rattle.pep_version.specs.declared.fault.VersionFault.TheVariants.{NotAVersion, NumberTooLarge}
+use Rattle.pep_version.specs.declared.fault.VersionFault.TheVariants.{NoMemory}
 use Rattle.pep_version.specs.declared.parts.Label.{Label}
 use Rattle.pep_version.specs.declared.parts.Phase.{Phase}
 use Rattle.pep_version.specs.Version.{Fits, NumbersFit, Segment, SegmentFits, Version}

@@ -1,6 +1,8 @@
--- How a version may be written ("Normalization", and the regular expression of the appendix "Parsing
--- version strings with regular expressions"). A text is a list of bytes.
-use Rattle.std.specs.Prelude.{◌≡◌, ℕ, ◌==◌, ◌&&◌, ◌||◌, ◌⊎◌, Bool, false, not, List, [], ◌∷◌, ◌++◌, Option, Some, None, Result, Ok, Err, IsTrue, codes, if◌then◌else◌, map, ⊤}
+-- How a version may be written ("Normalization", and the regular expression of the appendix
+-- "Parsing version strings with regular expressions"). A text is a list of bytes.
+use Rattle.std.specs.Prelude.{◌≡◌, ℕ, ◌==◌, ◌&&◌, ◌⊎◌, Bool, false, not, List, [], ◌∷◌, ◌++◌}
+use Rattle.std.specs.Prelude.{Option, Some, None, Result, Ok, Err, IsTrue, codes, if◌then◌else◌}
+use Rattle.std.specs.Prelude.{map, ⊤}
 use Rattle.std.specs.Char.{is_ascii_alphabetic, is_ascii_digit}
 use Rattle.std.specs.List.{concat, list_all, slice_split}
 use Rattle.std.specs.Str.{str_to_ascii_lowercase}
@@ -8,9 +10,11 @@ use Rattle.std.specs.Str.Parse.{digits_value}
 use Rattle.pep_version.specs.declared.parts.Phase.{Phase}
 use Rattle.pep_version.specs.declared.parts.Phase.TheVariants.{Alpha, Beta, Rc}
 use Rattle.pep_version.specs.declared.fault.VersionFault.{VersionFault}
-use Rattle.pep_version.specs.declared.fault.VersionFault.TheVariants.{NotAVersion, NumberTooLarge, NoMemory}
+use Rattle.pep_version.specs.declared.fault.VersionFault.TheVariants.{NotAVersion, NumberTooLarge}
+use Rattle.pep_version.specs.declared.fault.VersionFault.TheVariants.{NoMemory}
 use Rattle.pep_version.specs.Bytes.{is_separator, is_white_space}
-use Rattle.pep_version.specs.Version.{NumbersFit, Segment, number, Version, is_empty, is_word_byte, word}
+use Rattle.pep_version.specs.Version.{NumbersFit, Segment, number, Version, is_empty, is_word_byte}
+use Rattle.pep_version.specs.Version.{word}
 
 -- a text without the white space at its front, at its end, and at both
 abbrev pub without_leading_space : List ℕ → List ℕ
@@ -20,7 +24,8 @@ without_leading_space (b ∷ rest) = if is_white_space b then without_leading_sp
 abbrev pub without_trailing_space : List ℕ → List ℕ
 without_trailing_space [] = []
 without_trailing_space (b ∷ rest) =
-    if is_white_space b && is_empty (without_trailing_space rest) then [] else b ∷ without_trailing_space rest
+    if is_white_space b && is_empty (without_trailing_space rest) then []
+    else b ∷ without_trailing_space rest
 
 abbrev pub trimmed : List ℕ → List ℕ
 trimmed text = without_trailing_space (without_leading_space text)
@@ -81,7 +86,9 @@ PrecedingVSpelling text = (text ≡ []) ⊎ (text ≡ codes "v")
 
 -- a number and `!`; an epoch that is not written is 0 ("Version epochs")
 abbrev pub EpochSpelling : List ℕ → ℕ → Type 0
-EpochSpelling text epoch = ((text ≡ []) × (epoch ≡ 0)) ⊎ ((digits : List ℕ) × (text ≡ digits ++ codes "!") × NumberSpelling digits epoch)
+EpochSpelling text epoch =
+    ((text ≡ []) × (epoch ≡ 0)) ⊎ ((digits : List ℕ) × (text ≡ digits ++ codes "!")
+    × NumberSpelling digits epoch)
 
 -- the parts of a text between its dots; a text without a dot is one part
 abbrev pub dotted_parts : List ℕ → List (List ℕ)
@@ -89,7 +96,9 @@ dotted_parts text = slice_split (λ b. b == 46) text
 
 -- one or more numbers, with a dot between each two ("Final releases")
 abbrev pub ReleaseSpelling : List ℕ → List ℕ → Type 0
-ReleaseSpelling text release = IsTrue (list_all is_number (dotted_parts text)) × (release ≡ map (digits_value 10) (dotted_parts text))
+ReleaseSpelling text release =
+    IsTrue (list_all is_number (dotted_parts text))
+    × (release ≡ map (digits_value 10) (dotted_parts text))
 
 -- the pre-release part ("Pre-releases")
 abbrev pub PreSpelling : List ℕ → Option (Phase × ℕ) → Type 0
@@ -102,8 +111,9 @@ ends_in_letter [] = false
 ends_in_letter (b ∷ []) = is_ascii_alphabetic b
 ends_in_letter (b ∷ c ∷ rest) = ends_in_letter (c ∷ rest)
 
--- `-` and a number ("Implicit post releases"). It may not follow the bare word of a pre-release, since `-1`
--- behind that word is the number of the pre-release: `1.0a-1` is `1.0a1`. This rule is the project's.
+-- `-` and a number ("Implicit post releases"). It may not follow the bare word of a pre-release,
+-- since `-1` behind that word is the number of the pre-release: `1.0a-1` is `1.0a1`. This rule is
+-- the project's.
 pub record ImplicitPostSpelling (pre text : List ℕ) (n : ℕ) : Type 0 where
   pub digits : List ℕ
   pub pieces : text ≡ codes "-" ++ digits
@@ -132,15 +142,18 @@ is_run run = not (is_empty run) && list_all is_word_byte run
 abbrev pub segment_of_run : List ℕ → Segment
 segment_of_run run = if list_all is_ascii_digit run then number (digits_value 10 run) else word run
 
--- nothing; or `+` and one or more runs, with a separator between each two ("Local version identifiers",
--- "Local version segments")
+-- nothing; or `+` and one or more runs, with a separator between each two ("Local version
+-- identifiers", "Local version segments")
 abbrev pub LabelSpelling : List ℕ → List Segment → Type 0
 LabelSpelling [] label = label ≡ []
-LabelSpelling (b ∷ text) label = (b ≡ 43) × IsTrue (list_all is_run (separated_parts text)) × (label ≡ map segment_of_run (separated_parts text))
+LabelSpelling (b ∷ text) label =
+    (b ≡ 43) × IsTrue (list_all is_run (separated_parts text))
+    × (label ≡ map segment_of_run (separated_parts text))
 
--- The text, white space at both ends dropped ("Leading and Trailing Whitespace") and in lower case ("Case
--- sensitivity"), is the pieces in this order, and they have the values of the version's parts, however large
--- its numbers are. Where a text can be cut into pieces in two ways, as `1.0a-post1`, both give one version.
+-- The text, white space at both ends dropped ("Leading and Trailing Whitespace") and in lower case
+-- ("Case sensitivity"), is the pieces in this order, and they have the values of the version's
+-- parts, however large its numbers are. Where a text can be split into pieces in two ways, as
+-- `1.0a-post1`, both give one version.
 pub record SpellsAny (text : List ℕ) (v : Version) : Type 0 where
   pub preceding_v : List ℕ
   pub epoch : List ℕ
@@ -149,7 +162,8 @@ pub record SpellsAny (text : List ℕ) (v : Version) : Type 0 where
   pub post : List ℕ
   pub dev : List ℕ
   pub label : List ℕ
-  pub pieces : str_to_ascii_lowercase (trimmed text) ≡ concat (preceding_v ∷ epoch ∷ release ∷ pre ∷ post ∷ dev ∷ label ∷ [])
+  pub pieces : str_to_ascii_lowercase (trimmed text) ≡ concat (preceding_v ∷ epoch ∷ release ∷ pre
+      ∷ post ∷ dev ∷ label ∷ [])
   pub preceding_v_is : PrecedingVSpelling preceding_v
   pub epoch_is : EpochSpelling epoch v.epoch
   pub release_is : ReleaseSpelling release v.release
@@ -162,10 +176,12 @@ pub record SpellsAny (text : List ℕ) (v : Version) : Type 0 where
 abbrev pub Spells : List ℕ → Version → Type 0
 Spells text v = SpellsAny text v × NumbersFit v
 
--- What reading a text answers: the one version that it spells; a number too large, where it would spell one but
--- for the bound on numbers; else that it is no version. Of want of memory it says nothing.
+-- What reading a text answers: the one version that it spells; a number too large, where it would
+-- spell one but for the bound on numbers; else that it is no version. Of want of memory it says
+-- nothing.
 abbrev pub Reads : List ℕ → Result Version VersionFault → Type 0
 Reads text (Ok v) = Spells text v × ((w : Version) → SpellsAny text w → w ≡ v)
-Reads text (Err NumberTooLarge) = ((v : Version) × SpellsAny text v) × ((v : Version) → ¬ Spells text v)
+Reads text (Err NumberTooLarge) =
+    ((v : Version) × SpellsAny text v) × ((v : Version) → ¬ Spells text v)
 Reads text (Err NotAVersion) = (v : Version) → ¬ SpellsAny text v
 Reads text (Err NoMemory) = ⊤

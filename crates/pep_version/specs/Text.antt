@@ -1,5 +1,6 @@
 -- The normal text of a version, which has one spelling for each version ("Normalization").
-use Rattle.std.specs.Prelude.{ℕ, ◌==◌, ◌||◌, Bool, List, [], ◌∷◌, ◌++◌, map, Option, Some, None, codes, decimal, if◌then◌else◌}
+use Rattle.std.specs.Prelude.{ℕ, ◌==◌, ◌||◌, Bool, List, [], ◌∷◌, ◌++◌, map, Option, Some, None}
+use Rattle.std.specs.Prelude.{codes, decimal, if◌then◌else◌}
 use Rattle.std.specs.List.{join_with_byte}
 use Rattle.pep_version.specs.declared.parts.Phase.{Phase}
 use Rattle.pep_version.specs.declared.parts.Phase.TheVariants.{Alpha, Beta, Rc}
@@ -24,15 +25,18 @@ abbrev pub pre_text : Option (Phase × ℕ) → List ℕ
 pre_text None = []
 pre_text (Some p) = phase_text p.0 ++ decimal p.1
 
+-- a word and the number behind it, if there is one
+abbrev pub part_text : List ℕ → Option ℕ → List ℕ
+part_text letters None = []
+part_text letters (Some n) = letters ++ decimal n
+
 -- the post-release part ("Post-releases")
 abbrev pub post_text : Option ℕ → List ℕ
-post_text None = []
-post_text (Some n) = codes ".post" ++ decimal n
+post_text post = part_text (codes ".post") post
 
 -- the developmental release part ("Developmental releases")
 abbrev pub dev_text : Option ℕ → List ℕ
-dev_text None = []
-dev_text (Some n) = codes ".dev" ++ decimal n
+dev_text dev = part_text (codes ".dev") dev
 
 abbrev pub segment_text : Segment → List ℕ
 segment_text (number n) = decimal n
@@ -45,7 +49,9 @@ label_text (s ∷ rest) = codes "+" ++ join_with_byte 46 (map segment_text (s �
 
 -- the normal text of a version
 abbrev pub normal_text : Version → List ℕ
-normal_text v = epoch_text v.epoch ++ release_text v.release ++ pre_text v.pre ++ post_text v.post ++ dev_text v.dev ++ label_text v.label
+normal_text v =
+    epoch_text v.epoch ++ release_text v.release ++ pre_text v.pre ++ post_text v.post
+    ++ dev_text v.dev ++ label_text v.label
 
 -- a byte of a normal text: a letter in lower case, a digit, `.`, `+` or `!`
 abbrev pub is_text_byte : ℕ → Bool

@@ -1,18 +1,20 @@
--- What a version is, apart from how it is written and stored. The sections named here are those of the
--- specification "Version specifiers" (PEP 440).
-use Rattle.std.specs.Prelude.{ℕ, ◌<◌, ◌^◌, ◌&&◌, ◌||◌, Bool, true, false, List, [], ◌∷◌, length, Option, IsTrue, is_some}
+-- What a version is, apart from how it is written and stored. The sections named here are those of
+-- the specification "Version specifiers" (PEP 440).
+use Rattle.std.specs.Prelude.{ℕ, ◌<◌, ◌^◌, ◌&&◌, ◌||◌, Bool, true, false, List, [], ◌∷◌, length}
+use Rattle.std.specs.Prelude.{Option, IsTrue, is_some}
 use Rattle.std.specs.Char.{is_ascii_digit, is_ascii_lowercase}
 use Rattle.std.specs.List.{AllByRecursion, list_all, list_any}
 use Rattle.std.specs.Option.{IfSome}
 use Rattle.pep_version.specs.declared.parts.Phase.{Phase}
 
--- a segment of a local version label: a number, or a word in lower case ("Local version identifiers")
+-- a segment of a local version label: a number, or a word in lower case ("Local version
+-- identifiers")
 pub data Segment : Type 0 where
   number : ℕ → Segment
   word : List ℕ → Segment
 
--- the parts of a version ("Public version identifiers", "Local version identifiers"): the epoch is 0 where
--- none is written, and the label is empty where there is none
+-- the parts of a version ("Public version identifiers", "Local version identifiers"): the epoch is
+-- 0 where none is written, and the label is empty where there is none
 pub record Version : Type 0 where
   pub epoch : ℕ
   pub release : List ℕ
@@ -26,7 +28,8 @@ abbrev pub is_empty : {A : Type 0} → List A → Bool
 is_empty [] = true
 is_empty (x ∷ xs) = false
 
--- a word of a label: letters in lower case and digits, with a letter among them ("Local version segments")
+-- a word of a label: letters in lower case and digits, with a letter among them ("Local version
+-- segments")
 abbrev pub is_word_byte : ℕ → Bool
 is_word_byte b = is_ascii_lowercase b || is_ascii_digit b
 
@@ -55,7 +58,8 @@ pub record NumbersFit (v : Version) : Type 0 where
   pub dev : IfSome v.dev Fits
   pub label : AllByRecursion SegmentFits v.label
 
--- the parts make a version: the release has a number ("Final releases"), and the label's words are words
+-- the parts make a version: the release has a number ("Final releases"), and the label's words are
+-- words
 pub record IsVersion (v : Version) : Type 0 where
   pub release : 0 < length v.release
   pub label : AllByRecursion IsSegment v.label

@@ -11,6 +11,14 @@ segment_of (stored.Number n) = number n
 segment_of (stored.Word text) = word (string_bytes text)
 
 -- the version with these parts
-abbrev pub version_of : ℕ → Vec ℕ Global → Option (Phase × ℕ) → Option ℕ → Option ℕ → Vec Label Global → Version
+abbrev pub version_of : ℕ → Vec ℕ Global → Option (Phase × ℕ) → Option ℕ → Option ℕ →
+    Vec Label Global → Version
 version_of epoch release pre post dev label =
-    record { epoch = epoch; release = release.items; pre = pre; post = post; dev = dev; label = map segment_of label.items }
+    record {
+      epoch = epoch;
+      release = release.items;
+      pre = pre;
+      post = post;
+      dev = dev;
+      label = map segment_of label.items;
+    }

@@ -15,6 +15,22 @@ pub enum VersionFault {
     NoMemory,
 }
 
+impl VersionFault {
+    ghost use Rattle.std.specs.Prelude.{◌≡◌};
+    ghost use Rattle.pep_version.specs.Code.{version_code};
+
+    /// The code of the fault, which stands at each one above.
+    pub fn code(self) -> u64
+        ensures { result ≡ version_code self }
+    {
+        match self {
+            VersionFault::NotAVersion => 1,
+            VersionFault::NumberTooLarge => 2,
+            VersionFault::NoMemory => 3,
+        }
+    }
+}
+
 impl From<AllocError> for VersionFault {
     ghost use Rattle.std.specs.Prelude.{◌≡◌};
     ghost use Rattle.pep_version.specs.declared.fault.VersionFault.TheVariants.{NoMemory};

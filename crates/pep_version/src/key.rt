@@ -1,13 +1,44 @@
 // The place of a version in the order.
 
-ghost use Rattle.std.specs.Prelude.{◌≡◌, ◌<◌, [], fold, length, map, refl, slice_index, IfErr, IfOk, None};
-ghost use Rattle.std.specs.Cmp.{eq_by_cmp_equiv, partial_equiv_from_equiv, partial_order_from_total};
+ghost use Rattle.std.specs.Prelude.{
+  ◌≡◌,
+  ◌<◌,
+  [],
+  fold,
+  length,
+  map,
+  refl,
+  slice_index,
+  IfErr,
+  IfOk,
+  None,
+};
+ghost use Rattle.std.specs.Cmp.{
+  eq_by_cmp_equiv,
+  partial_equiv_from_equiv,
+  partial_order_from_total,
+};
 ghost use Rattle.std.specs.Cmp.Lexicographic.{slice_cmp};
 ghost use Rattle.std.specs.Hash as fed;
 ghost use Rattle.std.specs.Ordering.{as_partial_cmp, eq_by_cmp};
-ghost use Rattle.pep_version.specs.Feed.{feed_pre, feed_segment, feed_version, feed_version-alike};
+ghost use Rattle.pep_version.specs.Feed.{feed_pre, feed_segment, key_feed, key_feed-alike};
 ghost use Rattle.pep_version.specs.Laws.{version_total};
-ghost use Rattle.pep_version.specs.Order.{dev_cmp, phase_rank, place_cmp, place_of, pre_number_of, release_cmp, segment_cmp, short_release, stage_of, suffix_cmp, version_cmp, without_end_zeros};
+ghost use Rattle.pep_version.specs.Order.{
+  dev_cmp,
+  phase_rank,
+  place_cmp,
+  place_of,
+  release_version,
+  with_suffixes,
+  pre_number_of,
+  release_cmp,
+  segment_cmp,
+  short_release,
+  stage_of,
+  suffix_cmp,
+  version_cmp,
+  without_end_zeros,
+};
 ghost use Rattle.pep_version.specs.Version.{IsVersion};
 ghost use Rattle.pep_version.specs.View.{segment_of};
 
@@ -19,30 +50,24 @@ use std::cmp::Ordering;
 use std::hash::{Hash, Hasher};
 use std::marker::Model;
 
-/// A version's place in the order (PEP 440, "Summary of permitted suffixes and relative ordering"): one key for
-/// all versions that are the same in order, as `1.0` and `1.0.0`. The release of a key has no zeros at its end,
-/// except that its first number stays.
+/// A version's place in the order (PEP 440, "Summary of permitted suffixes and relative ordering"):
+/// one key for all versions that are the same in order, as `1.0` and `1.0.0`. The release of a key
+/// has no zeros at its end, except that its first number stays.
 #[derive(Debug, Drop)]
 pub struct Key {
-    epoch: u64,
-    release: Vec<u64>,
-    pre: Option<(Phase, u64)>,
-    post: Option<u64>,
-    dev: Option<u64>,
-    label: Vec<Label>,
+    version: Version,
 }
 
 impl Model for Key {
     ghost use Rattle.std.specs.Prelude.{◌≡◌};
-    ghost use Rattle.pep_version.specs.Order.{short_release};
+    ghost use Rattle.pep_version.specs.Order.{place_of};
     ghost use Rattle.pep_version.specs.Version.{IsVersion, Version};
-    ghost use Rattle.pep_version.specs.View.{version_of};
 
     ghost Value = { Version };
 
-    ghost view = { λ a. version_of a.epoch a.release a.pre a.post a.dev a.label };
+    ghost view = { λ a. a.version };
 
-    ghost invariant = { λ a. IsVersion (version_of a.epoch a.release a.pre a.post a.dev a.label) × (short_release a.release.items ≡ a.release.items) };
+    ghost invariant = { λ a. IsVersion a.version × (place_of a.version ≡ a.version) };
 }
 
 // The release without the zeros at its end, except that its first number stays.
@@ -70,8 +95,8 @@ impl Key {
         Key::with_suffixes(alloc, version, version.pre(), version.post(), version.dev())
     }
 
-    /// The place of the version with these suffixes in place of its own, and with its label. The only fault is
-    /// `NoMemory`.
+    /// The place of the version with these suffixes in place of its own, and with its label. The
+    /// only fault is `NoMemory`.
     pub fn with_suffixes(
         alloc: Global,
         version: &Version,
@@ -79,25 +104,20 @@ impl Key {
         post: Option<u64>,
         dev: Option<u64>,
     ) -> Result<Key, VersionFault>
-        ensures place { IfOk result (λ k. k ≡ place_of (record version.now { pre = pre; post = post; dev = dev })) }
+        ensures place { IfOk result (λ k. k ≡ place_of (with_suffixes version.now pre post dev)) }
         ensures version { IfOk result (λ k. IsVersion k) }
         ensures own_place { IfOk result (λ k. place_of k ≡ k) }
         ensures faults { IfErr result (λ e. e ≡ VersionFault.NoMemory) }
     {
         let release = Vec::from_slice(alloc, short_release(version.release()))?;
         let label = label_copied(alloc, version.label())?;
-        Ok(Key {
-            epoch: version.epoch(),
-            release,
-            pre,
-            post,
-            dev,
-            label,
-        })
+        let version = Version::with_parts(version.epoch(), release, pre, post, dev, label);
+        Ok(Key { version })
     }
 
-    /// The place of a final release, which has a number at least, or of its developmental release of this number (PEP
-    /// 440, "Final releases", "Developmental releases"). The only fault is `NoMemory`.
+    /// The place of a final release, which has a number at least, or of its developmental release
+    /// of this number (PEP 440, "Final releases", "Developmental releases"). The only fault is
+    /// `NoMemory`.
     pub fn of_release(
         alloc: Global,
         epoch: u64,
@@ -105,33 +125,25 @@ impl Key {
         dev: Option<u64>,
     ) -> Result<Key, VersionFault>
         requires { 0 < length release.now }
-        ensures place { IfOk result (λ k. k ≡ place_of (record { epoch = epoch; release = release.now; pre = None; post = None; dev = dev; label = [] })) }
+        ensures place { IfOk result (λ k. k ≡ place_of (release_version epoch release.now dev)) }
         ensures version { IfOk result (λ k. IsVersion k) }
         ensures own_place { IfOk result (λ k. place_of k ≡ k) }
         ensures faults { IfErr result (λ e. e ≡ VersionFault.NoMemory) }
     {
         let numbers = Vec::from_slice(alloc, short_release(release))?;
-        Ok(Key {
-            epoch,
-            release: numbers,
-            pre: None,
-            post: None,
-            dev,
-            label: Vec::new(alloc),
-        })
+        let version = Version::with_parts(epoch, numbers, None, None, dev, Vec::new(alloc));
+        Ok(Key { version })
     }
 
-    /// The version that stands at this place: of those that are the same in order, the one whose release has no
-    /// zeros at its end. The only fault is `NoMemory`.
+    /// The version that stands at this place: of those that are the same in order, the one whose
+    /// release has no zeros at its end. The only fault is `NoMemory`.
     pub fn version(&self, alloc: Global) -> Result<Version, VersionFault>
         ensures version { IfOk result (λ v. v ≡ self.now) }
         ensures is_version { IsVersion self.now }
         ensures own_place { place_of self.now ≡ self.now }
         ensures faults { IfErr result (λ e. e ≡ VersionFault.NoMemory) }
     {
-        let release = Vec::from_slice(alloc, self.release.as_slice())?;
-        let label = label_copied(alloc, self.label.as_slice())?;
-        Ok(Version::with_parts(self.epoch, release, self.pre, self.post, self.dev, label))
+        self.version.copied(alloc)
     }
 
     /// An equal key in storage of its own. The only fault is `NoMemory`.
@@ -141,16 +153,8 @@ impl Key {
         ensures own_place { place_of self.now ≡ self.now }
         ensures faults { IfErr result (λ e. e ≡ VersionFault.NoMemory) }
     {
-        let release = Vec::from_slice(alloc, self.release.as_slice())?;
-        let label = label_copied(alloc, self.label.as_slice())?;
-        Ok(Key {
-            epoch: self.epoch,
-            release,
-            pre: self.pre,
-            post: self.post,
-            dev: self.dev,
-            label,
-        })
+        let version = self.version.copied(alloc)?;
+        Ok(Key { version })
     }
 }
 
@@ -243,25 +247,28 @@ fn cmp_labels(a: &[Label], b: &[Label]) -> Ordering
 }
 
 impl Key {
-    /// The order of the two by their epochs and releases alone (PEP 440, "Version epochs", "Final releases").
+    /// The order of the two by their epochs and releases alone (PEP 440, "Version epochs", "Final
+    /// releases").
     pub fn cmp_release(&self, other: &Key) -> Ordering
         ensures { result ≡ place_cmp self.now other.now }
     {
-        self.epoch
-            .cmp(&other.epoch)
-            .then(cmp_releases(&self.release, &other.release))
+        let (a, b) = (&self.version, &other.version);
+        a.epoch()
+            .cmp(&b.epoch())
+            .then(cmp_releases(a.release(), b.release()))
     }
 
     // The order within one release.
     fn cmp_suffix(&self, other: &Key) -> Ordering
         ensures { result ≡ suffix_cmp self.now other.now }
     {
-        let stages = stage(self.pre, self.post, self.dev)
-            .cmp(&stage(other.pre, other.post, other.dev))
-            .then(pre_number(self.pre).cmp(&pre_number(other.pre)));
-        let others = self.post.cmp(&other.post).then(cmp_dev(self.dev, other.dev).then(cmp_labels(
-            &self.label,
-            &other.label,
+        let (a, b) = (&self.version, &other.version);
+        let stages = stage(a.pre(), a.post(), a.dev())
+            .cmp(&stage(b.pre(), b.post(), b.dev()))
+            .then(pre_number(a.pre()).cmp(&pre_number(b.pre())));
+        let others = a.post().cmp(&b.post()).then(cmp_dev(a.dev(), b.dev()).then(cmp_labels(
+            a.label(),
+            b.label(),
         )));
         stages.then(others)
     }
@@ -357,16 +364,17 @@ fn hash_label<H: Hasher>(label: &[Label], state: &mut H)
 }
 
 impl Hash for Key {
-    ghost hash_input = { feed_version };
+    ghost hash_input = { key_feed };
 
-    ghost respects_eq = { feed_version-alike.fed };
+    ghost respects_eq = { key_feed-alike.fed };
 
+    #[tactic(auto, unfolding(crate::specs::Feed::key_feed))]
     fn hash<H: Hasher>(&self, state: &mut H) {
-        state.write_u64(self.epoch);
-        without_end_zeros(&self.release).hash(state);
-        hash_pre(self.pre, state);
-        self.post.hash(state);
-        self.dev.hash(state);
-        hash_label(&self.label, state);
+        state.write_u64(self.version.epoch());
+        without_end_zeros(self.version.release()).hash(state);
+        hash_pre(self.version.pre(), state);
+        self.version.post().hash(state);
+        self.version.dev().hash(state);
+        hash_label(self.version.label(), state);
     }
 }

@@ -14,9 +14,17 @@ pub fn order_is_total()
     ensures { IsTotalOrder version_cmp }
 {}
 
+/// Places compare as their versions do. So two keys are equal exactly if their versions are the
+/// same in order, and one is less exactly if its version is below the other's (PEP 440, "Summary of
+/// permitted suffixes and relative ordering").
+pub fn order_of_places()
+    ensures { (v w : Version) → version_cmp (place_of v) (place_of w) ≡ version_cmp v w }
+{}
+
 /// Two versions are the same in order exactly if they have one place.
 pub fn one_place()
-    ensures { (v w : Version) → 0 < length v.release → 0 < length w.release → Same v w ↔ (place_of v ≡ place_of w) }
+    ensures { (v w : Version) → 0 < length v.release → 0 < length w.release → Same v w
+        ↔ (place_of v ≡ place_of w) }
 {}
 
 /// A text spells at most one version.
@@ -24,7 +32,8 @@ pub fn one_version()
     ensures { (text : List ℕ) (v w : Version) → SpellsAny text v → SpellsAny text w → v ≡ w }
 {}
 
-/// The normal text of a version is a spelling of it, so a version is read back from its normal text.
+/// The normal text of a version is a spelling of it, so a version is read back from its normal
+/// text.
 pub fn text_is_read()
     ensures { (v : Version) → IsVersion v → Spells (normal_text v) v }
 {}

@@ -2,7 +2,6 @@
 #![tactic(auto)]
 
 mod bytes;
-mod cut;
 mod fault;
 mod key;
 pub mod laws;
@@ -10,10 +9,11 @@ mod number;
 mod parts;
 mod release;
 mod segments;
+mod slices;
 mod space;
 mod split;
+mod text;
 mod version;
-mod writing;
 
 pub use crate::bytes::is_separator;
 pub use crate::fault::VersionFault;
@@ -22,6 +22,3 @@ pub use crate::parts::{Label, Phase};
 pub use crate::space::{trimmed, without_trailing_space};
 pub use crate::split::first_part;
 pub use crate::version::Version;
-
-#[cfg(test)]
-mod tests;

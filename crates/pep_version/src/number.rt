@@ -18,7 +18,8 @@ fn with_digit(value: u64, digit: u8) -> Option<u64>
 /// The number that the digits write, or `None` where it does not fit 64 bits.
 pub(crate) fn number(digits: &[u8]) -> Option<u64>
     requires { IsTrue (list_all is_ascii_digit digits.now) }
-    ensures { MatchOption result (2 ^ 64 ≤ digits_value 10 digits.now) (λ n. n ≡ digits_value 10 digits.now) }
+    ensures { MatchOption result (2 ^ 64 ≤ digits_value 10 digits.now) (λ n. n
+        ≡ digits_value 10 digits.now) }
 {
     let mut value: u64 = 0;
     for b in digits {

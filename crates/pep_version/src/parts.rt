@@ -6,8 +6,8 @@ pub enum Phase {
     Rc,
 }
 
-/// A segment of a local version label (PEP 440, "Local version identifiers"): a number, or a word of
-/// lower-case letters and digits with at least one letter.
+/// A segment of a local version label (PEP 440, "Local version identifiers"): a number, or a word
+/// of lower-case letters and digits with at least one letter.
 #[derive(Debug, Drop)]
 pub enum Label {
     Number(u64),

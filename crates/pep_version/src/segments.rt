@@ -1,11 +1,33 @@
-// The numbers and words of a text that was cut.
+// The numbers and words of a text that was sliced.
 
-ghost use Rattle.std.specs.Prelude.{◌≡◌, ◌∷◌, ◌<◌, ◌++◌, codes, length, map, string_bytes, IfErr, IfOk, IfSome, IsTrue, MatchResult};
+ghost use Rattle.std.specs.Prelude.{
+  ◌≡◌,
+  ◌∷◌,
+  ◌<◌,
+  ◌++◌,
+  codes,
+  length,
+  map,
+  string_bytes,
+  IfErr,
+  IfOk,
+  IfSome,
+  IsTrue,
+  MatchResult,
+};
 ghost use Rattle.std.specs.Char.{is_ascii_digit};
 ghost use Rattle.std.specs.List.{list_all};
 ghost use Rattle.std.specs.Str.Parse.{digits_value};
 ghost use Rattle.pep_version.specs.Bytes.{is_separator};
-ghost use Rattle.pep_version.specs.Cut.{IsDigits, label_of, left_runs, lower, optional_of, pre_of, value_of};
+ghost use Rattle.pep_version.specs.Slices.{
+  IsDigits,
+  label_of,
+  left_runs,
+  lower,
+  optional_of,
+  pre_of,
+  value_of,
+};
 ghost use Rattle.pep_version.specs.Segments.{NumberOf, OptionalOf, PreOf, SegmentOf, SegmentsOf};
 ghost use Rattle.pep_version.specs.Spelling.{is_run, segment_of_run, separated_parts};
 

@@ -1,7 +1,11 @@
 // White space at the ends of a text.
 
 ghost use Rattle.std.specs.Prelude.{◌≡◌};
-ghost use Rattle.pep_version.specs.Spelling.{trimmed, without_leading_space, without_trailing_space};
+ghost use Rattle.pep_version.specs.Spelling.{
+  trimmed,
+  without_leading_space,
+  without_trailing_space,
+};
 
 use crate::bytes::is_white_space;
 

@@ -1,27 +1,45 @@
 // A version, and its parts.
 
-ghost use Rattle.std.specs.Prelude.{◌≡◌, ◌↔◌, map, refl, string_bytes, IfErr, IfOk, IfSome, IsSome, IsTrue};
+ghost use Rattle.std.specs.Prelude.{
+  ◌≡◌,
+  ◌↔◌,
+  map,
+  refl,
+  string_bytes,
+  IfErr,
+  IfOk,
+  IfSome,
+  IsSome,
+  IsTrue,
+};
 ghost use Rattle.std.specs.Char.{is_ascii_lowercase};
 ghost use Rattle.std.specs.List.{All, list_all, list_any};
-ghost use Rattle.pep_version.specs.Cut.{IsCut, version_of_cut};
+ghost use Rattle.pep_version.specs.Slices.{AreReadable, version_of_slices};
 ghost use Rattle.pep_version.specs.Segments.{VersionOf};
 ghost use Rattle.pep_version.specs.Spelling.{Reads};
 ghost use Rattle.pep_version.specs.Text.{normal_text};
-ghost use Rattle.pep_version.specs.Version.{IsSegment, IsVersion, SegmentFits, is_pre_release, is_word, is_word_byte};
+ghost use Rattle.pep_version.specs.Version.{
+  IsSegment,
+  IsVersion,
+  SegmentFits,
+  is_pre_release,
+  is_word,
+  is_word_byte,
+};
 ghost use Rattle.pep_version.specs.View.{segment_of, version_of};
 
-use crate::cut::{Cut, cut_version};
 use crate::fault::VersionFault;
 use crate::parts::{Label, Phase};
 use crate::release::release_numbers;
 use crate::segments::{optional_number, pre_number, read_segments, written_number};
+use crate::slices::{Slices, slices_of};
 use crate::space::trimmed;
-use crate::writing::{push_dev, push_epoch, push_label, push_post, push_pre, push_release};
+use crate::text::{push_epoch, push_label, push_part, push_pre, push_release};
 use std::alloc::Global;
 use std::marker::Model;
 
-/// A Python version (PEP 440): an epoch, a release, and the parts that may follow the release. Each number is
-/// at most 18446744073709551615.
+/// A Python version (PEP 440): an epoch, a release, and the parts that may follow the release. Each
+/// number is at most 18446744073709551615.
 #[derive(Debug, Drop)]
 pub struct Version {
     epoch: u64,
@@ -115,42 +133,37 @@ pub(crate) fn label_copied(alloc: Global, label: &[Label]) -> Result<Vec<Label>,
 }
 
 impl Version {
-    /// The version that a text spells (PEP 440, "Version scheme" and "Normalization"; the spellings are those of
-    /// the regular expression in the appendix "Parsing version strings with regular expressions"). White space
-    /// at both ends and the case of letters do not matter. A number may have leading zeros.
+    /// The version that a text spells (PEP 440, "Version scheme" and "Normalization"; the spellings
+    /// are those of the regular expression in the appendix "Parsing version strings with regular
+    /// expressions"). White space at both ends and the case of letters do not matter. A number may
+    /// have leading zeros.
     ///
-    /// A `-` and a number behind the bare word of a pre-release are that word's number: `1.0a-1` is `1.0a1`.
+    /// A `-` and a number behind the bare word of a pre-release are that word's number: `1.0a-1` is
+    /// `1.0a1`.
     ///
-    /// A text that spells no version is `NotAVersion`. A text that would spell one but for a number above
-    /// 18446744073709551615 is `NumberTooLarge`. A growth that is refused is `NoMemory`.
+    /// A text that spells no version is `NotAVersion`. A text that would spell one but for a number
+    /// above 18446744073709551615 is `NumberTooLarge`. A growth that is refused is `NoMemory`.
     pub fn read(alloc: Global, text: &str) -> Result<Version, VersionFault>
         ensures { Reads text.now result }
     {
-        let Some(cut) = cut_version(trimmed(text).as_bytes()) else {
+        let Some(slices) = slices_of(trimmed(text).as_bytes()) else {
             return Err(VersionFault::NotAVersion);
         };
-        Version::of_cut(alloc, cut)
+        Version::of_slices(alloc, slices)
     }
 
     // The version that the slices write.
-    fn of_cut(alloc: Global, cut: Cut<'_>) -> Result<Version, VersionFault>
-        requires { IsCut cut }
-        ensures { VersionOf (version_of_cut cut.entry) result }
+    fn of_slices(alloc: Global, slices: Slices<'_>) -> Result<Version, VersionFault>
+        requires { AreReadable slices }
+        ensures { VersionOf (version_of_slices slices.entry) result }
     {
-        let epoch = written_number(cut.epoch)?;
-        let release = release_numbers(alloc, cut.release)?;
-        let pre = pre_number(cut.pre)?;
-        let post = optional_number(cut.post)?;
-        let dev = optional_number(cut.dev)?;
-        let label = read_segments(alloc, cut.label)?;
-        Ok(Version {
-            epoch,
-            release,
-            pre,
-            post,
-            dev,
-            label,
-        })
+        let epoch = written_number(slices.epoch)?;
+        let release = release_numbers(alloc, slices.release)?;
+        let pre = pre_number(slices.pre)?;
+        let post = optional_number(slices.post)?;
+        let dev = optional_number(slices.dev)?;
+        let label = read_segments(alloc, slices.label)?;
+        Ok(Version::with_parts(epoch, release, pre, post, dev, label))
     }
 
     /// The version with these parts, which make one.
@@ -163,7 +176,8 @@ impl Version {
         label: Vec<Label>,
     ) -> Version
         requires { IsVersion (version_of epoch release pre post dev label) }
-        ensures { result ≡ version_of epoch release pre post dev label }
+        ensures parts { result ≡ version_of epoch release pre post dev label }
+        ensures version { IsVersion result }
     {
         Version {
             epoch,
@@ -175,9 +189,10 @@ impl Version {
         }
     }
 
-    /// The version with these parts, where they make one (PEP 440, "Public version identifiers", "Local version
-    /// identifiers"): the release is not empty, and each word of the label is lower-case letters and digits
-    /// with a letter among them. Else `None`, and the parts are dropped.
+    /// The version with these parts, where they make one (PEP 440, "Public version identifiers",
+    /// "Local version identifiers"): the release is not empty, and each word of the label is
+    /// lower-case letters and digits with a letter among them. Else `None`, and the parts are
+    /// dropped.
     pub fn of_parts(
         epoch: u64,
         release: Vec<u64>,
@@ -192,14 +207,7 @@ impl Version {
         if release.is_empty() || !is_label(&label) {
             return None;
         }
-        Some(Version {
-            epoch,
-            release,
-            pre,
-            post,
-            dev,
-            label,
-        })
+        Some(Version::with_parts(epoch, release, pre, post, dev, label))
     }
 
     /// The epoch, which is 0 where none is written (PEP 440, "Version epochs").
@@ -245,8 +253,8 @@ impl Version {
         self.label.as_slice()
     }
 
-    /// Whether this is a pre-release: it has a pre-release part or a developmental release part (PEP 440,
-    /// "Handling of pre-releases").
+    /// Whether this is a pre-release: it has a pre-release part or a developmental release part
+    /// (PEP 440, "Handling of pre-releases").
     pub fn is_pre(&self) -> bool
         ensures { result ≡ is_pre_release self.now }
     {
@@ -262,8 +270,8 @@ impl Version {
         push_epoch(&mut text, self.epoch)?;
         push_release(&mut text, self.release.as_slice())?;
         push_pre(&mut text, self.pre)?;
-        push_post(&mut text, self.post)?;
-        push_dev(&mut text, self.dev)?;
+        push_part(&mut text, ".post", self.post)?;
+        push_part(&mut text, ".dev", self.dev)?;
         push_label(&mut text, self.label.as_slice())?;
         Ok(text)
     }
@@ -275,13 +283,6 @@ impl Version {
     {
         let release = Vec::from_slice(alloc, self.release.as_slice())?;
         let label = label_copied(alloc, self.label.as_slice())?;
-        Ok(Version {
-            epoch: self.epoch,
-            release,
-            pre: self.pre,
-            post: self.post,
-            dev: self.dev,
-            label,
-        })
+        Ok(Version::with_parts(self.epoch, release, self.pre, self.post, self.dev, label))
     }
 }

@@ -12,7 +12,8 @@ left_len (Some rest) = suc (length rest.now)
 
 abbrev pub invariant-loop-rest : goal.invariant-loop-rest
 invariant-loop-rest l =
-    (l.numbers.items ++ map (digits_value 10) (left_parts 46 l.rest) ≡ map (digits_value 10) (dotted_parts l.fn.text))
+    (l.numbers.items ++ map (digits_value 10) (left_parts 46 l.rest)
+    ≡ map (digits_value 10) (dotted_parts l.fn.text))
     × (list_all is_number (left_parts 46 l.rest) ≡ true) × AllByRecursion Fits l.numbers.items
 
 abbrev pub decreases-loop-rest : goal.decreases-loop-rest

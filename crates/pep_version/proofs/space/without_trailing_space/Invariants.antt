@@ -5,7 +5,8 @@ use Rattle.pep_version.specs.Spelling.{without_trailing_space}
 use Rattle.pep_version.proofs.space.without_trailing_space.Given as goal
 
 abbrev pub invariant-loop-last : goal.invariant-loop-last
-invariant-loop-last l = shadow (Utf8 l.rest) × (without_trailing_space l.rest ≡ without_trailing_space l.text)
+invariant-loop-last l =
+    shadow (Utf8 l.rest) × (without_trailing_space l.rest ≡ without_trailing_space l.text)
 
 abbrev pub decreases-loop-last : goal.decreases-loop-last
 decreases-loop-last l = length l.rest

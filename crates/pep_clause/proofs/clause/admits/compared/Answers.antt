@@ -1,6 +1,6 @@
 use Rattle.std.proofs.Common.{◌≡◌, ◌∙◌}
 use Rattle.pep_version.specs.Order.{place_of, version_cmp}
-use Rattle.pep_version.specs.Laws.{version_cmp-place_of}
+use Rattle.pep_version.proofs.PlaceLemmas.{version_cmp-place_of}
 use Rattle.pep_clause.proofs.clause.admits.compared.Goals as goal
 
 pub returns-clause-order : goal.returns-clause-order

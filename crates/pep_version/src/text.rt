@@ -1,0 +1,142 @@
+// The normal text of each part of a version.
+
+ghost use Rattle.std.specs.Prelude.{
+  ◌≡◌,
+  ◌++◌,
+  ◌==◌,
+  [],
+  codes,
+  decimal,
+  if◌then◌else◌,
+  map,
+  string_bytes,
+  OnOk,
+  IfErr,
+};
+ghost use Rattle.pep_version.specs.Text.{
+  epoch_text,
+  label_text,
+  part_text,
+  phase_text,
+  pre_text,
+  release_text,
+  segment_text,
+};
+ghost use Rattle.pep_version.specs.View.{segment_of};
+
+use crate::fault::VersionFault;
+use crate::parts::{Label, Phase};
+use itoa::Buffer;
+
+fn push_number(text: &mut String, n: u64) -> Result<(), VersionFault>
+    ensures ok { OnOk result (string_bytes text.new ≡ string_bytes text.old ++ decimal n) }
+    ensures faults { IfErr result (λ e. e ≡ VersionFault.NoMemory) }
+{
+    let mut buffer = Buffer::new();
+    text.push_str(buffer.format(n))?;
+    Ok(())
+}
+
+// The dot before a part, unless the part is the first.
+fn push_dot(text: &mut String, position: usize) -> Result<(), VersionFault>
+    ensures ok { OnOk result (string_bytes text.new ≡ string_bytes text.old
+        ++ (if position == 0 then [] else codes ".")) }
+    ensures faults { IfErr result (λ e. e ≡ VersionFault.NoMemory) }
+{
+    if position > 0 {
+        text.push_str(".")?;
+    }
+    Ok(())
+}
+
+/// Appends the epoch, unless it is 0.
+pub(crate) fn push_epoch(text: &mut String, epoch: u64) -> Result<(), VersionFault>
+    ensures ok { OnOk result (string_bytes text.new ≡ string_bytes text.old ++ epoch_text epoch) }
+    ensures faults { IfErr result (λ e. e ≡ VersionFault.NoMemory) }
+{
+    if epoch != 0 {
+        push_number(text, epoch)?;
+        text.push_str("!")?;
+    }
+    Ok(())
+}
+
+/// Appends the release.
+pub(crate) fn push_release(text: &mut String, release: &[u64]) -> Result<(), VersionFault>
+    ensures ok { OnOk result (string_bytes text.new ≡ string_bytes text.old
+        ++ release_text release.now) }
+    ensures faults { IfErr result (λ e. e ≡ VersionFault.NoMemory) }
+{
+    for (i, n) in release.iter().enumerate() {
+        push_dot(text, i)?;
+        push_number(text, *n)?;
+    }
+    Ok(())
+}
+
+fn phase_text(phase: Phase) -> &'static str
+    ensures { result.now ≡ phase_text phase }
+{
+    match phase {
+        Phase::Alpha => "a",
+        Phase::Beta => "b",
+        Phase::Rc => "rc",
+    }
+}
+
+/// Appends the pre-release part.
+pub(crate) fn push_pre(text: &mut String, pre: Option<(Phase, u64)>) -> Result<(), VersionFault>
+    ensures ok { OnOk result (string_bytes text.new ≡ string_bytes text.old ++ pre_text pre) }
+    ensures faults { IfErr result (λ e. e ≡ VersionFault.NoMemory) }
+{
+    if let Some((phase, n)) = pre {
+        text.push_str(phase_text(phase))?;
+        push_number(text, n)?;
+    }
+    Ok(())
+}
+
+/// Appends the word and the number of a part, if the part is there.
+pub(crate) fn push_part(
+    text: &mut String,
+    word: &str,
+    number: Option<u64>,
+) -> Result<(), VersionFault>
+    ensures ok { OnOk result (string_bytes text.new ≡ string_bytes text.old
+        ++ part_text word.now number) }
+    ensures faults { IfErr result (λ e. e ≡ VersionFault.NoMemory) }
+{
+    if let Some(n) = number {
+        text.push_str(word)?;
+        push_number(text, n)?;
+    }
+    Ok(())
+}
+
+fn push_segment(text: &mut String, segment: &Label) -> Result<(), VersionFault>
+    ensures ok { OnOk result (string_bytes text.new ≡ string_bytes text.old
+        ++ segment_text (segment_of segment.now)) }
+    ensures faults { IfErr result (λ e. e ≡ VersionFault.NoMemory) }
+{
+    match segment {
+        Label::Number(n) => push_number(text, *n)?,
+        Label::Word(word) => text.push_str(word.as_str())?,
+    }
+    Ok(())
+}
+
+/// Appends the label.
+pub(crate) fn push_label(text: &mut String, label: &[Label]) -> Result<(), VersionFault>
+    ensures ok { OnOk result (string_bytes text.new ≡ string_bytes text.old
+        ++ label_text (map segment_of label.now)) }
+    ensures faults { IfErr result (λ e. e ≡ VersionFault.NoMemory) }
+{
+    if !label.is_empty() {
+        text.push_str("+")?;
+    }
+    for (i, segment) in label.iter().enumerate() {
+        push_dot(text, i)?;
+        push_segment(text, segment)?;
+    }
+    Ok(())
+}
