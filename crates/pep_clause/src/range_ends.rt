@@ -44,7 +44,8 @@ fn next_number(n: u64) -> Option<u64>
 // The cut directly after all pre-releases of the phase: before the first of the next phase, or
 // before the release.
 fn next_phase(alloc: Global, version: &Version, phase: Phase) -> Result<Cut, ClauseFault>
-    ensures place { IfOk result (λ c. c ≡ next_phase phase (without_dev (without_post version.now))) }
+    ensures place { IfOk result (λ c.
+        c ≡ next_phase phase (without_dev (without_post version.now))) }
     ensures spelled { IfOk result (λ c. IsCut c) }
     ensures faults { IfErr result (λ e. e ≡ ClauseFault.NoMemory) }
 {
