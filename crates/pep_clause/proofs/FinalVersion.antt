@@ -6,7 +6,8 @@ use Rattle.pep_clause.specs.Clause.{prefix_of}
 use Rattle.pep_clause.specs.Cut.{final_version}
 
 -- an epoch and a release whose numbers fit are a version
-pub IsVersion-release : (epoch : ℕ) (release : List ℕ) → Fits epoch → 0 < length release → AllByRecursion Fits release
+pub IsVersion-release : (epoch : ℕ) (release : List ℕ) → Fits epoch → 0 < length release →
+    AllByRecursion Fits release
     → IsVersion (final_version (record { epoch = epoch; release = release }))
 IsVersion-release epoch release e some fits = record {
   release = some;
@@ -16,4 +17,5 @@ IsVersion-release epoch release e some fits = record {
 
 -- a prefix of a version is one
 pub IsVersion-prefix_of : (v : Version) → IsVersion v → IsVersion (final_version (prefix_of v))
-IsVersion-prefix_of v h = IsVersion-release v.epoch v.release h.numbers.epoch h.release h.numbers.release
+IsVersion-prefix_of v h =
+    IsVersion-release v.epoch v.release h.numbers.epoch h.release h.numbers.release

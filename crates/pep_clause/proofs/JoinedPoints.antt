@@ -1,5 +1,6 @@
 -- The points and the versions of what two lists of ranges have in common.
-use Rattle.std.proofs.Common.{◌≡◌, ◌&&◌, ◌||◌, Bool, true, false, not, List, [], ◌∷◌, ◌++◌, refl, sym, ap, ◌∙◌, ◌≤◌, ◌<◌, length, get_or, arith}
+use Rattle.std.proofs.Common.{◌≡◌, ◌&&◌, ◌||◌, Bool, true, false, not, List, [], ◌∷◌, ◌++◌, refl}
+use Rattle.std.proofs.Common.{sym, ap, ◌∙◌, ◌≤◌, ◌<◌, length, get_or, arith}
 use Rattle.std.specs.Ordering.{is_ge, is_lt}
 use Rattle.std.specs.declared.cmp.Ordering.{Ordering}
 use Rattle.std.specs.declared.cmp.Ordering.TheVariants.{Less, Equal, Greater}
@@ -8,11 +9,15 @@ use Rattle.pep_version.specs.Version.{Version}
 use Rattle.pep_clause.specs.Cut.{Cut, before, cut_cmp}
 use Rattle.pep_clause.specs.Laws.{cut_total}
 use Rattle.pep_clause.proofs.UnderCut.{is_in-is_point}
-use Rattle.pep_clause.specs.Joined.{all_within, are_within, range_joined, is_within, joined, row_joined, earlier, later}
+use Rattle.pep_clause.specs.Joined.{all_within, are_within, range_joined, is_within, joined}
+use Rattle.pep_clause.specs.Joined.{row_joined, earlier, later}
 use Rattle.pep_clause.specs.OperatorTable.{range}
 use Rattle.pep_clause.specs.VersionSet.{Range, is_in, is_point}
-use Rattle.pep_clause.proofs.Between.{below-earlier, below-not_above, is_between, less_told, none_between, not_below-later}
-use Rattle.pep_version.proofs.Connectives.{by_answer, and-false, and_from, and_given, and_parts, or-false, or_assoc, or_given, and-or_distrib_left, and-or_distrib_right, answers_differ, not-true}
+use Rattle.pep_clause.proofs.Between.{below-earlier, below-not_above, is_between, less_told}
+use Rattle.pep_clause.proofs.Between.{none_between, not_below-later}
+use Rattle.pep_version.proofs.Connectives.{by_answer, and-false, and_from, and_given, and_parts}
+use Rattle.pep_version.proofs.Connectives.{or-false, or_assoc, or_given, and-or_distrib_left}
+use Rattle.pep_version.proofs.Connectives.{and-or_distrib_right, answers_differ, not-true}
 
 -- the points of one range
 abbrev pub has_point : Range → Cut → Bool
@@ -26,26 +31,34 @@ pair_up true false false s = refl
 pair_up false q r s = refl
 
 -- the points of two lists together
-pub is_point-append : (xs ys : List Range) (c : Cut) → is_point (xs ++ ys) c ≡ (is_point xs c || is_point ys c)
+pub is_point-append : (xs ys : List Range) (c : Cut) → is_point (xs ++ ys) c
+    ≡ (is_point xs c || is_point ys c)
 is_point-append [] ys c = refl
-is_point-append (r ∷ xs) ys c = ap (λ b. has_point r c || b) (is_point-append xs ys c) ∙ sym (or_assoc (has_point r c) (is_point xs c) (is_point ys c))
+is_point-append (r ∷ xs) ys c =
+    ap (λ b. has_point r c || b) (is_point-append xs ys c)
+    ∙ sym (or_assoc (has_point r c) (is_point xs c) (is_point ys c))
 
 range_by : (b : Bool) (low high c : Cut) → is_lt (cut_cmp low high) ≡ b
-    → is_point (if b then record { low = low; high = high } ∷ [] else []) c ≡ is_between cut_cmp low high c
+    → is_point (if b then record { low = low; high = high } ∷ [] else []) c
+    ≡ is_between cut_cmp low high c
 range_by true low high c e = or-false (is_between cut_cmp low high c)
 range_by false low high c e = sym (none_between cut_total low high c e)
 
 -- the points of a range, which is left out where it is empty
-pub is_point-range : (low high c : Cut) → is_point (range low high) c ≡ is_between cut_cmp low high c
+pub is_point-range : (low high c : Cut) → is_point (range low high) c
+    ≡ is_between cut_cmp low high c
 is_point-range low high c = range_by (is_lt (cut_cmp low high)) low high c refl
 
-pub is_point-range_joined : (r s : Range) (c : Cut) → is_point (range_joined r s) c ≡ (has_point r c && has_point s c)
+pub is_point-range_joined : (r s : Range) (c : Cut) → is_point (range_joined r s) c
+    ≡ (has_point r c && has_point s c)
 is_point-range_joined r s c =
     is_point-range (later cut_cmp r.low s.low) (earlier cut_cmp r.high s.high) c
     ∙ (λ i. below-earlier cut_total c r.high s.high i && not_below-later cut_total c r.low s.low i)
-    ∙ pair_up (is_lt (cut_cmp c r.high)) (is_lt (cut_cmp c s.high)) (not (is_lt (cut_cmp c r.low))) (not (is_lt (cut_cmp c s.low)))
+    ∙ pair_up (is_lt (cut_cmp c r.high)) (is_lt (cut_cmp c s.high)) (not (is_lt (cut_cmp c r.low)))
+    (not (is_lt (cut_cmp c s.low)))
 
-pub is_point-row_joined : (r : Range) (others : List Range) (c : Cut) → is_point (row_joined r others) c ≡ (has_point r c && is_point others c)
+pub is_point-row_joined : (r : Range) (others : List Range) (c : Cut) →
+    is_point (row_joined r others) c ≡ (has_point r c && is_point others c)
 is_point-row_joined r [] c = sym (and-false (has_point r c))
 is_point-row_joined r (s ∷ rest) c =
     is_point-append (range_joined r s) (row_joined r rest) c
@@ -53,7 +66,8 @@ is_point-row_joined r (s ∷ rest) c =
     ∙ sym (and-or_distrib_left (has_point r c) (has_point s c) (is_point rest c))
 
 -- a cut is a point of what two lists have in common exactly if it is one of both
-pub is_point-joined : (ranges others : List Range) (c : Cut) → is_point (joined ranges others) c ≡ (is_point ranges c && is_point others c)
+pub is_point-joined : (ranges others : List Range) (c : Cut) →
+    is_point (joined ranges others) c ≡ (is_point ranges c && is_point others c)
 is_point-joined [] others c = refl
 is_point-joined (r ∷ rest) others c =
     is_point-append (row_joined r others) (joined rest others) c
@@ -61,7 +75,8 @@ is_point-joined (r ∷ rest) others c =
     ∙ sym (and-or_distrib_right (has_point r c) (is_point rest c) (is_point others c))
 
 -- a version is in what two lists have in common exactly if it is in both
-pub is_in-joined : (ranges others : List Range) (v : Version) → is_in (joined ranges others) v ≡ (is_in ranges v && is_in others v)
+pub is_in-joined : (ranges others : List Range) (v : Version) →
+    is_in (joined ranges others) v ≡ (is_in ranges v && is_in others v)
 is_in-joined ranges others v =
     is_in-is_point (joined ranges others) v
     ∙ is_point-joined ranges others (before v)
@@ -75,18 +90,25 @@ not_less Equal e = refl
 not_less Greater e = refl
 
 -- a point of a range is one of the range that it lies in
-point_within : (r s : Range) (c : Cut) → is_within r s ≡ true → has_point r c ≡ true → (has_point s c || false) ≡ true
+point_within : (r s : Range) (c : Cut) → is_within r s ≡ true → has_point r c ≡ true →
+    (has_point s c || false) ≡ true
 point_within r s c e h =
     let within = and_parts (is_ge (cut_cmp r.low s.low)) (is_ge (cut_cmp s.high r.high)) e in
     let inside = and_parts (is_lt (cut_cmp c r.high)) (not (is_lt (cut_cmp c r.low))) h in
-    let below : is_lt (cut_cmp c s.high) ≡ true = ap is_lt (below-not_above cut_total c r.high s.high (less_told _ inside.0) (not_less _ within.1)) in
-    or-false (has_point s c) ∙ and_from (is_lt (cut_cmp c s.high)) (not (is_lt (cut_cmp c s.low))) below
+    let below : is_lt (cut_cmp c s.high) ≡ true =
+    ap is_lt (below-not_above cut_total c r.high s.high (less_told _ inside.0)
+    (not_less _ within.1)) in
+    or-false (has_point s c) ∙ and_from (is_lt (cut_cmp c s.high))
+    (not (is_lt (cut_cmp c s.low))) below
     (by_answer (is_lt (cut_cmp c s.low))
-    (λ t. answers_differ (is_lt (cut_cmp c r.low)) (is_lt (cut_cmp c r.low)) refl (ap is_lt (below-not_above cut_total c s.low r.low (less_told _ t) (not_less _ within.0))) (not-true (is_lt (cut_cmp c r.low)) inside.1))
+    (λ t. answers_differ (is_lt (cut_cmp c r.low)) (is_lt (cut_cmp c r.low)) refl
+    (ap is_lt (below-not_above cut_total c s.low r.low (less_told _ t) (not_less _ within.0)))
+    (not-true (is_lt (cut_cmp c r.low)) inside.1))
     (λ t. ap not t))
 
 -- the points of ranges that lie in one range are points of that range
-pub is_point-within : (ranges others : List Range) (c : Cut) → are_within ranges others ≡ true → is_point ranges c ≡ (is_point ranges c && is_point others c)
+pub is_point-within : (ranges others : List Range) (c : Cut) → are_within ranges others ≡ true →
+    is_point ranges c ≡ (is_point ranges c && is_point others c)
 is_point-within ranges [] c e = cc e
 is_point-within [] (s ∷ []) c e = refl
 is_point-within (r ∷ rest) (s ∷ []) c e =
@@ -97,14 +119,16 @@ is_point-within (r ∷ rest) (s ∷ []) c e =
 is_point-within ranges (s ∷ t ∷ rest) c e = cc e
 
 -- and so are their versions
-pub is_in-within : (ranges others : List Range) (v : Version) → are_within ranges others ≡ true → is_in ranges v ≡ (is_in ranges v && is_in others v)
+pub is_in-within : (ranges others : List Range) (v : Version) → are_within ranges others ≡ true →
+    is_in ranges v ≡ (is_in ranges v && is_in others v)
 is_in-within ranges others v e =
     is_in-is_point ranges v
     ∙ is_point-within ranges others (before v) e
     ∙ (λ i. sym (is_in-is_point ranges v) i && sym (is_in-is_point others v) i)
 
 -- where there is one other range
-pub one_other : (ranges others : List Range) (s : Range) → 1 ≤ length others → length others < 2 → s ≡ get_or others 0 s → all_within ranges s ≡ are_within ranges others
+pub one_other : (ranges others : List Range) (s : Range) → 1 ≤ length others → length others < 2 →
+    s ≡ get_or others 0 s → all_within ranges s ≡ are_within ranges others
 one_other ranges [] s some one e = absurd (omega (arith, some))
 one_other ranges (t ∷ []) s some one e = ap (all_within ranges) e
 one_other ranges (t ∷ u ∷ rest) s some one e = absurd (omega (arith, one))

@@ -6,27 +6,36 @@ use Rattle.pep_clause.specs.Cut.{Cut, IsCut, cut_cmp}
 use Rattle.pep_clause.specs.Laws.{cut_total}
 use Rattle.pep_clause.specs.OperatorTable.{range}
 use Rattle.pep_clause.specs.VersionSet.{IsNormal, Range}
-use Rattle.pep_clause.proofs.Between.{below-later_first, below-later_second, earlier-keeps, earlier-not_above_first, earlier-not_above_second, later-keeps, less_told}
+use Rattle.pep_clause.proofs.Between.{below-later_first, below-later_second, earlier-keeps}
+use Rattle.pep_clause.proofs.Between.{earlier-not_above_first, earlier-not_above_second}
+use Rattle.pep_clause.proofs.Between.{later-keeps, less_told}
 use Rattle.pep_clause.specs.Joined.{earlier, later, range_joined, joined, row_joined}
-use Rattle.pep_clause.proofs.NormalLists.{AllAbove, AllAbove-append, Apart, Apart-append, IsNormal-apart, IsNormal-from, IsNormal-spelled, NoneBeyond, NoneBeyond-append, Spelled, Spelled-append, Under}
+use Rattle.pep_clause.proofs.NormalLists.{AllAbove, AllAbove-append, Apart, Apart-append}
+use Rattle.pep_clause.proofs.NormalLists.{IsNormal-apart, IsNormal-from, IsNormal-spelled}
+use Rattle.pep_clause.proofs.NormalLists.{NoneBeyond, NoneBeyond-append, Spelled, Spelled-append}
+use Rattle.pep_clause.proofs.NormalLists.{Under}
 
 -- a range that is left out where it is empty
-apart_by : (b : Bool) (low high : Cut) → is_lt (cut_cmp low high) ≡ b → Apart (if b then record { low = low; high = high } ∷ [] else [])
+apart_by : (b : Bool) (low high : Cut) → is_lt (cut_cmp low high) ≡ b →
+    Apart (if b then record { low = low; high = high } ∷ [] else [])
 apart_by true low high e = (less_told (cut_cmp low high) e, tt, tt)
 apart_by false low high e = tt
 
 pub Apart-range : (low high : Cut) → Apart (range low high)
 Apart-range low high = apart_by (is_lt (cut_cmp low high)) low high refl
 
-pub above_by : (b : Bool) (c low high : Cut) → Under c low → AllAbove c (if b then record { low = low; high = high } ∷ [] else [])
+pub above_by : (b : Bool) (c low high : Cut) → Under c low →
+    AllAbove c (if b then record { low = low; high = high } ∷ [] else [])
 above_by true c low high e = (e, tt)
 above_by false c low high e = tt
 
-pub beyond_by : (b : Bool) (c low high : Cut) → is_lt (cut_cmp c high) ≡ false → NoneBeyond c (if b then record { low = low; high = high } ∷ [] else [])
+pub beyond_by : (b : Bool) (c low high : Cut) → is_lt (cut_cmp c high) ≡ false →
+    NoneBeyond c (if b then record { low = low; high = high } ∷ [] else [])
 beyond_by true c low high e = (e, tt)
 beyond_by false c low high e = tt
 
-spelled_by : (b : Bool) (low high : Cut) → IsCut low → IsCut high → Spelled (if b then record { low = low; high = high } ∷ [] else [])
+spelled_by : (b : Bool) (low high : Cut) → IsCut low → IsCut high →
+    Spelled (if b then record { low = low; high = high } ∷ [] else [])
 spelled_by true low high e f = (e, f, tt)
 spelled_by false low high e f = tt
 
@@ -35,7 +44,8 @@ Spelled-range low high = spelled_by (is_lt (cut_cmp low high)) low high
 
 -- a range with spelled cuts, left out where it is empty, is a normal list
 pub IsNormal-range : (low high : Cut) → IsCut low → IsCut high → IsNormal (range low high)
-IsNormal-range low high e f = IsNormal-from (range low high) (Apart-range low high) (Spelled-range low high e f)
+IsNormal-range low high e f =
+    IsNormal-from (range low high) (Apart-range low high) (Spelled-range low high e f)
 
 -- ---- one range with one
 
@@ -46,18 +56,27 @@ abbrev high_of : Range → Range → Cut
 high_of r s = earlier cut_cmp r.high s.high
 
 range_joined_above_first : (c : Cut) (r s : Range) → Under c r.low → AllAbove c (range_joined r s)
-range_joined_above_first c r s e = above_by (is_lt (cut_cmp (low_of r s) (high_of r s))) c (low_of r s) (high_of r s) (below-later_first cut_total c r.low s.low e)
+range_joined_above_first c r s e =
+    above_by (is_lt (cut_cmp (low_of r s) (high_of r s))) c (low_of r s) (high_of r s)
+    (below-later_first cut_total c r.low s.low e)
 
 range_joined_above_second : (c : Cut) (r s : Range) → Under c s.low → AllAbove c (range_joined r s)
-range_joined_above_second c r s e = above_by (is_lt (cut_cmp (low_of r s) (high_of r s))) c (low_of r s) (high_of r s) (below-later_second cut_total c r.low s.low e)
+range_joined_above_second c r s e =
+    above_by (is_lt (cut_cmp (low_of r s) (high_of r s))) c (low_of r s) (high_of r s)
+    (below-later_second cut_total c r.low s.low e)
 
 range_joined_within_first : (r s : Range) → NoneBeyond r.high (range_joined r s)
-range_joined_within_first r s = beyond_by (is_lt (cut_cmp (low_of r s) (high_of r s))) r.high (low_of r s) (high_of r s) (earlier-not_above_first cut_total r.high s.high)
+range_joined_within_first r s =
+    beyond_by (is_lt (cut_cmp (low_of r s) (high_of r s))) r.high (low_of r s) (high_of r s)
+    (earlier-not_above_first cut_total r.high s.high)
 
 range_joined_within_second : (r s : Range) → NoneBeyond s.high (range_joined r s)
-range_joined_within_second r s = beyond_by (is_lt (cut_cmp (low_of r s) (high_of r s))) s.high (low_of r s) (high_of r s) (earlier-not_above_second cut_total r.high s.high)
+range_joined_within_second r s =
+    beyond_by (is_lt (cut_cmp (low_of r s) (high_of r s))) s.high (low_of r s) (high_of r s)
+    (earlier-not_above_second cut_total r.high s.high)
 
-range_joined_spelled : (r s : Range) → IsCut r.low → IsCut r.high → IsCut s.low → IsCut s.high → Spelled (range_joined r s)
+range_joined_spelled : (r s : Range) → IsCut r.low → IsCut r.high → IsCut s.low → IsCut s.high →
+    Spelled (range_joined r s)
 range_joined_spelled r s e f g h =
     Spelled-range (low_of r s) (high_of r s)
     (later-keeps IsCut (is_lt (cut_cmp r.low s.low)) r.low s.low e g)
@@ -65,17 +84,25 @@ range_joined_spelled r s e f g h =
 
 -- ---- one range with a list
 
-row_above_first : (c : Cut) (r : Range) (others : List Range) → Under c r.low → AllAbove c (row_joined r others)
+row_above_first : (c : Cut) (r : Range) (others : List Range) → Under c r.low →
+    AllAbove c (row_joined r others)
 row_above_first c r [] e = tt
-row_above_first c r (s ∷ rest) e = AllAbove-append c (range_joined r s) (row_joined r rest) (range_joined_above_first c r s e) (row_above_first c r rest e)
+row_above_first c r (s ∷ rest) e =
+    AllAbove-append c (range_joined r s) (row_joined r rest) (range_joined_above_first c r s e)
+    (row_above_first c r rest e)
 
-row_above_second : (c : Cut) (r : Range) (others : List Range) → AllAbove c others → AllAbove c (row_joined r others)
+row_above_second : (c : Cut) (r : Range) (others : List Range) → AllAbove c others →
+    AllAbove c (row_joined r others)
 row_above_second c r [] h = tt
-row_above_second c r (s ∷ rest) h = AllAbove-append c (range_joined r s) (row_joined r rest) (range_joined_above_second c r s h.0) (row_above_second c r rest h.1)
+row_above_second c r (s ∷ rest) h =
+    AllAbove-append c (range_joined r s) (row_joined r rest) (range_joined_above_second c r s h.0)
+    (row_above_second c r rest h.1)
 
 row_within : (r : Range) (others : List Range) → NoneBeyond r.high (row_joined r others)
 row_within r [] = tt
-row_within r (s ∷ rest) = NoneBeyond-append r.high (range_joined r s) (row_joined r rest) (range_joined_within_first r s) (row_within r rest)
+row_within r (s ∷ rest) =
+    NoneBeyond-append r.high (range_joined r s) (row_joined r rest) (range_joined_within_first r s)
+    (row_within r rest)
 
 row_apart : (r : Range) (others : List Range) → Apart others → Apart (row_joined r others)
 row_apart r [] h = tt
@@ -84,32 +111,40 @@ row_apart r (s ∷ rest) h =
     (Apart-range (low_of r s) (high_of r s)) (row_apart r rest h.2)
     (range_joined_within_second r s) (row_above_second s.high r rest h.1)
 
-row_spelled : (r : Range) (others : List Range) → IsCut r.low → IsCut r.high → Spelled others → Spelled (row_joined r others)
+row_spelled : (r : Range) (others : List Range) → IsCut r.low → IsCut r.high → Spelled others →
+    Spelled (row_joined r others)
 row_spelled r [] e f h = tt
 row_spelled r (s ∷ rest) e f h =
-    Spelled-append (range_joined r s) (row_joined r rest) (range_joined_spelled r s e f h.0 h.1) (row_spelled r rest e f h.2)
+    Spelled-append (range_joined r s) (row_joined r rest) (range_joined_spelled r s e f h.0 h.1)
+    (row_spelled r rest e f h.2)
 
 -- ---- two lists
 
-joined_above : (c : Cut) (ranges others : List Range) → AllAbove c ranges → AllAbove c (joined ranges others)
+joined_above : (c : Cut) (ranges others : List Range) → AllAbove c ranges →
+    AllAbove c (joined ranges others)
 joined_above c [] others h = tt
 joined_above c (r ∷ rest) others h =
-    AllAbove-append c (row_joined r others) (joined rest others) (row_above_first c r others h.0) (joined_above c rest others h.1)
+    AllAbove-append c (row_joined r others) (joined rest others) (row_above_first c r others h.0)
+    (joined_above c rest others h.1)
 
-joined_apart : (ranges others : List Range) → Apart ranges → Apart others → Apart (joined ranges others)
+joined_apart : (ranges others : List Range) → Apart ranges → Apart others →
+    Apart (joined ranges others)
 joined_apart [] others h g = tt
 joined_apart (r ∷ rest) others h g =
     Apart-append r.high (row_joined r others) (joined rest others)
     (row_apart r others g) (joined_apart rest others h.2 g)
     (row_within r others) (joined_above r.high rest others h.1)
 
-joined_spelled : (ranges others : List Range) → Spelled ranges → Spelled others → Spelled (joined ranges others)
+joined_spelled : (ranges others : List Range) → Spelled ranges → Spelled others →
+    Spelled (joined ranges others)
 joined_spelled [] others h g = tt
 joined_spelled (r ∷ rest) others h g =
-    Spelled-append (row_joined r others) (joined rest others) (row_spelled r others h.0 h.1 g) (joined_spelled rest others h.2 g)
+    Spelled-append (row_joined r others) (joined rest others) (row_spelled r others h.0 h.1 g)
+    (joined_spelled rest others h.2 g)
 
 -- what two normal lists have in common is a normal list
-pub IsNormal-joined : (ranges others : List Range) → IsNormal ranges → IsNormal others → IsNormal (joined ranges others)
+pub IsNormal-joined : (ranges others : List Range) → IsNormal ranges → IsNormal others →
+    IsNormal (joined ranges others)
 IsNormal-joined ranges others h g =
     IsNormal-from (joined ranges others)
     (joined_apart ranges others (IsNormal-apart ranges h) (IsNormal-apart others g))

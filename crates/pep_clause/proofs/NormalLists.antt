@@ -1,4 +1,5 @@
--- Normal lists, range by range: no range is empty, and each range ends below the beginnings of all that follow.
+-- Normal lists, range by range: no range is empty, and each range ends below the beginnings of all
+-- that follow.
 use Rattle.std.proofs.Common.{◌≡◌, false, List, [], ◌∷◌, ◌++◌}
 use Rattle.std.specs.List.{AllByRecursion}
 use Rattle.std.specs.Ordering.{is_lt}
@@ -40,7 +41,8 @@ cuts-Spelled [] s = tt
 cuts-Spelled (r ∷ rest) s = (s.0, s.1.0, cuts-Spelled rest s.1.1)
 
 -- what is above a cut is above each cut below it
-pub AllAbove-lower : (c d : Cut) (ranges : List Range) → Under c d → AllAbove d ranges → AllAbove c ranges
+pub AllAbove-lower : (c d : Cut) (ranges : List Range) → Under c d → AllAbove d ranges →
+    AllAbove c ranges
 AllAbove-lower c d [] e h = tt
 AllAbove-lower c d (r ∷ rest) e h = (cut_total.trans c d r.low e h.0, AllAbove-lower c d rest e h.1)
 
@@ -49,8 +51,10 @@ Apart-cuts [] h = tt
 Apart-cuts (r ∷ []) h = (h.0, tt)
 Apart-cuts (r ∷ s ∷ rest) h = (h.0, (h.1.0, Apart-cuts (s ∷ rest) h.2))
 
-above_first : (c : Cut) (r : Range) (rest : List Range) → Under c r.low → Apart (r ∷ rest) → AllAbove c (r ∷ rest)
-above_first c r rest e h = (e, AllAbove-lower c r.high rest (cut_total.trans c r.low r.high e h.0) h.1)
+above_first : (c : Cut) (r : Range) (rest : List Range) → Under c r.low → Apart (r ∷ rest) →
+    AllAbove c (r ∷ rest)
+above_first c r rest e h =
+    (e, AllAbove-lower c r.high rest (cut_total.trans c r.low r.high e h.0) h.1)
 
 cuts-Apart : (ranges : List Range) → IsIncreasing (cuts ranges) → Apart ranges
 cuts-Apart [] h = tt
@@ -60,7 +64,8 @@ cuts-Apart (r ∷ s ∷ rest) h =
     (h.0, above_first r.high s rest h.1.0 later, later)
 
 pub IsNormal-from : (ranges : List Range) → Apart ranges → Spelled ranges → IsNormal ranges
-IsNormal-from ranges apart spelled = record { increasing = Apart-cuts ranges apart; spelled = Spelled-cuts ranges spelled }
+IsNormal-from ranges apart spelled =
+    record { increasing = Apart-cuts ranges apart; spelled = Spelled-cuts ranges spelled }
 
 pub IsNormal-apart : (ranges : List Range) → IsNormal ranges → Apart ranges
 IsNormal-apart ranges n = cuts-Apart ranges n.increasing
@@ -70,11 +75,13 @@ IsNormal-spelled ranges n = cuts-Spelled ranges n.spelled
 
 -- ---- two lists, one behind the other
 
-pub AllAbove-append : (c : Cut) (xs ys : List Range) → AllAbove c xs → AllAbove c ys → AllAbove c (xs ++ ys)
+pub AllAbove-append : (c : Cut) (xs ys : List Range) → AllAbove c xs → AllAbove c ys →
+    AllAbove c (xs ++ ys)
 AllAbove-append c [] ys h g = g
 AllAbove-append c (r ∷ xs) ys h g = (h.0, AllAbove-append c xs ys h.1 g)
 
-pub NoneBeyond-append : (c : Cut) (xs ys : List Range) → NoneBeyond c xs → NoneBeyond c ys → NoneBeyond c (xs ++ ys)
+pub NoneBeyond-append : (c : Cut) (xs ys : List Range) → NoneBeyond c xs → NoneBeyond c ys →
+    NoneBeyond c (xs ++ ys)
 NoneBeyond-append c [] ys h g = g
 NoneBeyond-append c (r ∷ xs) ys h g = (h.0, NoneBeyond-append c xs ys h.1 g)
 
@@ -83,12 +90,18 @@ Spelled-append [] ys h g = g
 Spelled-append (r ∷ xs) ys h g = (h.0, h.1, Spelled-append xs ys h.2 g)
 
 -- what is above a cut is above each cut that is not above that
-AllAbove-not_above : (c d : Cut) (ranges : List Range) → is_lt (cut_cmp c d) ≡ false → AllAbove c ranges → AllAbove d ranges
+AllAbove-not_above : (c d : Cut) (ranges : List Range) → is_lt (cut_cmp c d) ≡ false →
+    AllAbove c ranges → AllAbove d ranges
 AllAbove-not_above c d [] e h = tt
-AllAbove-not_above c d (r ∷ rest) e h = (not_above-below cut_total d c r.low e h.0, AllAbove-not_above c d rest e h.1)
+AllAbove-not_above c d (r ∷ rest) e h =
+    (not_above-below cut_total d c r.low e h.0, AllAbove-not_above c d rest e h.1)
 
 -- where the first list ends at a cut or below it, and the second begins above it, the two are apart
-pub Apart-append : (c : Cut) (xs ys : List Range) → Apart xs → Apart ys → NoneBeyond c xs → AllAbove c ys → Apart (xs ++ ys)
+pub Apart-append : (c : Cut) (xs ys : List Range) → Apart xs → Apart ys → NoneBeyond c xs →
+    AllAbove c ys → Apart (xs ++ ys)
 Apart-append c [] ys h g e f = g
-Apart-append c (r ∷ xs) ys h g e f =
-    (h.0, AllAbove-append r.high xs ys h.1 (AllAbove-not_above c r.high ys e.0 f), Apart-append c xs ys h.2 g e.1 f)
+Apart-append c (r ∷ xs) ys h g e f = (
+  h.0,
+  AllAbove-append r.high xs ys h.1 (AllAbove-not_above c r.high ys e.0 f),
+  Apart-append c xs ys h.2 g e.1 f,
+)

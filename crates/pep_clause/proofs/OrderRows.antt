@@ -1,5 +1,7 @@
 -- Rows of comparisons: two chains that are turned round from one another, step by step.
-use Rattle.std.proofs.Common.{◌≡◌, ℕ, ◌+◌, ◌-◌, ◌^◌, ◌<◌, ◌≤◌, ◌==◌, Bool, true, false, cond, not, List, [], ◌∷◌, Option, Some, None, IfSome, nat_lt, refl, sym, ap, ◌∙◌, arith, ltb-true, ltb-false, lt-ltb, le-ltb}
+use Rattle.std.proofs.Common.{◌≡◌, ℕ, ◌+◌, ◌-◌, ◌^◌, ◌<◌, ◌≤◌, ◌==◌, Bool, true, false, cond, not}
+use Rattle.std.proofs.Common.{List, [], ◌∷◌, Option, Some, None, IfSome, nat_lt, refl, sym, ap, ◌∙◌}
+use Rattle.std.proofs.Common.{arith, ltb-true, ltb-false, lt-ltb, le-ltb}
 use Rattle.std.specs.Cmp.{nat_cmp_total}
 use Rattle.std.specs.Cmp.Lexicographic.{options_total, slice_cmp}
 use Rattle.std.specs.Option.{option_cmp}
@@ -10,6 +12,7 @@ use Rattle.pep_version.specs.Order.{dev_cmp, segment_cmp}
 use Rattle.pep_version.specs.Version.{Fits, Segment}
 use Rattle.pep_version.proofs.Connectives.{by_answer}
 use Rattle.pep_clause.specs.OperatorTable.{last}
+use Rattle.pep_version.specs.declared.parts.Phase.{Phase}
 
 -- the one is below exactly where the other is not
 abbrev pub Turned : Ordering → Ordering → Type 0
@@ -17,34 +20,46 @@ Turned x y = is_lt x ≡ not (is_lt y)
 
 -- ---- one step of a chain
 
-step_turned : (a x y : Ordering) → Turned x y → Turned (ordering_then a x) (ordering_then (ordering_reverse a) y)
+step_turned : (a x y : Ordering) → Turned x y →
+    Turned (ordering_then a x) (ordering_then (ordering_reverse a) y)
 step_turned Less x y e = refl
 step_turned Equal x y e = e
 step_turned Greater x y e = refl
 
 -- a step that is turned round decides for both
-pub then_turned : (a b x y : Ordering) → b ≡ ordering_reverse a → Turned x y → Turned (ordering_then a x) (ordering_then b y)
+pub then_turned : (a b x y : Ordering) → b ≡ ordering_reverse a → Turned x y →
+    Turned (ordering_then a x) (ordering_then b y)
 then_turned a b x y e f = rw e (step_turned a x y f)
 
-pub nat_turned : (m n : ℕ) (x y : Ordering) → Turned x y → Turned (ordering_then (nat_cmp m n) x) (ordering_then (nat_cmp n m) y)
+pub nat_turned : (m n : ℕ) (x y : Ordering) → Turned x y →
+    Turned (ordering_then (nat_cmp m n) x) (ordering_then (nat_cmp n m) y)
 nat_turned m n x y = then_turned (nat_cmp m n) (nat_cmp n m) x y (nat_cmp_total.antisymm n m)
 
-pub option_turned : (m n : Option ℕ) (x y : Ordering) → Turned x y → Turned (ordering_then (option_cmp nat_cmp m n) x) (ordering_then (option_cmp nat_cmp n m) y)
-option_turned m n x y = then_turned (option_cmp nat_cmp m n) (option_cmp nat_cmp n m) x y ((options_total nat_cmp_total).antisymm n m)
+pub option_turned : (m n : Option ℕ) (x y : Ordering) → Turned x y →
+    Turned (ordering_then (option_cmp nat_cmp m n) x) (ordering_then (option_cmp nat_cmp n m) y)
+option_turned m n x y =
+    then_turned (option_cmp nat_cmp m n) (option_cmp nat_cmp n m) x y
+    ((options_total nat_cmp_total).antisymm n m)
 
-pub then_assoc : (a b x : Ordering) → ordering_then (ordering_then a b) x ≡ ordering_then a (ordering_then b x)
+pub then_assoc : (a b x : Ordering) → ordering_then (ordering_then a b) x
+    ≡ ordering_then a (ordering_then b x)
 then_assoc Less b x = refl
 then_assoc Equal b x = refl
 then_assoc Greater b x = refl
 
 -- two steps that stand together
-pub pair_turned : (a b c d x y : Ordering) → Turned (ordering_then a (ordering_then b x)) (ordering_then c (ordering_then d y))
+pub pair_turned : (a b c d x y : Ordering) →
+    Turned (ordering_then a (ordering_then b x)) (ordering_then c (ordering_then d y))
     → Turned (ordering_then (ordering_then a b) x) (ordering_then (ordering_then c d) y)
-pair_turned a b c d x y e = ap is_lt (then_assoc a b x) ∙ e ∙ ap (λ r. not (is_lt r)) (sym (then_assoc c d y))
+pair_turned a b c d x y e =
+    ap is_lt (then_assoc a b x) ∙ e ∙ ap (λ r. not (is_lt r)) (sym (then_assoc c d y))
 
 pub stage_turned : (s t m n : ℕ) (x y : Ordering) → Turned x y
-    → Turned (ordering_then (ordering_then (nat_cmp s t) (nat_cmp m n)) x) (ordering_then (ordering_then (nat_cmp t s) (nat_cmp n m)) y)
-stage_turned s t m n x y e = pair_turned (nat_cmp s t) (nat_cmp m n) (nat_cmp t s) (nat_cmp n m) x y (nat_turned s t _ _ (nat_turned m n x y e))
+    → Turned (ordering_then (ordering_then (nat_cmp s t) (nat_cmp m n)) x)
+    (ordering_then (ordering_then (nat_cmp t s) (nat_cmp n m)) y)
+stage_turned s t m n x y e =
+    pair_turned (nat_cmp s t) (nat_cmp m n) (nat_cmp t s) (nat_cmp n m) x y
+    (nat_turned s t _ _ (nat_turned m n x y e))
 
 -- ---- numbers
 
@@ -62,7 +77,8 @@ then_not_below Less s e = refl
 then_not_below Equal s e = e
 then_not_below Greater s e = refl
 
-pub then_neither : (r s : Ordering) → is_lt r ≡ false → is_lt s ≡ false → is_lt (ordering_then r s) ≡ false
+pub then_neither : (r s : Ordering) → is_lt r ≡ false → is_lt s ≡ false →
+    is_lt (ordering_then r s) ≡ false
 then_neither r s e f = then_not_below r s f ∙ e
 
 lt_suc : (m n : ℕ) → nat_lt m (n + 1) ≡ not (nat_lt n m)
@@ -110,6 +126,11 @@ pub no_dev-not_below : (dev : Option ℕ) → is_lt (dev_cmp None dev) ≡ false
 no_dev-not_below None = refl
 no_dev-not_below (Some n) = refl
 
-pub post-not_above_last : (n : ℕ) (post : Option ℕ) → nat_lt n last ≡ false → IfSome post Fits → is_lt (option_cmp nat_cmp (Some n) post) ≡ false
+pub post-not_above_last : (n : ℕ) (post : Option ℕ) → nat_lt n last ≡ false → IfSome post Fits →
+    is_lt (option_cmp nat_cmp (Some n) post) ≡ false
 post-not_above_last n None e h = refl
 post-not_above_last n (Some m) e h = none-above_last n m e h
+
+-- the number of the pre-release, if there is one, fits
+abbrev pub PreFits : Option (Phase × ℕ) → Type 0
+PreFits pre = IfSome pre (λ p. Fits p.1)

@@ -1,8 +1,9 @@
 -- The ranges of `>=` and of `<` hold what these clauses admit.
-use Rattle.std.proofs.Common.{◌≡◌, ℕ, zero, suc, ◌<◌, ◌&&◌, ◌||◌, ◌==◌, Bool, true, false, not, List, [], ◌∷◌, length, Option, Some, None, is_some, nat_lt, refl, sym, ap, ◌∙◌, arith}
+use Rattle.std.proofs.Common.{◌≡◌, ℕ, zero, suc, ◌&&◌, ◌||◌, ◌==◌, Bool, true, false, not}
+use Rattle.std.proofs.Common.{List, [], ◌∷◌, Option, Some, None, is_some, nat_lt, refl, sym}
+use Rattle.std.proofs.Common.{◌∙◌, arith}
 use Rattle.std.specs.Cmp.{nat_cmp_is}
 use Rattle.std.specs.Cmp.Lexicographic.{slice_cmp}
-use Rattle.std.specs.List.{AllByRecursion}
 use Rattle.std.specs.Option.{option_cmp}
 use Rattle.std.specs.Ordering.{is_eq, is_le, is_lt, nat_cmp, ordering_then}
 use Rattle.std.specs.Prelude.{if◌then◌else◌}
@@ -11,14 +12,18 @@ use Rattle.std.specs.declared.cmp.Ordering.TheVariants.{Less, Equal, Greater}
 use Rattle.pep_version.specs.declared.parts.Phase.{Phase}
 use Rattle.pep_version.specs.declared.parts.Phase.TheVariants.{Alpha, Beta, Rc}
 use Rattle.pep_version.specs.Laws.{release_cmp-lists}
-use Rattle.pep_version.proofs.PlaceLemmas.{without_end_zeros-short, without_end_zeros-twice}
-use Rattle.pep_version.specs.Order.{dev_cmp, is_below, place_cmp, phase_rank, place_of, pre_number_of, public_version, release_cmp, segment_cmp, short_release, stage_of, suffix_cmp, without_end_zeros}
-use Rattle.pep_version.specs.Version.{Fits, IsVersion, Segment, Version, is_empty}
+use Rattle.pep_version.proofs.PlaceLemmas.{without_end_zeros-short}
+use Rattle.pep_version.proofs.PlaceLemmas.{place-of-place, place-version}
+use Rattle.pep_version.specs.Order.{dev_cmp, is_below, place_cmp, phase_rank, place_of}
+use Rattle.pep_version.specs.Order.{pre_number_of, public_version, release_cmp, segment_cmp}
+use Rattle.pep_version.specs.Order.{short_release, stage_of, suffix_cmp, without_end_zeros}
+use Rattle.pep_version.specs.Version.{IsVersion, Segment, Version}
 use Rattle.pep_clause.specs.Admits.{admits}
 use Rattle.pep_clause.proofs.Between.{not_above-test}
 use Rattle.pep_version.proofs.Connectives.{by_answer, or-false, and-true}
 use Rattle.pep_clause.specs.Clause.{Prefix, at_least, less_than}
-use Rattle.pep_clause.specs.Cut.{Cut, IsCut, before, after, past, end, cut_cmp, final_version, is_under, least}
+use Rattle.pep_clause.specs.Cut.{Cut, IsCut, before, after, past, end, cut_cmp, final_version}
+use Rattle.pep_clause.specs.Cut.{is_under, least}
 use Rattle.pep_clause.proofs.LeastCut.{none-below_least, none-under_least}
 use Rattle.pep_clause.specs.Laws.{cut_total}
 use Rattle.pep_clause.proofs.UnderCut.{is_under-cut_cmp}
@@ -26,11 +31,6 @@ use Rattle.pep_clause.specs.OperatorTable.{before_place, less_to, range, set_of,
 use Rattle.pep_clause.specs.VersionSet.{IsNormal, is_in}
 
 -- ---- releases in their short form
-
--- the short form is its own short form
-pub short-twice : (xs : List ℕ) → short_release (short_release xs) ≡ short_release xs
-short-twice [] = refl
-short-twice (n ∷ rest) = ap (λ (l : List ℕ). n ∷ l) (without_end_zeros-twice rest)
 
 -- a comparison with a short form is one with the release
 pub release_cmp-short : (xs ys : List ℕ) → release_cmp xs (short_release ys) ≡ release_cmp xs ys
@@ -41,7 +41,9 @@ release_cmp-short xs ys =
 
 -- being below a version looks at its place alone
 pub is_below-place_of : (v w : Version) → is_below v (place_of w) ≡ is_below v w
-is_below-place_of v w = λ i. is_lt (ordering_then (ordering_then (nat_cmp v.epoch w.epoch) (release_cmp-short v.release w.release i)) (suffix_cmp v w))
+is_below-place_of v w =
+    λ i. is_lt (ordering_then (ordering_then (nat_cmp v.epoch w.epoch)
+    (release_cmp-short v.release w.release i)) (suffix_cmp v w))
 
 -- the same of the release before the short form
 short-release_cmp : (xs ys : List ℕ) → release_cmp (short_release xs) ys ≡ release_cmp xs ys
@@ -52,80 +54,83 @@ short-release_cmp xs ys =
 
 -- a version is under a cut exactly if its place is
 pub is_under-place_of : (c : Cut) (v : Version) → is_under c (place_of v) ≡ is_under c v
-is_under-place_of (before w) v = λ i. is_lt (ordering_then (ordering_then (nat_cmp v.epoch w.epoch) (short-release_cmp v.release w.release i)) (suffix_cmp v w))
-is_under-place_of (after w) v = λ i. is_le (ordering_then (ordering_then (nat_cmp v.epoch w.epoch) (short-release_cmp v.release w.release i)) (suffix_cmp v w))
-is_under-place_of (past r) v = λ i. nat_lt v.epoch r.epoch || ((v.epoch == r.epoch) && is_le (short-release_cmp v.release r.release i))
+is_under-place_of (before w) v =
+    λ i. is_lt (ordering_then (ordering_then (nat_cmp v.epoch w.epoch)
+    (short-release_cmp v.release w.release i)) (suffix_cmp v w))
+is_under-place_of (after w) v =
+    λ i. is_le (ordering_then (ordering_then (nat_cmp v.epoch w.epoch)
+    (short-release_cmp v.release w.release i)) (suffix_cmp v w))
+is_under-place_of (past r) v =
+    λ i. nat_lt v.epoch r.epoch || ((v.epoch == r.epoch)
+    && is_le (short-release_cmp v.release r.release i))
 is_under-place_of end v = refl
 
-fits_by : (b : Bool) (n : ℕ) (rest : List ℕ) → Fits n → AllByRecursion Fits rest → AllByRecursion Fits (if b then [] else n ∷ rest)
-fits_by true n rest h g = tt
-fits_by false n rest h g = (h, g)
-
-fits_zeros : (xs : List ℕ) → AllByRecursion Fits xs → AllByRecursion Fits (without_end_zeros xs)
-fits_zeros [] h = tt
-fits_zeros (n ∷ rest) h = fits_by ((n == 0) && is_empty (without_end_zeros rest)) n (without_end_zeros rest) h.0 (fits_zeros rest h.1)
-
-fits_short : (xs : List ℕ) → AllByRecursion Fits xs → AllByRecursion Fits (short_release xs)
-fits_short [] h = tt
-fits_short (n ∷ rest) h = (h.0, fits_zeros rest h.1)
-
-short_length : (xs : List ℕ) → 0 < length xs → 0 < length (short_release xs)
-short_length [] h = h
-short_length (n ∷ rest) h = omega arith
-
--- the place of a version is a version, and the cut before it is in its one spelling
-pub IsVersion-place_of : (v : Version) → IsVersion v → IsVersion (place_of v)
-IsVersion-place_of v h = record {
-  release = short_length v.release h.release;
-  label = h.label;
-  numbers = record { epoch = h.numbers.epoch; release = fits_short v.release h.numbers.release; pre = h.numbers.pre; post = h.numbers.post; dev = h.numbers.dev; label = h.numbers.label };
-}
-
-pub place_of-twice : (v : Version) → place_of (place_of v) ≡ place_of v
-place_of-twice v = λ i. record { epoch = v.epoch; release = short-twice v.release i; pre = v.pre; post = v.post; dev = v.dev; label = v.label }
-
 pub IsCut-before_place : (v : Version) → IsVersion v → IsCut (before_place v)
-IsCut-before_place v h = (IsVersion-place_of v h, place_of-twice v)
+IsCut-before_place v h = (place-version v h, place-of-place v)
 
 pub IsVersion-with_dev : (v : Version) → IsVersion v → IsVersion (with_dev 0 v)
 IsVersion-with_dev v h = record {
   release = h.release;
   label = h.label;
-  numbers = record { epoch = h.numbers.epoch; release = h.numbers.release; pre = h.numbers.pre; post = h.numbers.post; dev = omega arith; label = h.numbers.label };
+  numbers = record {
+    epoch = h.numbers.epoch;
+    release = h.numbers.release;
+    pre = h.numbers.pre;
+    post = h.numbers.post;
+    dev = omega arith;
+    label = h.numbers.label;
+  };
 }
 
 -- ---- at least a version
 
 -- a label stands above no label
-label_step : (label : List Segment) → is_lt (slice_cmp segment_cmp label []) ≡ is_lt (slice_cmp segment_cmp [] [])
+label_step : (label : List Segment) → is_lt (slice_cmp segment_cmp label [])
+    ≡ is_lt (slice_cmp segment_cmp [] [])
 label_step [] = refl
 label_step (s ∷ rest) = refl
 
-then_below : (r s t : Ordering) → is_lt s ≡ is_lt t → is_lt (ordering_then r s) ≡ is_lt (ordering_then r t)
+then_below : (r s t : Ordering) → is_lt s ≡ is_lt t → is_lt (ordering_then r s)
+    ≡ is_lt (ordering_then r t)
 then_below Less s t e = refl
 then_below Equal s t e = e
 then_below Greater s t e = refl
 
 -- a label does not matter to a comparison with a version without one
-below_public : (v w : Version) → is_below v (public_version w) ≡ is_below (public_version v) (public_version w)
+below_public : (v w : Version) → is_below v (public_version w)
+    ≡ is_below (public_version v) (public_version w)
 below_public v w =
-    then_below (place_cmp v w) _ _ (then_below (ordering_then (nat_cmp (stage_of v.pre v.post v.dev) (stage_of w.pre w.post w.dev)) (nat_cmp (pre_number_of v.pre) (pre_number_of w.pre))) _ _
-    (then_below (option_cmp nat_cmp v.post w.post) _ _ (then_below (dev_cmp v.dev w.dev) _ _ (label_step v.label))))
+    then_below (place_cmp v w) _ _ (then_below (ordering_then
+    (nat_cmp (stage_of v.pre v.post v.dev) (stage_of w.pre w.post w.dev))
+    (nat_cmp (pre_number_of v.pre) (pre_number_of w.pre))) _ _
+    (then_below (option_cmp nat_cmp v.post w.post) _ _
+    (then_below (dev_cmp v.dev w.dev) _ _ (label_step v.label))))
 
 pub is_below-public : (v w : Version) → w.label ≡ [] → is_below v w ≡ is_below (public_version v) w
 is_below-public v w none =
-    let public : public_version w ≡ w = λ i. record { epoch = w.epoch; release = w.release; pre = w.pre; post = w.post; dev = w.dev; label = sym none i } in
-    (λ i. is_below v (sym public i)) ∙ below_public v w ∙ (λ i. is_below (public_version v) (public i))
+    let public : public_version w ≡ w =
+    λ i. record {
+      epoch = w.epoch;
+      release = w.release;
+      pre = w.pre;
+      post = w.post;
+      dev = w.dev;
+      label = sym none i;
+    } in
+    (λ i. is_below v (sym public i)) ∙ below_public v w
+    ∙ (λ i. is_below (public_version v) (public i))
 
 -- `>=` of a version without a label
-pub at_least-row : (w v : Version) → w.label ≡ [] → is_in (set_of (at_least w)) v ≡ admits (at_least w) v
+pub at_least-row : (w v : Version) → w.label ≡ [] → is_in (set_of (at_least w)) v
+    ≡ admits (at_least w) v
 at_least-row w v none =
     or-false (not (is_below v (place_of w)))
     ∙ (λ i. not (is_below-place_of v w i))
     ∙ (λ i. not (is_below-public v w none i))
 
 pub at_least-normal : (w : Version) → IsVersion w → IsNormal (set_of (at_least w))
-at_least-normal w h = record { increasing = (refl, tt); spelled = (IsCut-before_place w h, (tt, tt)) }
+at_least-normal w h =
+    record { increasing = (refl, tt); spelled = (IsCut-before_place w h, (tt, tt)) }
 
 -- ---- less than a release
 
@@ -139,7 +144,8 @@ phase_below_last Alpha = refl
 phase_below_last Beta = refl
 phase_below_last Rc = refl
 
-number_not_below : (n : ℕ) (label : List Segment) → is_lt (ordering_then (nat_cmp n 0) (slice_cmp segment_cmp label [])) ≡ false
+number_not_below : (n : ℕ) (label : List Segment) →
+    is_lt (ordering_then (nat_cmp n 0) (slice_cmp segment_cmp label [])) ≡ false
 number_not_below zero [] = refl
 number_not_below zero (s ∷ rest) = refl
 number_not_below (suc n) label = rw (sym (nat_cmp_is (suc n) 0 Greater (omega arith))) refl
@@ -147,19 +153,23 @@ number_not_below (suc n) label = rw (sym (nat_cmp_is (suc n) 0 Greater (omega ar
 -- what is behind the place, of a version with these parts against a release and against its `.dev0`
 abbrev against_final : Option (Phase × ℕ) → Option ℕ → Option ℕ → Ordering
 against_final pre post dev =
-    ordering_then (ordering_then (nat_cmp (stage_of pre post dev) 4) (nat_cmp (pre_number_of pre) 0))
+    ordering_then (ordering_then (nat_cmp (stage_of pre post dev) 4)
+    (nat_cmp (pre_number_of pre) 0))
     (ordering_then (option_cmp nat_cmp post None) (ordering_then (dev_cmp dev None) Equal))
 
 abbrev against_first : Option (Phase × ℕ) → Option ℕ → Option ℕ → List Segment → Ordering
 against_first pre post dev label =
-    ordering_then (ordering_then (nat_cmp (stage_of pre post dev) 0) (nat_cmp (pre_number_of pre) 0))
-    (ordering_then (option_cmp nat_cmp post None) (ordering_then (dev_cmp dev (Some 0)) (slice_cmp segment_cmp label [])))
+    ordering_then (ordering_then (nat_cmp (stage_of pre post dev) 0)
+    (nat_cmp (pre_number_of pre) 0))
+    (ordering_then (option_cmp nat_cmp post None) (ordering_then (dev_cmp dev (Some 0))
+    (slice_cmp segment_cmp label [])))
 
 -- under `.dev0` of a release is what is below it and no pre-release of it
 less_by : (place : Ordering) (pre : Option (Phase × ℕ)) (post dev : Option ℕ) (label : List Segment)
     → is_lt (ordering_then place (against_first pre post dev label))
     ≡ (is_lt (ordering_then place (against_final pre post dev))
-    && not (is_eq (ordering_then place (against_final pre post None)) || (is_some pre && is_eq (ordering_then place Equal))))
+    && not (is_eq (ordering_then place (against_final pre post None))
+    || (is_some pre && is_eq (ordering_then place Equal))))
 less_by Less None post dev label = refl
 less_by Less (Some p) post dev label = refl
 less_by Greater pre post dev label = refl
@@ -170,7 +180,9 @@ less_by Equal (Some p) post dev label = rw (phase_above_first p.0, phase_below_l
 
 under_first_by : (b : Bool) (high : Cut) (v : Version) → is_lt (cut_cmp least high) ≡ b
     → is_in (if b then record { low = least; high = high } ∷ [] else []) v ≡ is_under high v
-under_first_by true high v e = (λ i. (is_under high v && not (none-under_least v i)) || false) ∙ or-false (is_under high v && true) ∙ and-true (is_under high v)
+under_first_by true high v e =
+    (λ i. (is_under high v && not (none-under_least v i)) || false)
+    ∙ or-false (is_under high v && true) ∙ and-true (is_under high v)
 under_first_by false high v e =
     by_answer (is_lt (cut_cmp (before v) high))
     (λ t. cc (e, not_above-test cut_total least (before v) high (none-below_least (before v)) t))
@@ -181,7 +193,8 @@ pub is_in-from_least : (high : Cut) (v : Version) → is_in (range least high) v
 is_in-from_least high v = under_first_by (is_lt (cut_cmp least high)) high v refl
 
 -- `<` of a release with its epoch
-pub less_than-row : (r : Prefix) (v : Version) → is_in (set_of (less_than (final_version r))) v ≡ admits (less_than (final_version r)) v
+pub less_than-row : (r : Prefix) (v : Version) → is_in (set_of (less_than (final_version r))) v
+    ≡ admits (less_than (final_version r)) v
 less_than-row r v =
     is_in-from_least (less_to (final_version r)) v
     ∙ is_below-place_of v (with_dev 0 (final_version r))

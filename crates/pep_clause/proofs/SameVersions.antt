@@ -1,11 +1,16 @@
--- Two normal lists that hold the same versions are one list, since there is a version between any two cuts.
-use Rattle.std.proofs.Common.{◌≡◌, ◌↔◌, ◌&&◌, Bool, true, false, not, List, [], ◌∷◌, refl, sym, ap, ◌∙◌}
-use Rattle.pep_version.proofs.Connectives.{and_parts, by_answer, and_not_first, and_not_or, not-true, or_parts, or_right, or_second, and_left, and_not_right, or_from}
+-- Two normal lists that hold the same versions are one list, since there is a version between any
+-- two cuts.
+use Rattle.std.proofs.Common.{◌≡◌, ◌↔◌, ◌&&◌, Bool, true, false, not, List, [], ◌∷◌, refl, sym, ap}
+use Rattle.std.proofs.Common.{◌∙◌}
+use Rattle.pep_version.proofs.Connectives.{and_parts, by_answer, and_not_first, and_not_or}
+use Rattle.pep_version.proofs.Connectives.{not-true, or_parts, or_right, or_second, and_left}
+use Rattle.pep_version.proofs.Connectives.{and_not_right, or_from}
 use Rattle.std.specs.Ordering.{is_eq, is_lt}
 use Rattle.std.specs.Prelude.{IsTrue}
 use Rattle.std.specs.declared.cmp.Ordering.{Ordering}
 use Rattle.std.specs.declared.cmp.Ordering.TheVariants.{Less, Equal, Greater}
-use Rattle.pep_clause.proofs.Between.{below-earlier, below-not_above, earlier-keeps, is_between, less_told}
+use Rattle.pep_clause.proofs.Between.{below-earlier, below-not_above, earlier-keeps, is_between}
+use Rattle.pep_clause.proofs.Between.{less_told}
 use Rattle.pep_clause.specs.Joined.{earlier}
 use Rattle.pep_clause.specs.Cut.{Cut, IsCut, before, cut_cmp}
 use Rattle.pep_clause.proofs.Density.{between_cuts}
@@ -23,11 +28,15 @@ below c d = is_lt (cut_cmp c d)
 -- not below a cut, so not below another that is not above it
 still_not_below : (p c d : Cut) → below p c ≡ false → below c d ≡ false → below p d ≡ false
 still_not_below p c d a b =
-    by_answer (below p d) (λ t. cc (a, ap is_lt (below-not_above cut_total p d c (less_told (cut_cmp p d) t) b))) (λ f. f)
+    by_answer (below p d) (λ t. cc (
+      a,
+      ap is_lt (below-not_above cut_total p d c (less_told (cut_cmp p d) t) b),
+    )) (λ f. f)
 
 -- a point of a list: up to some cut above it all are points
 until_high : (ranges : List Range) (c : Cut) → Spelled ranges → is_point ranges c ≡ true
-    → (h : Cut) × IsCut h × (below c h ≡ true) × ((p : Cut) → below p c ≡ false → below p h ≡ true → is_point ranges p ≡ true)
+    → (h : Cut) × IsCut h × (below c h ≡ true) × ((p : Cut) → below p c ≡ false → below p h ≡ true →
+    is_point ranges p ≡ true)
 until_high [] c s e = cc e
 until_high (r ∷ rest) c s e =
     by_answer (is_between cut_cmp r.low r.high c)
@@ -36,15 +45,25 @@ until_high (r ∷ rest) c s e =
       r.high,
       s.1,
       parts.0,
-      λ p a b. and_not_or (below p r.high) (below p r.low) (is_point rest p) b (still_not_below p c r.low a (not-true (below c r.low) parts.1)),
+      λ p a b. and_not_or (below p r.high) (below p r.low) (is_point rest p) b
+          (still_not_below p c r.low a (not-true (below c r.low) parts.1)),
     ))
     (λ f.
-    let more = until_high rest c s.2 (or_second (is_between cut_cmp r.low r.high c) (is_point rest c) f e) in
-    (more.0, more.1, more.2, λ p a b. or_right (is_between cut_cmp r.low r.high p) (is_point rest p) (more.3 p a b)))
+    let more =
+    until_high rest c s.2 (or_second (is_between cut_cmp r.low r.high c) (is_point rest c) f e)
+    in (
+      more.0,
+      more.1,
+      more.2,
+      λ p a b. or_right (is_between cut_cmp r.low r.high p) (is_point rest p)
+          (more.3 p a b),
+    ))
 
 -- no point of a list: up to some cut above it, which is not above another, none are points
-until_low : (ranges : List Range) (c h : Cut) → Spelled ranges → IsCut h → below c h ≡ true → is_point ranges c ≡ false
-    → (d : Cut) × IsCut d × (below c d ≡ true) × ((p : Cut) → below p c ≡ false → below p d ≡ true → (below p h ≡ true) × (is_point ranges p ≡ false))
+until_low : (ranges : List Range) (c h : Cut) → Spelled ranges → IsCut h → below c h ≡ true →
+    is_point ranges c ≡ false
+    → (d : Cut) × IsCut d × (below c d ≡ true) × ((p : Cut) → below p c ≡ false → below p d ≡ true →
+    (below p h ≡ true) × (is_point ranges p ≡ false))
 until_low [] c h s k e n = (h, k, e, λ p a b. (b, refl))
 until_low (r ∷ rest) c h s k e n =
     let none = or_parts (is_between cut_cmp r.low r.high c) (is_point rest c) n in
@@ -55,9 +74,14 @@ until_low (r ∷ rest) c h s k e n =
       earlier-keeps IsCut (below more.0 r.low) more.0 r.low more.1 s.0,
       below-earlier cut_total c more.0 r.low ∙ (λ i. more.2 i && t i),
       λ p a b.
-          let both = and_parts (below p more.0) (below p r.low) (sym (below-earlier cut_total p more.0 r.low) ∙ b) in
-          let others = more.3 p a both.0 in
-          (others.0, or_from (is_between cut_cmp r.low r.high p) (is_point rest p) (and_not_right (below p r.high) (below p r.low) both.1) others.1),
+          let both =
+          and_parts (below p more.0) (below p r.low)
+          (sym (below-earlier cut_total p more.0 r.low) ∙ b) in
+          let others = more.3 p a both.0 in (
+            others.0,
+            or_from (is_between cut_cmp r.low r.high p) (is_point rest p)
+                (and_not_right (below p r.high) (below p r.low) both.1) others.1,
+          ),
     ))
     (λ f. (
       more.0,
@@ -65,31 +89,44 @@ until_low (r ∷ rest) c h s k e n =
       more.2,
       λ p a b.
           let others = more.3 p a b in
-          let past : below p r.high ≡ false = still_not_below p c r.high a (and_not_first (below c r.high) (below c r.low) none.0 f) in
-          (others.0, or_from (is_between cut_cmp r.low r.high p) (is_point rest p) (and_left (below p r.high) (not (below p r.low)) past) others.1),
+          let past : below p r.high ≡ false =
+          still_not_below p c r.high a (and_not_first (below c r.high) (below c r.low) none.0 f)
+          in (
+            others.0,
+            or_from (is_between cut_cmp r.low r.high p) (is_point rest p)
+                (and_left (below p r.high) (not (below p r.low)) past) others.1,
+          ),
     ))
 
--- a cut is no point of the one list alone: a version is between it and the next place where a list changes
-not_one_alone : (ranges others : List Range) → IsNormal ranges → IsNormal others → SameVersions ranges others → (c : Cut) → IsCut c
+-- a cut is no point of the one list alone: a version is between it and the next place where a list
+-- changes
+not_one_alone : (ranges others : List Range) → IsNormal ranges → IsNormal others →
+    SameVersions ranges others → (c : Cut) → IsCut c
     → is_point ranges c ≡ true → is_point others c ≡ false → ⊥
 not_one_alone ranges others h g same c is e f =
     let inside = until_high ranges c (IsNormal-spelled ranges h) e in
     let outside = until_low others c inside.0 (IsNormal-spelled others g) inside.1 inside.2 f in
     let found = between_cuts c outside.0 is outside.1 (less_told (cut_cmp c outside.0) outside.2) in
     let not_below : below (before found.0) c ≡ false = sym (is_under-cut_cmp c found.0) ∙ found.2 in
-    let under : below (before found.0) outside.0 ≡ true = sym (is_under-cut_cmp outside.0 found.0) ∙ found.3 in
+    let under : below (before found.0) outside.0 ≡ true =
+    sym (is_under-cut_cmp outside.0 found.0) ∙ found.3 in
     let none = outside.3 (before found.0) not_below under in
     let some = inside.3 (before found.0) not_below none.0 in
-    cc (sym some ∙ sym (is_in-is_point ranges found.0) ∙ same found.0 found.1 ∙ is_in-is_point others found.0 ∙ none.1)
+    cc (sym some ∙ sym (is_in-is_point ranges found.0) ∙ same found.0 found.1
+    ∙ is_in-is_point others found.0 ∙ none.1)
 
 -- two normal lists that hold the same versions are one list
-pub same_versions : (ranges others : List Range) → IsNormal ranges → IsNormal others → SameVersions ranges others → ranges ≡ others
+pub same_versions : (ranges others : List Range) → IsNormal ranges → IsNormal others →
+    SameVersions ranges others → ranges ≡ others
 same_versions ranges others h g same =
     same_points ranges others h g
     (λ c is.
     by_answer (is_point ranges c)
-    (λ t. by_answer (is_point others c) (λ u. t ∙ sym u) (λ f. absurd (not_one_alone ranges others h g same c is t f)))
-    (λ f. by_answer (is_point others c) (λ t. absurd (not_one_alone others ranges g h (λ v k. sym (same v k)) c is t f)) (λ u. f ∙ sym u)))
+    (λ t. by_answer (is_point others c) (λ u. t ∙ sym u) (λ f.
+    absurd (not_one_alone ranges others h g same c is t f)))
+    (λ f. by_answer (is_point others c) (λ t.
+    absurd (not_one_alone others ranges g h (λ v k. sym (same v k)) c is t f)) (λ u. f
+    ∙ sym u)))
 
 -- ---- equal sets
 
@@ -102,7 +139,8 @@ tied_cut c d h g e = one-cut c d h g (told (cut_cmp c d) e)
     told Equal e = refl
     told Greater e = cc e
 
-same_told : (ranges others : List Range) → Spelled ranges → Spelled others → same_ranges ranges others ≡ true → ranges ≡ others
+same_told : (ranges others : List Range) → Spelled ranges → Spelled others →
+    same_ranges ranges others ≡ true → ranges ≡ others
 same_told [] [] h g e = refl
 same_told [] (s ∷ more) h g e = cc e
 same_told (r ∷ rest) [] h g e = cc e
@@ -115,7 +153,8 @@ same_told (r ∷ rest) (s ∷ more) h g e =
     λ i. record { low = low i; high = high i } ∷ others i
 
 -- `==` says that two sets are one list
-pub same_ranges-exactly : (ranges others : List Range) (b : Bool) → IsNormal ranges → IsNormal others → b ≡ same_ranges ranges others
+pub same_ranges-exactly : (ranges others : List Range) (b : Bool) → IsNormal ranges →
+    IsNormal others → b ≡ same_ranges ranges others
     → IsTrue b ↔ (ranges ≡ others)
 same_ranges-exactly ranges others b h g e = (
   λ t. same_told ranges others (IsNormal-spelled ranges h) (IsNormal-spelled others g) (sym e ∙ t),
@@ -123,7 +162,8 @@ same_ranges-exactly ranges others b h g e = (
 )
 
 -- and so that they hold the same versions
-pub same_versions-exactly : (ranges others : List Range) (b : Bool) → IsNormal ranges → IsNormal others → b ≡ same_ranges ranges others
+pub same_versions-exactly : (ranges others : List Range) (b : Bool) → IsNormal ranges →
+    IsNormal others → b ≡ same_ranges ranges others
     → IsTrue b ↔ SameVersions ranges others
 same_versions-exactly ranges others b h g e =
     let list = same_ranges-exactly ranges others b h g e in

@@ -1,16 +1,19 @@
 -- What the ranges of a clause hold.
-use Rattle.std.proofs.Common.{◌≡◌, ◌==◌, ◌↔◌, Bool, false, length, List, [], ◌∷◌, None, Result, Ok, Err, IfOk, IsSome, ◌&&◌, ◌||◌, not, refl, ◌∙◌, sym, subst, is_ge}
+use Rattle.std.proofs.Common.{◌≡◌, ◌==◌, ◌↔◌, Bool, false, length, List, [], ◌∷◌, None, Result, Ok}
+use Rattle.std.proofs.Common.{Err, IfOk, IsSome, ◌&&◌, ◌||◌, not, refl, ◌∙◌, sym, subst, is_ge}
 use Rattle.std.specs.Prelude.{IsTrue}
 use Rattle.std.specs.declared.cmp.Ordering.{Ordering}
 use Rattle.std.specs.declared.cmp.Ordering.TheVariants.{Less, Equal, Greater}
-use Rattle.pep_version.proofs.ListLemmas.{is_empty-length}
 use Rattle.pep_version.specs.Order.{place_of}
+use Rattle.pep_version.proofs.ListLemmas.{is_empty-length}
 use Rattle.pep_version.specs.Version.{IsVersion, Version}
 use Rattle.pep_clause.specs.declared.clause.ClauseForm.{ClauseForm}
 use Rattle.pep_clause.specs.declared.clause.ClauseForm.TheVariants as stored
 use Rattle.pep_clause.specs.declared.fault.ClauseFault.{ClauseFault}
 use Rattle.pep_clause.specs.Admits.{admits}
-use Rattle.pep_clause.specs.Clause.{Clause, compatible, matching, matching_prefix, excluding, excluding_prefix, at_most, at_least, less_than, greater_than, demanded, demanded_text}
+use Rattle.pep_clause.specs.Clause.{Clause, compatible, matching, matching_prefix, excluding}
+use Rattle.pep_clause.specs.Clause.{excluding_prefix, at_most, at_least, less_than, greater_than}
+use Rattle.pep_clause.specs.Clause.{demanded, demanded_text}
 use Rattle.pep_clause.specs.ClauseView.{IsStored, clause_of}
 use Rattle.pep_clause.proofs.Density.{normal-has_version}
 use Rattle.pep_clause.specs.Inhabited.{HasVersionUnlessEmpty}
@@ -18,8 +21,13 @@ use Rattle.pep_clause.proofs.LeastCut.{IsNormal-all_versions, none-under_least}
 use Rattle.pep_clause.specs.OperatorTable.{set_of}
 use Rattle.pep_clause.specs.Valid.{IsValidClause}
 use Rattle.pep_clause.specs.VersionSet.{In, IsNormal, Range, all_versions, is_in}
-use Rattle.pep_clause.proofs.ClauseRows.{at_most-normal, at_most-row, excluding-normal, excluding-row, greater_than-normal, greater_than-row, less_than_version-normal, less_than_version-row, matching-normal, matching-row}
-use Rattle.pep_clause.proofs.PrefixRows.{compatible-normal, compatible-row, excluding_prefix-normal, excluding_prefix-row, matching_prefix-normal, matching_prefix-row}
+use Rattle.pep_clause.proofs.ClauseRows.{at_most-normal, at_most-row, excluding-normal}
+use Rattle.pep_clause.proofs.ClauseRows.{excluding-row, greater_than-normal, greater_than-row}
+use Rattle.pep_clause.proofs.ClauseRows.{less_than_version-normal, less_than_version-row}
+use Rattle.pep_clause.proofs.ClauseRows.{matching-normal, matching-row}
+use Rattle.pep_clause.proofs.PrefixRows.{compatible-normal, compatible-row, excluding_prefix-normal}
+use Rattle.pep_clause.proofs.PrefixRows.{excluding_prefix-row, matching_prefix-normal}
+use Rattle.pep_clause.proofs.PrefixRows.{matching_prefix-row}
 use Rattle.pep_clause.proofs.Rows.{at_least-normal, at_least-row, is_under-place_of}
 
 -- what is not at least another is below it
@@ -29,7 +37,8 @@ below_told Equal e = cc e
 below_told Greater e = cc e
 
 -- the ranges of a clause without a demanded text hold what the clause admits
-pub is_in-set_of : (c : Clause) → IsValidClause c → (v : Version) → IsVersion v → demanded_text c ≡ None → is_in (set_of c) v ≡ admits c v
+pub is_in-set_of : (c : Clause) → IsValidClause c → (v : Version) → IsVersion v →
+    demanded_text c ≡ None → is_in (set_of c) v ≡ admits c v
 is_in-set_of (compatible w) h v g none = compatible-row w v h.0.0 g h.0.1
 is_in-set_of (matching w) h v g none = matching-row w v g
 is_in-set_of (matching_prefix p) h v g none = matching_prefix-row p v g
@@ -46,7 +55,8 @@ pub In-all_versions : (v : Version) → In all_versions v
 In-all_versions v = (λ i. not (none-under_least v i) || false)
 
 -- the same of a call's answer
-pub all-versions : (answer : Result (List Range) ClauseFault) → IfOk answer (λ s. s ≡ all_versions) → IfOk answer (λ s. (v : Version) → In s v)
+pub all-versions : (answer : Result (List Range) ClauseFault) →
+    IfOk answer (λ s. s ≡ all_versions) → IfOk answer (λ s. (v : Version) → In s v)
 all-versions (Ok s) e = λ v. subst (λ (list : List Range). In list v) (sym e) (In-all_versions v)
 all-versions (Err fault) e = e
 
@@ -90,21 +100,27 @@ stored-valid (stored.GreaterThan w) h = h
 stored-valid (stored.Demanded text) h = h
 
 -- the same of a call's answer
-pub set_of-versions : (answer : Result (List Range) ClauseFault) (c : Clause) → IsValidClause c → IfOk answer (λ s. s ≡ set_of c)
-    → IfOk answer (λ s. (v : Version) → IsVersion v → demanded_text c ≡ None → is_in s v ≡ admits c v)
+pub set_of-versions : (answer : Result (List Range) ClauseFault) (c : Clause) → IsValidClause c →
+    IfOk answer (λ s. s ≡ set_of c)
+    → IfOk answer (λ s. (v : Version) → IsVersion v → demanded_text c ≡ None →
+    is_in s v ≡ admits c v)
 set_of-versions (Ok s) c h e = λ v g none. (λ i. is_in (e i) v) ∙ is_in-set_of c h v g none
 set_of-versions (Err fault) c h e = e
 
-pub set_of-demanded : (answer : Result (List Range) ClauseFault) (c : Clause) → IfOk answer (λ s. s ≡ set_of c)
+pub set_of-demanded : (answer : Result (List Range) ClauseFault) (c : Clause) →
+    IfOk answer (λ s. s ≡ set_of c)
     → IfOk answer (λ s. (v : Version) → IsSome (demanded_text c) → In s v)
-set_of-demanded (Ok s) c e = λ v h. subst (λ (list : List Range). In list v) (sym e) (demanded-in-set_of c v h)
+set_of-demanded (Ok s) c e =
+    λ v h. subst (λ (list : List Range). In list v) (sym e) (demanded-in-set_of c v h)
 set_of-demanded (Err fault) c e = e
 
-pub set_of-normal : (answer : Result (List Range) ClauseFault) (c : Clause) → IsValidClause c → IfOk answer (λ s. s ≡ set_of c) → IfOk answer (λ s. IsNormal s)
+pub set_of-normal : (answer : Result (List Range) ClauseFault) (c : Clause) → IsValidClause c →
+    IfOk answer (λ s. s ≡ set_of c) → IfOk answer (λ s. IsNormal s)
 set_of-normal (Ok s) c h e = subst IsNormal (sym e) (IsNormal-set_of c h)
 set_of-normal (Err fault) c h e = e
 
-pub normal-inhabited : (answer : Result (List Range) ClauseFault) → IfOk answer (λ s. IsNormal s) → IfOk answer (λ s. HasVersionUnlessEmpty s)
+pub normal-inhabited : (answer : Result (List Range) ClauseFault) → IfOk answer (λ s. IsNormal s) →
+    IfOk answer (λ s. HasVersionUnlessEmpty s)
 normal-inhabited (Ok s) n = normal-has_version s n
 normal-inhabited (Err fault) n = n
 
@@ -118,7 +134,9 @@ empty-exactly (r ∷ rest) b n e =
     (λ t. cc (t, some), λ none. absurd (none found.0 found.1 found.2))
 
 -- a list has a version exactly if it has its place
-pub is_in-place_of : (ranges : List Range) (v : Version) → is_in ranges (place_of v) ≡ is_in ranges v
+pub is_in-place_of : (ranges : List Range) (v : Version) →
+    is_in ranges (place_of v) ≡ is_in ranges v
 is_in-place_of [] v = refl
 is_in-place_of (r ∷ rest) v =
-    λ i. (is_under-place_of r.high v i && not (is_under-place_of r.low v i)) || is_in-place_of rest v i
+    λ i. (is_under-place_of r.high v i && not (is_under-place_of r.low v i))
+    || is_in-place_of rest v i

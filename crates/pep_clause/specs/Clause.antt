@@ -1,6 +1,8 @@
--- Version specifier clauses and how they are written. The sections named here are those of the specification
--- "Version specifiers" (PEP 440). A text is a list of bytes.
-use Rattle.std.specs.Prelude.{◌≡◌, ℕ, ◌==◌, ◌-◌, ◌&&◌, ◌||◌, Bool, not, List, ◌++◌, length, take, drop, Option, Some, None, Result, Ok, Err, is_none, nat_eq, nat_lt, codes, if◌then◌else◌, MatchBool, ⊤}
+-- Version specifier clauses and how they are written. The sections named here are those of the
+-- specification "Version specifiers" (PEP 440). A text is a list of bytes.
+use Rattle.std.specs.Prelude.{◌≡◌, ℕ, ◌==◌, ◌-◌, ◌&&◌, ◌||◌, Bool, not, List, ◌++◌, length, take}
+use Rattle.std.specs.Prelude.{drop, Option, Some, None, Result, Ok, Err, is_none, nat_eq, nat_lt}
+use Rattle.std.specs.Prelude.{codes, if◌then◌else◌, MatchBool, ⊤}
 use Rattle.std.specs.Char.{is_ascii_alphanumeric, is_ascii_uppercase}
 use Rattle.std.specs.List.{ends_with, list_all, starts_with}
 use Rattle.std.specs.Str.{str_to_ascii_lowercase}
@@ -72,13 +74,16 @@ operator_of text =
     else if begins_with op.More text then Some op.More
     else None
 
--- a byte that a clause may have behind its operator: a letter, a digit, or one of `-` `_` `.` `*` `+` `!`
+-- a byte that a clause may have behind its operator: a letter, a digit, or one of `-` `_` `.` `*`
+-- `+` `!`
 abbrev pub is_clause_byte : ℕ → Bool
-is_clause_byte b = is_ascii_alphanumeric b || b == 45 || b == 95 || b == 46 || b == 42 || b == 43 || b == 33
+is_clause_byte b =
+    is_ascii_alphanumeric b || b == 45 || b == 95 || b == 46 || b == 42 || b == 43 || b == 33
 
 -- one or more such bytes, in lower case, as a clause with `===` keeps its text
 abbrev pub is_demanded_text : List ℕ → Bool
-is_demanded_text text = not (is_empty text) && list_all (λ b. is_clause_byte b && not (is_ascii_uppercase b)) text
+is_demanded_text text =
+    not (is_empty text) && list_all (λ b. is_clause_byte b && not (is_ascii_uppercase b)) text
 
 -- behind `===`: one or more such bytes, kept in lower case ("Arbitrary equality")
 abbrev pub demanded_of : List ℕ → Result Clause ClauseFault
@@ -107,14 +112,16 @@ prefix_clause o p = Err fault.StarNotAllowed
 -- the clause of an operator and what was read before `.*`, which is to be a release with its epoch
 abbrev pub prefix_answer : Op → Result Version VersionFault → Result Clause ClauseFault
 prefix_answer o (Err e) = Err (fault_of e)
-prefix_answer o (Ok v) = if is_final v then prefix_clause o (prefix_of v) else Err fault.StarNotAllowed
+prefix_answer o (Ok v) =
+    if is_final v then prefix_clause o (prefix_of v) else Err fault.StarNotAllowed
 
--- a clause that takes no local version label ("Inclusive ordered comparison", "Compatible release" and others)
+-- a clause that takes no local version label ("Inclusive ordered comparison", "Compatible release"
+-- and others)
 abbrev pub public_clause : Version → Result Clause ClauseFault → Result Clause ClauseFault
 public_clause v answer = if is_empty v.label then answer else Err fault.LocalNotAllowed
 
--- the clause of an operator and a version; `~=` wants two release numbers or more ("Compatible release").
--- A clause with `===` has a text in place of a version, so that line is never used.
+-- the clause of an operator and a version; `~=` wants two release numbers or more ("Compatible
+-- release"). A clause with `===` has a text in place of a version, so that line is never used.
 abbrev pub version_clause : Op → Version → Result Clause ClauseFault
 version_clause op.Equal v = Ok (matching v)
 version_clause op.NotEqual v = Ok (excluding v)
@@ -122,7 +129,8 @@ version_clause op.AtMost v = public_clause v (Ok (at_most v))
 version_clause op.AtLeast v = public_clause v (Ok (at_least v))
 version_clause op.Less v = public_clause v (Ok (less_than v))
 version_clause op.More v = public_clause v (Ok (greater_than v))
-version_clause op.Compatible v = public_clause v (if nat_lt 1 (length v.release) then Ok (compatible v) else Err fault.OneNumber)
+version_clause op.Compatible v =
+    public_clause v (if nat_lt 1 (length v.release) then Ok (compatible v) else Err fault.OneNumber)
 version_clause op.Exact v = Err fault.BadVersion
 
 abbrev pub version_answer : Op → Result Version VersionFault → Result Clause ClauseFault
@@ -134,20 +142,24 @@ abbrev pub ends_in_space : List ℕ → Bool
 ends_in_space text = not (length (without_trailing_space text) == length text)
 
 -- the answer is what reading the text as a version gives, passed on by the function
-abbrev pub ReadsThen : List ℕ → (Result Version VersionFault → Result Clause ClauseFault) → Result Clause ClauseFault → Type 0
-ReadsThen text next answer = (read : Result Version VersionFault) × Reads text read × (answer ≡ next read)
+abbrev pub ReadsThen : List ℕ → (Result Version VersionFault → Result Clause ClauseFault) →
+    Result Clause ClauseFault → Type 0
+ReadsThen text next answer =
+    (read : Result Version VersionFault) × Reads text read × (answer ≡ next read)
 
 -- before `.*` a version is read, with no white space at its end
 abbrev pub PrefixAnswers : Op → List ℕ → Result Clause ClauseFault → Type 0
-PrefixAnswers o front answer = MatchBool (ends_in_space front) (answer ≡ Err fault.BadVersion) (ReadsThen front (prefix_answer o) answer)
+PrefixAnswers o front answer =
+    MatchBool (ends_in_space front) (answer ≡ Err fault.BadVersion)
+    (ReadsThen front (prefix_answer o) answer)
 
 abbrev pub VersionAnswers : Op → List ℕ → Result Clause ClauseFault → Type 0
 VersionAnswers o text answer = MatchBool (ends_with nat_eq text (codes ".*"))
     (PrefixAnswers o (take (length text - 2) text) answer)
     (ReadsThen text (version_answer o) answer)
 
--- What an operator and the text behind it give, white space at the text's ends apart: the clause, or the first
--- check that fails. Of want of memory it says nothing.
+-- What an operator and the text behind it give, white space at the text's ends apart: the clause,
+-- or the first check that fails. Of want of memory it says nothing.
 abbrev pub TargetAnswers : Op → List ℕ → Result Clause ClauseFault → Type 0
 TargetAnswers o text (Err fault.NoMemory) = ⊤
 TargetAnswers op.Exact text answer = answer ≡ demanded_of text

@@ -1,6 +1,9 @@
--- What a contract sees of a stored clause. A prefix is kept as the version that is its epoch and release.
+-- What a contract sees of a stored clause. A prefix is kept as the version that is its epoch and
+-- release.
 use Rattle.std.specs.Prelude.{IsTrue, string_bytes}
-use Rattle.pep_clause.specs.Clause.{Clause, compatible, matching, matching_prefix, excluding, excluding_prefix, at_most, at_least, less_than, greater_than, demanded, is_final, prefix_of}
+use Rattle.pep_clause.specs.Clause.{Clause, compatible, matching, matching_prefix, excluding}
+use Rattle.pep_clause.specs.Clause.{excluding_prefix, at_most, at_least, less_than, greater_than}
+use Rattle.pep_clause.specs.Clause.{demanded, is_final, prefix_of}
 use Rattle.pep_clause.specs.Valid.{IsValidClause}
 use Rattle.pep_clause.specs.declared.clause.ClauseForm.{ClauseForm}
 use Rattle.pep_clause.specs.declared.clause.ClauseForm.TheVariants as stored
@@ -17,8 +20,11 @@ clause_of (stored.LessThan version) = less_than version
 clause_of (stored.GreaterThan version) = greater_than version
 clause_of (stored.Demanded text) = demanded (string_bytes text)
 
--- what a stored clause keeps: it is a clause that some text is read as, and the version of a prefix has no other part
+-- what a stored clause keeps: it is a clause that some text is read as, and the version of a prefix
+-- has no other part
 abbrev pub IsStored : ClauseForm → Type 0
-IsStored (stored.MatchingPrefix version) = IsValidClause (matching_prefix (prefix_of version)) × IsTrue (is_final version)
-IsStored (stored.ExcludingPrefix version) = IsValidClause (excluding_prefix (prefix_of version)) × IsTrue (is_final version)
+IsStored (stored.MatchingPrefix version) =
+    IsValidClause (matching_prefix (prefix_of version)) × IsTrue (is_final version)
+IsStored (stored.ExcludingPrefix version) =
+    IsValidClause (excluding_prefix (prefix_of version)) × IsTrue (is_final version)
 IsStored form = IsValidClause (clause_of form)

@@ -1,4 +1,5 @@
--- What a contract sees of a stored cut. The release of `past` is kept as the place of the version that is this release.
+-- What a contract sees of a stored cut. The release of `past` is kept as the place of the version
+-- that is this release.
 use Rattle.std.specs.Prelude.{◌≡◌}
 use Rattle.pep_clause.specs.Clause.{prefix_of}
 use Rattle.pep_clause.specs.Cut.{Cut, IsCut, before, after, past, end, final_version}
@@ -11,7 +12,9 @@ cut_of (stored.After place) = after place
 cut_of (stored.Past release) = past (prefix_of release)
 cut_of stored.End = end
 
--- what a stored cut keeps: it is in its one spelling, and the version of `past` has nothing but its release and epoch
+-- what a stored cut keeps: it is in its one spelling, and the version of `past` has nothing but its
+-- release and epoch
 abbrev pub IsStored : CutForm → Type 0
-IsStored (stored.Past release) = IsCut (past (prefix_of release)) × (final_version (prefix_of release) ≡ release)
+IsStored (stored.Past release) =
+    IsCut (past (prefix_of release)) × (final_version (prefix_of release) ≡ release)
 IsStored place = IsCut (cut_of place)

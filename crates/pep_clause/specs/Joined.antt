@@ -1,5 +1,5 @@
--- THE CODE'S WAY, and no definition of what two sets have in common: each range of the one list with each of the
--- other.
+-- THE CODE'S WAY, and no definition of what two sets have in common: each range of the one list
+-- with each of the other.
 use Rattle.std.specs.Prelude.{◌&&◌, Bool, false, List, [], ◌∷◌, ◌++◌, if◌then◌else◌}
 use Rattle.std.specs.List.{list_all}
 use Rattle.std.specs.Ordering.{is_ge, is_lt}

@@ -1,5 +1,7 @@
 -- The operator of a clause.
-use Rattle.pep_clause.specs.Clause.{Clause, compatible, matching, matching_prefix, excluding, excluding_prefix, at_most, at_least, less_than, greater_than, demanded}
+use Rattle.pep_clause.specs.Clause.{Clause, compatible, matching, matching_prefix, excluding}
+use Rattle.pep_clause.specs.Clause.{excluding_prefix, at_most, at_least, less_than, greater_than}
+use Rattle.pep_clause.specs.Clause.{demanded}
 use Rattle.pep_clause.specs.declared.op.Op.{Op}
 use Rattle.pep_clause.specs.declared.op.Op.TheVariants as op
 

@@ -1,13 +1,17 @@
--- THE CODE'S WAY, and no definition of a clause's meaning: the ranges that the code makes of each clause. That
--- they hold exactly the versions that the clause admits is to be proved. `last` is the largest number.
-use Rattle.std.specs.Prelude.{ℕ, ◌+◌, ◌-◌, ◌^◌, List, [], ◌∷◌, ◌++◌, Option, Some, None, nat_lt, if◌then◌else◌}
+-- THE CODE'S WAY, and no definition of a clause's meaning: the ranges that the code makes of each
+-- clause. That they hold exactly the versions that the clause admits is to be proved. `last` is the
+-- largest number.
+use Rattle.std.specs.Prelude.{ℕ, ◌+◌, ◌-◌, ◌^◌, List, [], ◌∷◌, ◌++◌, Option, Some, None, nat_lt}
+use Rattle.std.specs.Prelude.{if◌then◌else◌}
 use Rattle.std.specs.Ordering.{is_lt}
 use Rattle.pep_version.specs.declared.parts.Phase.{Phase}
 use Rattle.pep_version.specs.declared.parts.Phase.TheVariants.{Alpha, Beta, Rc}
 use Rattle.pep_version.specs.Order.{place_of, short_release, without_dev, without_post, without_pre}
 use Rattle.pep_version.specs.Version.{Version, is_empty, is_pre_release}
 use Rattle.pep_clause.specs.Admits.{compatible_prefix}
-use Rattle.pep_clause.specs.Clause.{Clause, Prefix, compatible, matching, matching_prefix, excluding, excluding_prefix, at_most, at_least, less_than, greater_than, demanded}
+use Rattle.pep_clause.specs.Clause.{Clause, Prefix, compatible, matching, matching_prefix}
+use Rattle.pep_clause.specs.Clause.{excluding, excluding_prefix, at_most, at_least, less_than}
+use Rattle.pep_clause.specs.Clause.{greater_than, demanded}
 use Rattle.pep_clause.specs.Cut.{Cut, before, after, past, end, cut_cmp, final_version, least}
 use Rattle.pep_clause.specs.VersionSet.{Range}
 
@@ -37,11 +41,13 @@ next_phase Alpha v = before_place (with_dev 0 (with_pre Beta 0 v))
 next_phase Beta v = before_place (with_dev 0 (with_pre Rc 0 v))
 next_phase Rc v = before_place (without_pre v)
 
--- directly after a pre-release and its post-releases, from the version without post-release part and
--- developmental release part
+-- directly after a pre-release and its post-releases, from the version without post-release part
+-- and developmental release part
 abbrev pub done_at : Option (Phase × ℕ) → Version → Cut
 done_at None v = past_release v
-done_at (Some p) v = if nat_lt p.1 last then before_place (with_dev 0 (with_pre p.0 (p.1 + 1) v)) else next_phase p.0 v
+done_at (Some p) v =
+    if nat_lt p.1 last then before_place (with_dev 0 (with_pre p.0 (p.1 + 1) v))
+    else next_phase p.0 v
 
 abbrev pub done : Version → Cut
 done v = done_at v.pre (without_dev (without_post v))
@@ -52,17 +58,20 @@ after_last_dev None None v = before_place (with_dev 0 (with_pre Alpha 0 v))
 after_last_dev None (Some n) v = before_place (without_dev v)
 after_last_dev (Some p) post v = before_place (without_dev v)
 
--- directly after a version without label and all its labels, by its post-release and developmental release
--- parts
+-- directly after a version without label and all its labels, by its post-release and developmental
+-- release parts
 abbrev pub next_at : Option ℕ → Option ℕ → Version → Cut
-next_at post (Some n) v = if nat_lt n last then before_place (with_dev (n + 1) v) else after_last_dev v.pre post v
+next_at post (Some n) v =
+    if nat_lt n last then before_place (with_dev (n + 1) v) else after_last_dev v.pre post v
 next_at None None v = before_place (with_dev 0 (with_post 0 v))
-next_at (Some n) None v = if nat_lt n last then before_place (with_dev 0 (with_post (n + 1) v)) else done v
+next_at (Some n) None v =
+    if nat_lt n last then before_place (with_dev 0 (with_post (n + 1) v)) else done v
 
 abbrev pub next : Version → Cut
 next v = next_at v.post v.dev v
 
--- a release with its rightmost number that can be raised raised by one, and the numbers after it dropped
+-- a release with its rightmost number that can be raised raised by one, and the numbers after it
+-- dropped
 abbrev pub raised_first : ℕ → Option (List ℕ) → Option (List ℕ)
 raised_first n (Some rest) = Some (n ∷ rest)
 raised_first n None = if nat_lt n last then Some ((n + 1) ∷ []) else None
@@ -72,7 +81,8 @@ raised [] = None
 raised (n ∷ rest) = raised_first n (raised rest)
 
 abbrev pub before_dev : ℕ → List ℕ → Cut
-before_dev epoch release = before_place (with_dev 0 (final_version (record { epoch = epoch; release = release })))
+before_dev epoch release =
+    before_place (with_dev 0 (final_version (record { epoch = epoch; release = release })))
 
 -- directly after all versions with the prefix
 abbrev pub prefix_end_at : ℕ → Option (List ℕ) → Cut
@@ -90,8 +100,8 @@ range low high = if is_lt (cut_cmp low high) then record { low = low; high = hig
 abbrev pub outside : Cut → Cut → List Range
 outside low high = range least low ++ range high end
 
--- where `>` begins: a release is past all its post-releases and longer spellings, a pre-release is past its
--- post-releases
+-- where `>` begins: a release is past all its post-releases and longer spellings, a pre-release is
+-- past its post-releases
 abbrev pub greater_at : Option (Phase × ℕ) → Option ℕ → Option ℕ → Version → Cut
 greater_at pre None None v = done v
 greater_at pre (Some n) dev v = next v
@@ -111,7 +121,8 @@ matching_to v = if is_empty v.label then next v else after (place_of v)
 abbrev pub before_prefix : Prefix → Cut
 before_prefix p = before_dev p.epoch p.release
 
--- the set of a clause, as a list of ranges; `===` has all versions, since its text stands beside the ranges
+-- the set of a clause, as a list of ranges; `===` has all versions, since its text stands beside
+-- the ranges
 abbrev pub set_of : Clause → List Range
 set_of (at_least v) = range (before_place v) end
 set_of (at_most v) = range least (next v)

@@ -15,7 +15,9 @@ abbrev pub same_ranges : List Range → List Range → Bool
 same_ranges = pointwise same_range
 
 pub same_range-equiv : IsEquivalence same_range
-same_range-equiv = and_equiv (on_equiv (λ (r : Range). r.low) (eq_by_cmp_equiv cut_total)) (on_equiv (λ (r : Range). r.high) (eq_by_cmp_equiv cut_total))
+same_range-equiv =
+    and_equiv (on_equiv (λ (r : Range). r.low) (eq_by_cmp_equiv cut_total))
+    (on_equiv (λ (r : Range). r.high) (eq_by_cmp_equiv cut_total))
 
 pub same_ranges-equiv : IsEquivalence same_ranges
 same_ranges-equiv = lists_equiv same_range-equiv

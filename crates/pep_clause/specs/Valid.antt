@@ -1,7 +1,10 @@
--- The clauses that some text is read as: what the checks of reading leave of the parts ("Version specifiers").
+-- The clauses that some text is read as: what the checks of reading leave of the parts ("Version
+-- specifiers").
 use Rattle.std.specs.Prelude.{◌≡◌, ◌<◌, [], IsTrue, length}
 use Rattle.pep_version.specs.Version.{IsVersion, Version}
-use Rattle.pep_clause.specs.Clause.{Clause, Prefix, compatible, matching, matching_prefix, excluding, excluding_prefix, at_most, at_least, less_than, greater_than, demanded, is_demanded_text}
+use Rattle.pep_clause.specs.Clause.{Clause, Prefix, compatible, matching, matching_prefix}
+use Rattle.pep_clause.specs.Clause.{excluding, excluding_prefix, at_most, at_least, less_than}
+use Rattle.pep_clause.specs.Clause.{greater_than, demanded, is_demanded_text}
 use Rattle.pep_clause.specs.Cut.{final_version}
 
 -- a version without a local version label
@@ -12,7 +15,8 @@ IsPublic v = IsVersion v × (v.label ≡ [])
 abbrev pub IsPrefix : Prefix → Type 0
 IsPrefix p = IsVersion (final_version p)
 
--- the version of `==` and `!=` may have a label, `~=` wants two release numbers, `===` a text of its characters
+-- the version of `==` and `!=` may have a label, `~=` wants two release numbers, `===` a text of
+-- its characters
 abbrev pub IsValidClause : Clause → Type 0
 IsValidClause (compatible v) = IsPublic v × (1 < length v.release)
 IsValidClause (matching v) = IsVersion v

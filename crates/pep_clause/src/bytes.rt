@@ -4,8 +4,8 @@ ghost use Rattle.std.specs.Prelude.{◌≡◌, ◌≤◌, length};
 ghost use Rattle.std.specs.List.{list_all, prefix_len};
 ghost use Rattle.pep_clause.specs.Clause.{is_clause_byte};
 
-/// Whether the byte may stand in a clause behind its operator: a letter, a digit, or one of `-_.*+!` (PEP 440,
-/// "Version specifiers").
+/// Whether the byte may stand in a clause behind its operator: a letter, a digit, or one of
+/// `-_.*+!` (PEP 440, "Version specifiers").
 pub fn is_clause_byte(b: u8) -> bool
     ensures { result ≡ is_clause_byte b }
 {

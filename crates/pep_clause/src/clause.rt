@@ -25,8 +25,8 @@ pub(crate) enum ClauseForm {
     Demanded(String),
 }
 
-/// A version specifier clause (PEP 440, "Version specifiers"): an operator, and the version, the prefix or the text
-/// that stands behind it.
+/// A version specifier clause (PEP 440, "Version specifiers"): an operator, and the version, the
+/// prefix or the text that stands behind it.
 #[derive(Drop)]
 pub struct Clause {
     form: ClauseForm,

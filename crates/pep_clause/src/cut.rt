@@ -2,15 +2,42 @@
 
 mod text;
 
-ghost use Rattle.std.specs.Prelude.{◌≡◌, ◌<◌, ◌↔◌, ◌∷◌, ◌++◌, [], length, refl, string_bytes, IfErr, IfOk, IsTrue};
-ghost use Rattle.std.specs.Cmp.{eq_by_cmp_equiv, partial_equiv_from_equiv, partial_order_from_total};
+ghost use Rattle.std.specs.Prelude.{
+  ◌≡◌,
+  ◌<◌,
+  ◌↔◌,
+  ◌∷◌,
+  ◌++◌,
+  [],
+  length,
+  refl,
+  string_bytes,
+  IfErr,
+  IfOk,
+  IsTrue,
+};
+ghost use Rattle.std.specs.Cmp.{
+  eq_by_cmp_equiv,
+  partial_equiv_from_equiv,
+  partial_order_from_total,
+};
 ghost use Rattle.std.specs.List.{AllByRecursion};
 ghost use Rattle.std.specs.Ordering.{as_partial_cmp, eq_by_cmp, is_le};
 ghost use Rattle.std.specs.declared.cmp.Ordering.TheVariants.{Less, Equal, Greater};
 ghost use Rattle.pep_version.specs.Order.{place_of};
 ghost use Rattle.pep_version.specs.Text.{normal_text};
 ghost use Rattle.pep_version.specs.Version.{Fits};
-ghost use Rattle.pep_clause.specs.Cut.{IsCut, after, before, cut_cmp, cut_text, end, final_version, is_under, least};
+ghost use Rattle.pep_clause.specs.Cut.{
+  IsCut,
+  after,
+  before,
+  cut_cmp,
+  cut_text,
+  end,
+  final_version,
+  is_under,
+  least,
+};
 ghost use Rattle.pep_clause.specs.CutOrder.{LiesIn, LiesStrictlyIn, SameUnder};
 ghost use Rattle.pep_clause.specs.Laws.{cut_total};
 ghost use Rattle.pep_clause.specs.OperatorTable.{before_dev, before_place, past_release};
@@ -29,9 +56,10 @@ enum CutForm {
     End,
 }
 
-/// A cut is a place in the order of versions (PEP 440, "Summary of permitted suffixes and relative ordering"),
-/// between those under it and the others: directly before a version and all that are the same in order, directly
-/// after them, past everything of a release, or the end of all versions.
+/// A cut is a place in the order of versions (PEP 440, "Summary of permitted suffixes and relative
+/// ordering"), between those under it and the others: directly before a version and all that are
+/// the same in order, directly after them, past everything of a release, or the end of all
+/// versions.
 #[derive(Drop)]
 pub struct Cut {
     form: CutForm,
@@ -49,8 +77,8 @@ impl Model for Cut {
 }
 
 impl Cut {
-    /// The cut directly before a version and all that are the same in order (PEP 440, "Inclusive ordered
-    /// comparison"). The only fault is `NoMemory`.
+    /// The cut directly before a version and all that are the same in order (PEP 440, "Inclusive
+    /// ordered comparison"). The only fault is `NoMemory`.
     pub fn before(alloc: Global, version: &Version) -> Result<Cut, ClauseFault>
         ensures place { IfOk result (λ c. c ≡ before (place_of version.now)) }
         ensures spelled { IfOk result (λ c. IsCut c) }
@@ -67,7 +95,12 @@ impl Cut {
         post: Option<u64>,
         dev: Option<u64>,
     ) -> Result<Cut, ClauseFault>
-        ensures place { IfOk result (λ c. c ≡ before_place (record version.now { pre = pre; post = post; dev = dev })) }
+        ensures place { IfOk result (λ c. c ≡ before_place (record version.now {
+          pre = pre;
+          post =
+              post;
+          dev = dev;
+        })) }
         ensures spelled { IfOk result (λ c. IsCut c) }
         ensures faults { IfErr result (λ e. e ≡ ClauseFault.NoMemory) }
     {
@@ -77,7 +110,8 @@ impl Cut {
         })
     }
 
-    /// The cut before the first developmental release of a release, and so before all its pre-releases.
+    /// The cut before the first developmental release of a release, and so before all its
+    /// pre-releases.
     pub(crate) fn before_dev(alloc: Global, epoch: u64, release: &[u64]) -> Result<Cut, ClauseFault>
         requires { 0 < length release.now }
         ensures place { IfOk result (λ c. c ≡ before_dev epoch release.now) }
@@ -222,7 +256,8 @@ impl Ord for Cut {
 
     ghost matches_eq = { λ a b. refl };
 
-    /// One cut is less exactly if less lies under it, and two are equal exactly if the same versions lie under both.
+    /// One cut is less exactly if less lies under it, and two are equal exactly if the same
+    /// versions lie under both.
     fn cmp(&self, other: &Cut) -> Ordering
         ensures order { result ≡ cut_cmp self.now other.now }
         ensures within { IsTrue (is_le result) ↔ LiesIn self.now other.now }

@@ -23,7 +23,8 @@ pub fn one_list_of_versions()
         → SameVersions ranges others → ranges ≡ others }
 {}
 
-/// Sets hold all versions that are the same in order or none of them: a version is in a set exactly if its place is.
+/// Sets hold all versions that are the same in order or none of them: a version is in a set exactly
+/// if its place is.
 pub fn place_is_in()
     ensures { (ranges : List Range) (v : Version) → is_in ranges (place_of v) ≡ is_in ranges v }
 {}
@@ -33,14 +34,16 @@ pub fn one_clause()
     ensures { (text : List ℕ) (c d : Clause) → IsClause text c → IsClause text d → c ≡ d }
 {}
 
-/// An operator and a text behind it have at most one answer, a clause or a refusal, where memory does not lack.
+/// An operator and a text behind it have at most one answer, a clause or a refusal, where memory
+/// does not lack.
 pub fn one_answer()
     ensures { (operator : Op) (text : List ℕ) (answer other : Result Clause ClauseFault)
         → ClauseOf operator text answer → ClauseOf operator text other
         → answer ≢ Err ClauseFault.NoMemory → other ≢ Err ClauseFault.NoMemory → answer ≡ other }
 {}
 
-/// What some text is read as, is read back from its own text: with `one_clause`, from no other clause's.
+/// What some text is read as, is read back from its own text: with `one_clause`, from no other
+/// clause's.
 pub fn clause_text_is_read()
     ensures { (text : List ℕ) (c : Clause) → IsClause text c → IsClause (clause_text c) c }
 {

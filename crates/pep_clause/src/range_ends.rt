@@ -1,9 +1,33 @@
 // The cuts where the ranges of operators begin and end.
 
-ghost use Rattle.std.specs.Prelude.{◌≡◌, ◌+◌, ◌∷◌, ◌++◌, [], nat_lt, option_map, if◌then◌else◌, IfErr, IfOk, None, Some};
+ghost use Rattle.std.specs.Prelude.{
+  ◌≡◌,
+  ◌+◌,
+  ◌∷◌,
+  ◌++◌,
+  [],
+  nat_lt,
+  option_map,
+  if◌then◌else◌,
+  IfErr,
+  IfOk,
+  None,
+  Some,
+};
 ghost use Rattle.pep_version.specs.Order.{without_dev, without_post};
 ghost use Rattle.pep_clause.specs.Cut.{IsCut};
-ghost use Rattle.pep_clause.specs.OperatorTable.{after_last_dev, done, greater_from, last, less_to, matching_to, next, next_phase, prefix_end, raised};
+ghost use Rattle.pep_clause.specs.OperatorTable.{
+  after_last_dev,
+  done,
+  greater_from,
+  last,
+  less_to,
+  matching_to,
+  next,
+  next_phase,
+  prefix_end,
+  raised,
+};
 
 use crate::cut::Cut;
 use crate::fault::ClauseFault;
@@ -17,9 +41,11 @@ fn next_number(n: u64) -> Option<u64>
     n.checked_add(1)
 }
 
-// The cut directly after all pre-releases of the phase: before the first of the next phase, or before the release.
+// The cut directly after all pre-releases of the phase: before the first of the next phase, or
+// before the release.
 fn next_phase(alloc: Global, version: &Version, phase: Phase) -> Result<Cut, ClauseFault>
-    ensures place { IfOk result (λ c. c ≡ next_phase phase (without_dev (without_post version.now))) }
+    ensures place { IfOk result (λ c.
+        c ≡ next_phase phase (without_dev (without_post version.now))) }
     ensures spelled { IfOk result (λ c. IsCut c) }
     ensures faults { IfErr result (λ e. e ≡ ClauseFault.NoMemory) }
 {
@@ -49,7 +75,8 @@ fn done(alloc: Global, version: &Version) -> Result<Cut, ClauseFault>
 
 // The cut directly after a version whose developmental release number is the largest.
 fn after_last_dev(alloc: Global, version: &Version) -> Result<Cut, ClauseFault>
-    ensures place { IfOk result (λ c. c ≡ after_last_dev version.now.pre version.now.post version.now) }
+    ensures place { IfOk result (λ c. c ≡ after_last_dev version.now.pre version.now.post
+        version.now) }
     ensures spelled { IfOk result (λ c. IsCut c) }
     ensures faults { IfErr result (λ e. e ≡ ClauseFault.NoMemory) }
 {
@@ -62,8 +89,8 @@ fn after_last_dev(alloc: Global, version: &Version) -> Result<Cut, ClauseFault>
     }
 }
 
-/// The cut directly after a version without a label and all its labels: where `<=` ends (PEP 440, "Inclusive
-/// ordered comparison").
+/// The cut directly after a version without a label and all its labels: where `<=` ends (PEP 440,
+/// "Inclusive ordered comparison").
 pub(crate) fn next(alloc: Global, version: &Version) -> Result<Cut, ClauseFault>
     ensures place { IfOk result (λ c. c ≡ next version.now) }
     ensures spelled { IfOk result (λ c. IsCut c) }
@@ -98,8 +125,8 @@ pub(crate) fn greater_from(alloc: Global, version: &Version) -> Result<Cut, Clau
     }
 }
 
-/// Where `<` ends: a version that is no pre-release leaves its own pre-releases out (PEP 440, "Exclusive ordered
-/// comparison").
+/// Where `<` ends: a version that is no pre-release leaves its own pre-releases out (PEP 440,
+/// "Exclusive ordered comparison").
 pub(crate) fn less_to(alloc: Global, version: &Version) -> Result<Cut, ClauseFault>
     ensures place { IfOk result (λ c. c ≡ less_to version.now) }
     ensures spelled { IfOk result (λ c. IsCut c) }
@@ -139,10 +166,14 @@ fn raised(release: &[u64]) -> Option<(&[u64], u64)>
     None
 }
 
-/// The cut directly after all versions with this epoch whose release begins with these numbers (PEP 440, "Version
-/// matching").
+/// The cut directly after all versions with this epoch whose release begins with these numbers (PEP
+/// 440, "Version matching").
 pub(crate) fn prefix_end(alloc: Global, epoch: u64, release: &[u64]) -> Result<Cut, ClauseFault>
-    ensures place { IfOk result (λ c. c ≡ prefix_end (record { epoch = epoch; release = release.now })) }
+    ensures place { IfOk result (λ c. c ≡ prefix_end (record {
+      epoch = epoch;
+      release =
+          release.now;
+    })) }
     ensures spelled { IfOk result (λ c. IsCut c) }
     ensures faults { IfErr result (λ e. e ≡ ClauseFault.NoMemory) }
 {

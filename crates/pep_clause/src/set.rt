@@ -1,11 +1,33 @@
 // Sets of versions.
 
-ghost use Rattle.std.specs.Prelude.{◌≡◌, ◌&&◌, ◌↔◌, ◌++◌, ◌-◌, [], length, take, IfErr, IfOk, IsSome, IsTrue, None, OnErr, OnOk};
+ghost use Rattle.std.specs.Prelude.{
+  ◌≡◌,
+  ◌&&◌,
+  ◌↔◌,
+  ◌++◌,
+  ◌-◌,
+  [],
+  length,
+  take,
+  IfErr,
+  IfOk,
+  IsSome,
+  IsTrue,
+  None,
+  OnErr,
+  OnOk,
+};
 ghost use Rattle.std.specs.Cmp.{partial_equiv_from_equiv};
 ghost use Rattle.std.specs.declared.cmp.Ordering.TheVariants.{Less};
 ghost use Rattle.pep_version.specs.Version.{IsVersion, Version};
 ghost use Rattle.pep_clause.specs.Admits.{admits};
-ghost use Rattle.pep_clause.specs.Clause.{compatible, demanded_text, excluding_prefix, matching_prefix, prefix_of};
+ghost use Rattle.pep_clause.specs.Clause.{
+  compatible,
+  demanded_text,
+  excluding_prefix,
+  matching_prefix,
+  prefix_of,
+};
 ghost use Rattle.pep_clause.specs.ClauseView.{IsStored, clause_of};
 ghost use Rattle.pep_clause.specs.Cut.{Cut, IsCut, cut_cmp, least};
 ghost use Rattle.pep_clause.specs.Inhabited.{HasVersionUnlessEmpty};
@@ -171,7 +193,8 @@ impl VersionSet {
         VersionSet::between(alloc, low, prefix_end(alloc, epoch, release)?)
     }
 
-    /// The versions whose epoch is another, or whose release does not begin with the numbers of the prefix.
+    /// The versions whose epoch is another, or whose release does not begin with the numbers of the
+    /// prefix.
     fn without_prefix(alloc: Global, prefix: &Version) -> Result<VersionSet, ClauseFault>
         ensures outside { IfOk result (λ s. s ≡ set_of (excluding_prefix (prefix_of prefix.now))) }
         ensures faults { IfErr result (λ e. e ≡ ClauseFault.NoMemory) }
@@ -181,7 +204,8 @@ impl VersionSet {
         VersionSet::outside(alloc, low, prefix_end(alloc, epoch, release)?)
     }
 
-    /// The versions that are not below this one, and whose release begins with its numbers but the last.
+    /// The versions that are not below this one, and whose release begins with its numbers but the
+    /// last.
     fn compatible(alloc: Global, version: &Version) -> Result<VersionSet, ClauseFault>
         ensures range { IfOk result (λ s. s ≡ set_of (compatible version.now)) }
         ensures faults { IfErr result (λ e. e ≡ ClauseFault.NoMemory) }
@@ -226,12 +250,15 @@ impl VersionSet {
         }
     }
 
-    /// The versions that a clause admits (PEP 440, "Version specifiers"). A clause with `===` admits by the text of
-    /// a version, which no range does: its set is that of all versions. The only fault is `NoMemory`.
+    /// The versions that a clause admits (PEP 440, "Version specifiers"). A clause with `===`
+    /// admits by the text of a version, which no range does: its set is that of all versions. The
+    /// only fault is `NoMemory`.
     pub fn of(alloc: Global, clause: &Clause) -> Result<VersionSet, ClauseFault>
         ensures list { IfOk result (λ s. s ≡ set_of clause.now) }
-        ensures versions { IfOk result (λ s. (v : Version) → IsVersion v → demanded_text clause.now ≡ None → is_in s v ≡ admits clause.now v) }
-        ensures demanded { IfOk result (λ s. (v : Version) → IsSome (demanded_text clause.now) → In s v) }
+        ensures versions { IfOk result (λ s. (v : Version) → IsVersion v →
+            demanded_text clause.now ≡ None → is_in s v ≡ admits clause.now v) }
+        ensures demanded { IfOk result (λ s. (v : Version) → IsSome (demanded_text clause.now) →
+            In s v) }
         ensures normal { IfOk result (λ s. IsNormal s) }
         ensures inhabited { IfOk result (λ s. HasVersionUnlessEmpty s) }
         ensures faults { IfErr result (λ e. e ≡ ClauseFault.NoMemory) }
@@ -241,8 +268,10 @@ impl VersionSet {
 
     /// The versions that are in both sets. The only fault is `NoMemory`.
     pub fn joined(&self, alloc: Global, other: &VersionSet) -> Result<VersionSet, ClauseFault>
-        ensures points { IfOk result (λ s. (c : Cut) → is_point s c ≡ (is_point self.now c && is_point other.now c)) }
-        ensures versions { IfOk result (λ s. (v : Version) → is_in s v ≡ (is_in self.now v && is_in other.now v)) }
+        ensures points { IfOk result (λ s. (c : Cut) → is_point s c
+            ≡ (is_point self.now c && is_point other.now c)) }
+        ensures versions { IfOk result (λ s. (v : Version) →
+            is_in s v ≡ (is_in self.now v && is_in other.now v)) }
         ensures normal { IfOk result (λ s. IsNormal s) }
         ensures inhabited { IfOk result (λ s. HasVersionUnlessEmpty s) }
         ensures faults { IfErr result (λ e. e ≡ ClauseFault.NoMemory) }
@@ -251,10 +280,13 @@ impl VersionSet {
         Ok(VersionSet { ranges })
     }
 
-    /// Keeps the versions that are in the other set too. The only fault is `NoMemory`, and then the set is as it was.
+    /// Keeps the versions that are in the other set too. The only fault is `NoMemory`, and then the
+    /// set is as it was.
     pub fn join(&mut self, alloc: Global, other: &VersionSet) -> Result<(), ClauseFault>
-        ensures points { OnOk result ((c : Cut) → is_point self.new c ≡ (is_point self.old c && is_point other.now c)) }
-        ensures versions { OnOk result ((v : Version) → is_in self.new v ≡ (is_in self.old v && is_in other.now v)) }
+        ensures points { OnOk result ((c : Cut) → is_point self.new c
+            ≡ (is_point self.old c && is_point other.now c)) }
+        ensures versions { OnOk result ((v : Version) →
+            is_in self.new v ≡ (is_in self.old v && is_in other.now v)) }
         ensures normal { OnOk result (IsNormal self.new) }
         ensures inhabited { OnOk result (HasVersionUnlessEmpty self.new) }
         ensures kept { OnErr result (self.new ≡ self.old) }

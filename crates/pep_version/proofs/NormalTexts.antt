@@ -59,7 +59,7 @@ optional-spells (c ∷ cs) n s = s
 
 -- ---- parts of a text
 
-list_all-weaker : (p q : ℕ → Bool) → ((b : ℕ) → p b ≡ true → q b ≡ true) → (xs : List ℕ) →
+pub list_all-weaker : (p q : ℕ → Bool) → ((b : ℕ) → p b ≡ true → q b ≡ true) → (xs : List ℕ) →
     list_all p xs ≡ true → list_all q xs ≡ true
 list_all-weaker p q w [] h = refl
 list_all-weaker p q w (x ∷ xs) h =

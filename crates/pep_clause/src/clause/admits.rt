@@ -2,8 +2,22 @@
 
 ghost use Rattle.std.specs.Prelude.{◌≡◌, [], IfErr, IfOk};
 ghost use Rattle.pep_version.specs.Order.{is_below, is_same, public_version, version_cmp};
-ghost use Rattle.pep_clause.specs.Admits.{admits, begins_padded, has_prefix, is_post_release_of, is_pre_release_of, matches};
-ghost use Rattle.pep_clause.specs.Clause.{at_least, at_most, compatible, greater_than, less_than, prefix_of};
+ghost use Rattle.pep_clause.specs.Admits.{
+  admits,
+  begins_padded,
+  has_prefix,
+  is_post_release_of,
+  is_pre_release_of,
+  matches,
+};
+ghost use Rattle.pep_clause.specs.Clause.{
+  at_least,
+  at_most,
+  compatible,
+  greater_than,
+  less_than,
+  prefix_of,
+};
 
 use crate::clause::{Clause, ClauseForm};
 use crate::fault::ClauseFault;
@@ -19,7 +33,15 @@ fn with_suffixes(
     post: Option<u64>,
     dev: Option<u64>,
 ) -> Result<Version, ClauseFault>
-    ensures version { IfOk result (λ v. v ≡ record { epoch = version.now.epoch; release = version.now.release; pre = pre; post = post; dev = dev; label = [] }) }
+    ensures version { IfOk result (λ v. v ≡ record {
+      epoch = version.now.epoch;
+      release =
+          version.now.release;
+      pre = pre;
+      post = post;
+      dev = dev;
+      label = [];
+    }) }
     ensures faults { IfErr result (λ e. e ≡ ClauseFault.NoMemory) }
 {
     let release = Vec::from_slice(alloc, version.release())?;
@@ -99,15 +121,16 @@ fn begins_padded(numbers: &[u64], release: &[u64]) -> bool
     true
 }
 
-// Whether the version has this epoch, and its release begins with these numbers (PEP 440, "Version matching").
+// Whether the version has this epoch, and its release begins with these numbers (PEP 440, "Version
+// matching").
 fn has_prefix(epoch: u64, numbers: &[u64], version: &Version) -> bool
     ensures { result ≡ has_prefix (record { epoch = epoch; release = numbers.now }) version.now }
 {
     version.epoch() == epoch && begins_padded(numbers, version.release())
 }
 
-// Whether the version is the same as the clause's, its label apart where the clause has none (PEP 440, "Version
-// matching").
+// Whether the version is the same as the clause's, its label apart where the clause has none (PEP
+// 440, "Version matching").
 fn matches(alloc: Global, wanted: &Version, version: &Version) -> Result<bool, ClauseFault>
     ensures matches { IfOk result (λ b. b ≡ matches wanted.now version.now) }
     ensures faults { IfErr result (λ e. e ≡ ClauseFault.NoMemory) }
@@ -178,8 +201,9 @@ impl Clause {
     ghost use Rattle.std.specs.Prelude.{◌≡◌, IfErr, IfOk};
     ghost use Rattle.pep_clause.specs.Admits.{admits};
 
-    /// Whether the clause admits the version (PEP 440, "Version specifiers"). The version's local version label
-    /// counts only where the clause has a label itself ("Version matching"). The only fault is `NoMemory`.
+    /// Whether the clause admits the version (PEP 440, "Version specifiers"). The version's local
+    /// version label counts only where the clause has a label itself ("Version matching"). The only
+    /// fault is `NoMemory`.
     pub fn admits(&self, alloc: Global, version: &Version) -> Result<bool, ClauseFault>
         ensures admits { IfOk result (λ b. b ≡ admits self.now version.now) }
         ensures faults { IfErr result (λ e. e ≡ ClauseFault.NoMemory) }

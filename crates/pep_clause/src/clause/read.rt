@@ -3,7 +3,14 @@
 ghost use Rattle.std.specs.Prelude.{◌≡◌, ◌&&◌, not, Ok};
 ghost use Rattle.std.specs.List.{list_all};
 ghost use Rattle.pep_version.specs.Version.{IsVersion, is_empty};
-ghost use Rattle.pep_clause.specs.Clause.{TargetAnswers, ends_in_space, is_clause_byte, is_final, prefix_answer, version_answer};
+ghost use Rattle.pep_clause.specs.Clause.{
+  TargetAnswers,
+  ends_in_space,
+  is_clause_byte,
+  is_final,
+  prefix_answer,
+  version_answer,
+};
 
 use crate::bytes::has_clause_bytes;
 use crate::clause::{Clause, ClauseForm};
@@ -100,19 +107,21 @@ impl Clause {
     ghost use Rattle.pep_clause.specs.Clause.{ClauseOf, ReadsClause};
     ghost use Rattle.pep_clause.specs.Valid.{IsValidClause};
 
-    /// The clause of an operator and the text behind it (PEP 440, "Version specifiers"). White space at both ends
-    /// of the text does not matter.
+    /// The clause of an operator and the text behind it (PEP 440, "Version specifiers"). White
+    /// space at both ends of the text does not matter.
     ///
-    /// Behind `==` and `!=` stands a version, which may have a local version label, or a release with its epoch and
-    /// `.*` ("Version matching", "Version exclusion"); behind the others a version without a label ("Inclusive
-    /// ordered comparison", "Exclusive ordered comparison"), for `~=` with two release numbers or more ("Compatible
-    /// release"); behind `===` one or more letters, digits and bytes of `-_.*+!`, kept in lower case ("Arbitrary
-    /// equality").
+    /// Behind `==` and `!=` stands a version, which may have a local version label, or a release
+    /// with its epoch and
+    /// `.*` ("Version matching", "Version exclusion"); behind the others a version without a label
+    /// ("Inclusive ordered comparison", "Exclusive ordered comparison"), for `~=` with two release
+    /// numbers or more ("Compatible release"); behind `===` one or more letters, digits and bytes
+    /// of `-_.*+!`, kept in lower case ("Arbitrary equality").
     ///
-    /// Each refusal is the first check that fails: 12 `BadVersion` where no version stands before `.*` or in the
-    /// text, or the text of `===` is empty or has another byte; 16 `NumberTooLarge` where it would be a version but
-    /// for a number above 18446744073709551615; 13 `StarNotAllowed` where `.*` stands behind more than a release, or
-    /// with another operator than `==` and `!=`; 14 `LocalNotAllowed` for a label with another operator; 15
+    /// Each refusal is the first check that fails: 12 `BadVersion` where no version stands before
+    /// `.*` or in the text, or the text of `===` is empty or has another byte; 16 `NumberTooLarge`
+    /// where it would be a version but for a number above 18446744073709551615; 13 `StarNotAllowed`
+    /// where `.*` stands behind more than a release, or with another operator than `==` and `!=`;
+    /// 14 `LocalNotAllowed` for a label with another operator; 15
     /// `OneNumber` for `~=` with one release number; 17 `NoMemory` where a growth is refused.
     pub fn of(alloc: Global, operator: Op, text: &str) -> Result<Clause, ClauseFault>
         ensures clause { ClauseOf operator text.now result }
@@ -121,10 +130,12 @@ impl Clause {
         operand_clause(alloc, operator, trimmed(text))
     }
 
-    /// The clause that a text writes: the longest operator that the text begins with, and what stands behind it
-    /// (PEP 440, "Version specifiers"). White space at both ends of the text, and behind the operator, does not matter.
+    /// The clause that a text writes: the longest operator that the text begins with, and what
+    /// stands behind it (PEP 440, "Version specifiers"). White space at both ends of the text, and
+    /// behind the operator, does not matter.
     ///
-    /// A text that begins with no operator is refused with 11 `NoOperator`; else each refusal is that of `Clause::of`.
+    /// A text that begins with no operator is refused with 11 `NoOperator`; else each refusal is
+    /// that of `Clause::of`.
     pub fn read(alloc: Global, text: &str) -> Result<Clause, ClauseFault>
         ensures clause { ReadsClause text.now result }
         ensures valid { IfOk result (λ c. IsValidClause c) }

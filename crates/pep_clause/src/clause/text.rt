@@ -8,8 +8,9 @@ impl Clause {
     ghost use Rattle.std.specs.Prelude.{◌≡◌, IfErr, IfOk, option_map, string_bytes};
     ghost use Rattle.pep_clause.specs.Clause.{clause_text, demanded_text};
 
-    /// The clause as it is written (PEP 440, "Version specifiers"): the operator, and the normal text of its version,
-    /// the release with its epoch and `.*`, or the text of `===`. The only fault is `NoMemory`.
+    /// The clause as it is written (PEP 440, "Version specifiers"): the operator, and the normal
+    /// text of its version, the release with its epoch and `.*`, or the text of `===`. The only
+    /// fault is `NoMemory`.
     pub fn text(&self, alloc: Global) -> Result<String, ClauseFault>
         ensures text { IfOk result (λ t. string_bytes t ≡ clause_text self.now) }
         ensures faults { IfErr result (λ e. e ≡ ClauseFault.NoMemory) }

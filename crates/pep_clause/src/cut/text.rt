@@ -22,8 +22,9 @@ fn word_and_version(alloc: Global, word: &str, place: &Key) -> Result<String, Cl
 impl Cut {
     ghost use Rattle.pep_clause.specs.Cut.{cut_text};
 
-    /// The text of the cut: its word, which is `before`, `after` or `past`, and the normal text of the version
-    /// (PEP 440, "Normalization"), for `past` of the release with its epoch; or `end`. The only fault is `NoMemory`.
+    /// The text of the cut: its word, which is `before`, `after` or `past`, and the normal text of
+    /// the version (PEP 440, "Normalization"), for `past` of the release with its epoch; or `end`.
+    /// The only fault is `NoMemory`.
     pub fn text(&self, alloc: Global) -> Result<String, ClauseFault>
         ensures text { IfOk result (λ t. string_bytes t ≡ cut_text self.now) }
         ensures faults { IfErr result (λ e. e ≡ ClauseFault.NoMemory) }

@@ -1,4 +1,5 @@
-use Rattle.pep_clause.proofs.CutOrderLemmas.{above-strictly, below-strictly, not_above-within, tied-exactly, tied-under}
+use Rattle.pep_clause.proofs.CutOrderLemmas.{above-strictly, below-strictly, not_above-within}
+use Rattle.pep_clause.proofs.CutOrderLemmas.{tied-exactly, tied-under}
 use Rattle.pep_clause.proofs.cut.CutOrd.cmp.Goals as goal
 
 pub returns : goal.returns

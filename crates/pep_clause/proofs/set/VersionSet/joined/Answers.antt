@@ -8,9 +8,11 @@ use Rattle.pep_clause.proofs.set.VersionSet.joined.Goals as goal
 
 pub invariant_of-result : goal.invariant_of-result
 invariant_of-result c =
-    let list : c.in_ok-ranges.ranges.items ≡ joined c.args.self.now c.args.other.now = cc (c.in_ok-ranges.ensures.ok) in
+    let list : c.in_ok-ranges.ranges.items ≡ joined c.args.self.now c.args.other.now =
+    cc (c.in_ok-ranges.ensures.ok) in
     let self_normal : IsNormal c.args.self.now = subst IsNormal c.self.view_is c.self.invariant in
-    let other_normal : IsNormal c.args.other.now = subst IsNormal c.other.view_is c.other.invariant in
+    let other_normal : IsNormal c.args.other.now =
+    subst IsNormal c.other.view_is c.other.invariant in
     rw list (IsNormal-joined c.args.self.now c.args.other.now self_normal other_normal)
 
 pub returns-clause-normal : goal.returns-clause-normal
@@ -21,10 +23,12 @@ returns-clause-inhabited c = normal-has_version c.in_ok-ranges.ranges.items (inv
 
 pub returns-clause-points : goal.returns-clause-points
 returns-clause-points c =
-    let list : c.in_ok-ranges.ranges.items ≡ joined c.args.self.now c.args.other.now = cc (c.in_ok-ranges.ensures.ok) in
+    let list : c.in_ok-ranges.ranges.items ≡ joined c.args.self.now c.args.other.now =
+    cc (c.in_ok-ranges.ensures.ok) in
     λ cut. (λ i. is_point (list i) cut) ∙ is_point-joined c.args.self.now c.args.other.now cut
 
 pub returns-clause-versions : goal.returns-clause-versions
 returns-clause-versions c =
-    let list : c.in_ok-ranges.ranges.items ≡ joined c.args.self.now c.args.other.now = cc (c.in_ok-ranges.ensures.ok) in
+    let list : c.in_ok-ranges.ranges.items ≡ joined c.args.self.now c.args.other.now =
+    cc (c.in_ok-ranges.ensures.ok) in
     λ v. (λ i. is_in (list i) v) ∙ is_in-joined c.args.self.now c.args.other.now v

@@ -1,4 +1,5 @@
-use Rattle.pep_clause.proofs.SetLemmas.{normal-inhabited, set_of-demanded, set_of-normal, set_of-versions, stored-valid}
+use Rattle.pep_clause.proofs.SetLemmas.{normal-inhabited, set_of-demanded, set_of-normal}
+use Rattle.pep_clause.proofs.SetLemmas.{set_of-versions, stored-valid}
 use Rattle.pep_clause.proofs.set.VersionSet.of.Goals as goal
 
 pub returns-clause-versions : goal.returns-clause-versions

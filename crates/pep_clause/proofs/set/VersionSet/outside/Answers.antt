@@ -9,7 +9,9 @@ invariant_of-result c =
     let none = c.new-ranges.ensures.items in
     let first = c.in_ok-least.ensures.least in
     let last = c.end.ensures in
-    let under : c.push_range.new.done.items ≡ range least c.args.low = c.in_ok-push_range.ensures.ok ∙ (λ i. none i ++ range (first i) c.args.low) in
+    let under : c.push_range.new.done.items ≡ range least c.args.low =
+    c.in_ok-push_range.ensures.ok ∙ (λ i. none i ++ range (first i) c.args.low) in
     let list : c.push_range-2.new.done.items ≡ outside c.args.low c.args.high =
     c.in_ok-push_range-2.ensures.ok ∙ (λ i. under i ++ range c.args.high (last i)) in
-    rw list (IsNormal-outside c.args.low c.args.high c.requires.low c.requires.high c.requires.in_order)
+    rw list (IsNormal-outside c.args.low c.args.high c.requires.low c.requires.high
+    c.requires.in_order)

@@ -11,7 +11,10 @@ outside-requires-clause-in_order c =
     let v = c.args.prefix.now in
     let epoch = c.epoch-epoch.ensures in
     let release = c.release-release.ensures.numbers in
-    let low : c.in_ok-low.low ≡ before_prefix (prefix_of v) = c.in_ok-low.ensures.place ∙ (λ i. before_dev (epoch i) (release i)) in
+    let low : c.in_ok-low.low ≡ before_prefix (prefix_of v) =
+    c.in_ok-low.ensures.place ∙ (λ i. before_dev (epoch i) (release i)) in
     let high : c.in_ok-prefix_end.field-0 ≡ prefix_end (prefix_of v) =
-    c.in_ok-prefix_end.ensures.place ∙ (λ i. prefix_end (record { epoch = epoch i; release = release i })) in
-    (λ i. cut_cmp (low i) (high i)) ∙ before_prefix-below_end (prefix_of v) (IsVersion-prefix_of v c.release-release.ensures.version)
+    c.in_ok-prefix_end.ensures.place
+    ∙ (λ i. prefix_end (record { epoch = epoch i; release = release i })) in
+    (λ i. cut_cmp (low i) (high i)) ∙ before_prefix-below_end (prefix_of v)
+    (IsVersion-prefix_of v c.release-release.ensures.version)
