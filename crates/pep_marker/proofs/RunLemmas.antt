@@ -1,10 +1,10 @@
 -- The longest run of elements of one class at the front of a list.
 use Rattle.std.proofs.Common.{◌≡◌, ℕ, zero, suc, ◌+◌, ◌<◌, Bool, true, false, List, [], ◌∷◌, ◌++◌}
-use Rattle.std.proofs.Common.{length, take, drop, refl, ap, ◌∙◌, arith, lit<}
+use Rattle.std.proofs.Common.{length, take, drop, refl, sym, ap, ◌∙◌, arith, lit<}
 use Rattle.std.proofs.Math.Seq.{take-append_seam, drop-append_seam}
 use Rattle.std.specs.List.{list_all, prefix_len}
 use Rattle.std.specs.Str.{IsAscii}
-use Rattle.pep_version.proofs.Connectives.{and_first, and_second}
+use Rattle.pep_version.proofs.Connectives.{and_first, and_second, by_answer}
 use Rattle.pep_marker.specs.Runs.{begins}
 
 -- the run of a list that is a run and then something that does not begin with an element of the
@@ -37,24 +37,24 @@ all-run p (b ∷ x) = by (p b) refl (all-run p x)
         let n : 1 + prefix_len p x ≡ suc (prefix_len p x) = omega arith in rw (e, n, e) rest
     by false e rest = rw e refl
 
+-- behind a run that goes on
+drop-run : (p : ℕ → Bool) (b : ℕ) (x : List ℕ) → p b ≡ true →
+    drop (prefix_len p (b ∷ x)) (b ∷ x) ≡ drop (prefix_len p x) x
+drop-run p b x h =
+    let n : 1 + prefix_len p x ≡ suc (prefix_len p x) = omega arith in rw (h, n) refl
+
 -- a list all of whose elements are of the class is its own run
 pub rest-all : (p : ℕ → Bool) (x : List ℕ) → list_all p x ≡ true → drop (prefix_len p x) x ≡ []
 rest-all p [] h = refl
 rest-all p (b ∷ x) h =
-    let n : 1 + prefix_len p x ≡ suc (prefix_len p x) = omega arith in
-    rw (and_first (p b) (list_all p x) h, n) (rest-all p x (and_second (p b) (list_all p x) h))
+    drop-run p b x (and_first (p b) (list_all p x) h)
+    ∙ rest-all p x (and_second (p b) (list_all p x) h)
 
 -- a list whose run leaves nothing is all of the class
 pub all-rest : (p : ℕ → Bool) (x : List ℕ) → drop (prefix_len p x) x ≡ [] → list_all p x ≡ true
 all-rest p [] h = refl
-all-rest p (b ∷ x) h = by (p b) refl (all-rest p x)
-  where
-    by : (q : Bool) → p b ≡ q → (drop (prefix_len p x) x ≡ [] → list_all p x ≡ true) →
-        list_all p (b ∷ x) ≡ true
-    by true e rest =
-        let n : 1 + prefix_len p x ≡ suc (prefix_len p x) = omega arith in
-        rw e (rest (rw (e, n) at h))
-    by false e rest = cc (rw e at h)
+all-rest p (b ∷ x) h =
+    by_answer (p b) (λ e. rw e (all-rest p x (sym (drop-run p b x e) ∙ h))) (λ e. cc (rw e at h))
 
 -- bytes of a class of ASCII bytes are ASCII
 pub ascii-class : (p : ℕ → Bool) → ((b : ℕ) → p b ≡ true → b < 128) → (x : List ℕ) →
@@ -66,10 +66,5 @@ ascii-class p small (b ∷ x) h (suc i) = ascii-class p small x (and_second (p b
 -- what is behind a run does not begin with an element of the class
 pub begins-rest : (p : ℕ → Bool) (x : List ℕ) → begins p (drop (prefix_len p x) x) ≡ false
 begins-rest p [] = refl
-begins-rest p (b ∷ x) = by (p b) refl (begins-rest p x)
-  where
-    by : (q : Bool) → p b ≡ q → begins p (drop (prefix_len p x) x) ≡ false →
-        begins p (drop (prefix_len p (b ∷ x)) (b ∷ x)) ≡ false
-    by true e rest =
-        let n : 1 + prefix_len p x ≡ suc (prefix_len p x) = omega arith in rw (e, n) rest
-    by false e rest = rw e e
+begins-rest p (b ∷ x) =
+    by_answer (p b) (λ e. ap (begins p) (drop-run p b x e) ∙ begins-rest p x) (λ e. rw e e)

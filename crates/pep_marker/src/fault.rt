@@ -56,6 +56,7 @@ impl MarkerFault {
     }
 }
 
+// Written out, since thiserror's `From` doesn't say which fault it gives.
 impl From<AllocError> for MarkerFault {
     ghost use Rattle.std.specs.Prelude.{◌≡◌};
     ghost use Rattle.pep_marker.specs.declared.fault.MarkerFault.TheVariants.{NoMemory};

@@ -73,6 +73,7 @@ impl RequireFault {
     }
 }
 
+// Written out, since thiserror's `From` doesn't say which fault it gives.
 impl From<AllocError> for RequireFault {
     ghost use Rattle.std.specs.Prelude.{◌≡◌};
     ghost use Rattle.pep_require.specs.declared.fault.RequireFault.TheVariants.{NoMemory};

@@ -63,6 +63,7 @@ impl LineFault {
     }
 }
 
+// Written out, since thiserror's `From` doesn't say which fault it gives.
 impl From<RequireFault> for LineFault {
     ghost use Rattle.pep_tool.specs.declared.fault.LineFault.TheVariants.{Requirement};
 
