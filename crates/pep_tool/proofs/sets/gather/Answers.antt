@@ -1,6 +1,5 @@
 use Rattle.std.proofs.Common.{◌≡◌, List, ℕ, Option, Some, None, subst, sym, ap, ◌∙◌, rules}
 use Rattle.std.specs.Prelude.{bytes_eq, if◌then◌else◌}
-use Rattle.std.specs.Map.{update}
 use Rattle.std.specs.Option.{option_copied_mut}
 use Rattle.pep_clause.specs.VersionSet.{Range}
 use Rattle.pep_tool.specs.Sets.{Folds, Sets, set_at}
