@@ -21,13 +21,9 @@ ghost use Rattle.std.specs.Cmp.{partial_equiv_from_equiv};
 ghost use Rattle.std.specs.declared.cmp.Ordering.TheVariants.{Less};
 ghost use Rattle.pep_version.specs.Version.{IsVersion, Version};
 ghost use Rattle.pep_clause.specs.Admits.{admits};
-ghost use Rattle.pep_clause.specs.Clause.{
-  compatible,
-  demanded_text,
-  excluding_prefix,
-  matching_prefix,
-  prefix_of,
-};
+ghost use Rattle.pep_clause.specs.Clause.{at_least, at_most, compatible, demanded_text, excluding};
+ghost use Rattle.pep_clause.specs.Clause.{excluding_prefix, greater_than, less_than, matching};
+ghost use Rattle.pep_clause.specs.Clause.{matching_prefix, prefix_of};
 ghost use Rattle.pep_clause.specs.ClauseView.{IsStored, clause_of};
 ghost use Rattle.pep_clause.specs.Cut.{Cut, IsCut, cut_cmp, least};
 ghost use Rattle.pep_clause.specs.Inhabited.{HasVersionUnlessEmpty};
@@ -216,6 +212,57 @@ impl VersionSet {
         VersionSet::between(alloc, Cut::before(alloc, version)?, high)
     }
 
+    // `==`
+    fn matching(alloc: Global, version: &Version) -> Result<VersionSet, ClauseFault>
+        ensures list { IfOk result (λ s. s ≡ set_of (matching version.now)) }
+        ensures faults { IfErr result (λ e. e ≡ ClauseFault.NoMemory) }
+    {
+        let low = Cut::before(alloc, version)?;
+        VersionSet::between(alloc, low, matching_to(alloc, version)?)
+    }
+
+    // `!=`
+    fn excluding(alloc: Global, version: &Version) -> Result<VersionSet, ClauseFault>
+        requires { IsVersion version.now }
+        ensures list { IfOk result (λ s. s ≡ set_of (excluding version.now)) }
+        ensures faults { IfErr result (λ e. e ≡ ClauseFault.NoMemory) }
+    {
+        let low = Cut::before(alloc, version)?;
+        VersionSet::outside(alloc, low, matching_to(alloc, version)?)
+    }
+
+    // `<=`
+    fn at_most(alloc: Global, version: &Version) -> Result<VersionSet, ClauseFault>
+        ensures list { IfOk result (λ s. s ≡ set_of (at_most version.now)) }
+        ensures faults { IfErr result (λ e. e ≡ ClauseFault.NoMemory) }
+    {
+        VersionSet::between(alloc, Cut::least(alloc)?, next(alloc, version)?)
+    }
+
+    // `>=`
+    fn at_least(alloc: Global, version: &Version) -> Result<VersionSet, ClauseFault>
+        ensures list { IfOk result (λ s. s ≡ set_of (at_least version.now)) }
+        ensures faults { IfErr result (λ e. e ≡ ClauseFault.NoMemory) }
+    {
+        VersionSet::between(alloc, Cut::before(alloc, version)?, Cut::end())
+    }
+
+    // `<`
+    fn less_than(alloc: Global, version: &Version) -> Result<VersionSet, ClauseFault>
+        ensures list { IfOk result (λ s. s ≡ set_of (less_than version.now)) }
+        ensures faults { IfErr result (λ e. e ≡ ClauseFault.NoMemory) }
+    {
+        VersionSet::between(alloc, Cut::least(alloc)?, less_to(alloc, version)?)
+    }
+
+    // `>`
+    fn greater_than(alloc: Global, version: &Version) -> Result<VersionSet, ClauseFault>
+        ensures list { IfOk result (λ s. s ≡ set_of (greater_than version.now)) }
+        ensures faults { IfErr result (λ e. e ≡ ClauseFault.NoMemory) }
+    {
+        VersionSet::between(alloc, greater_from(alloc, version)?, Cut::end())
+    }
+
     /// The versions that the clause of this form admits; all versions where it demands a text.
     fn of_form(alloc: Global, form: &ClauseForm) -> Result<VersionSet, ClauseFault>
         requires { IsStored form.now }
@@ -224,28 +271,14 @@ impl VersionSet {
     {
         match form {
             ClauseForm::Compatible(version) => VersionSet::compatible(alloc, version),
-            ClauseForm::Matching(version) => {
-                let low = Cut::before(alloc, version)?;
-                VersionSet::between(alloc, low, matching_to(alloc, version)?)
-            }
+            ClauseForm::Matching(version) => VersionSet::matching(alloc, version),
             ClauseForm::MatchingPrefix(prefix) => VersionSet::with_prefix(alloc, prefix),
-            ClauseForm::Excluding(version) => {
-                let low = Cut::before(alloc, version)?;
-                VersionSet::outside(alloc, low, matching_to(alloc, version)?)
-            }
+            ClauseForm::Excluding(version) => VersionSet::excluding(alloc, version),
             ClauseForm::ExcludingPrefix(prefix) => VersionSet::without_prefix(alloc, prefix),
-            ClauseForm::AtMost(version) => {
-                VersionSet::between(alloc, Cut::least(alloc)?, next(alloc, version)?)
-            }
-            ClauseForm::AtLeast(version) => {
-                VersionSet::between(alloc, Cut::before(alloc, version)?, Cut::end())
-            }
-            ClauseForm::LessThan(version) => {
-                VersionSet::between(alloc, Cut::least(alloc)?, less_to(alloc, version)?)
-            }
-            ClauseForm::GreaterThan(version) => {
-                VersionSet::between(alloc, greater_from(alloc, version)?, Cut::end())
-            }
+            ClauseForm::AtMost(version) => VersionSet::at_most(alloc, version),
+            ClauseForm::AtLeast(version) => VersionSet::at_least(alloc, version),
+            ClauseForm::LessThan(version) => VersionSet::less_than(alloc, version),
+            ClauseForm::GreaterThan(version) => VersionSet::greater_than(alloc, version),
             ClauseForm::Demanded(_) => VersionSet::all(alloc),
         }
     }
