@@ -20,7 +20,9 @@ use Rattle.pep_tool.specs.Merge.{IsMerge}
 use Rattle.pep_tool.specs.Refusal.{IsRefused, RefusesInputs}
 use Rattle.pep_tool.specs.declared.fault.Place.TheVariants as place
 use Rattle.pep_tool.specs.Run.{Answers, MergesInput, IsVersionLine, Refuses, RefusesVersion}
-use Rattle.pep_tool.specs.Run.{by_version, by_words, by_argument, by_memory, by_input, by_output}
+use Rattle.pep_tool.specs.Run.{by_table, by_version, by_words, by_argument, by_memory, by_input}
+use Rattle.pep_tool.specs.Run.{by_output, write_fault}
+use Rattle.std.specs.Prelude.{⊤, is_err}
 use Rattle.pep_tool.specs.Run.{by_bytes, no_memory, Tells, TellsRefusal}
 use Rattle.pep_tool.specs.Plan.{AskNothing, Asks, IsBadWords, show_version, standard}
 use Rattle.clap.specs.Words.{Text}
@@ -62,16 +64,18 @@ only x y (b ∷ d ∷ before) behind e = cc e
 -- the refusal of a list that was read
 pub Refuses-from_merge : {A : Type 0} (r : Result A Fault) (i : Input)
     (left after : Option (List ℕ)) (source : Device) →
-    i.kind ≡ kind.List → Consumes left after i.bytes.items → source.failed ≡ false →
+    i.kind ≡ kind.List → Consumes left after i.bytes.items →
+    (length i.bytes.items ≤ input_limit → IsAtEnd after) → source.failed ≡ false →
     IfErr r (RefusesInputs (i ∷ [])) →
     IfErr r (λ fault. (output : Device) → Refuses [] left after source output fault)
-Refuses-from_merge (Ok text) i left after source e reads ready h = tt
-Refuses-from_merge (Err f) i left after source e reads ready (inl memory) =
+Refuses-from_merge (Ok text) i left after source e reads whole ready h = tt
+Refuses-from_merge (Err f) i left after source e reads whole ready (inl memory) =
     λ output. by_memory memory
-Refuses-from_merge (Err f) i left after source e reads ready (inr b) =
+Refuses-from_merge (Err f) i left after source e reads whole ready (inr b) =
     λ output. by_bytes refl ready (record {
       bytes = i.bytes.items;
       reads = reads;
+      whole = whole;
       lies = b.lies ∙ ap place.Input (b.numbered.counted
           ∙ ap (λ (l : List Input). length l + 1) one.0);
       refused = subst (λ k. IsRefused k i.bytes.items f.cause) e
@@ -80,6 +84,12 @@ Refuses-from_merge (Err f) i left after source e reads ready (inr b) =
   where
     one : (b.numbered.before ≡ []) × (b.input ≡ i)
     one = only i b.input b.numbered.before b.numbered.behind b.numbered.whole
+
+-- the table that words ask for
+Answers-table : (words : List Text) (left after : Option (List ℕ)) (text : List ℕ) →
+    Asks words standard → Answers [] left after text → Answers words left after text
+Answers-table words left after text asked (by_table none merges) = by_table asked merges
+Answers-table words left after text asked (by_version argument other line kept) = cc other
 
 -- a refusal of the table that words ask for
 pub Refuses-table : (words : List Text) (left after : Option (List ℕ)) (source output : Device)
@@ -95,7 +105,8 @@ Refuses-table words left after source output fault asked (by_argument argument o
     not_shown argument e = cc e
 Refuses-table words left after source output fault asked (by_memory e) = by_memory e
 Refuses-table words left after source output fault asked (by_input none h e) = by_input asked h e
-Refuses-table words left after source output fault asked (by_output h e) = by_output h e
+Refuses-table words left after source output fault asked (by_output text answers ready h e) =
+    by_output text (Answers-table words left after text asked answers) ready h e
 Refuses-table words left after source output fault asked (by_bytes none ready h) =
     by_bytes asked ready h
 
@@ -152,3 +163,12 @@ refused_version argument version_fault.NotAVersion h =
     inr (record { reason = version_fault.NotAVersion; reads = h; known = λ e. cc e; is = refl })
 refused_version argument version_fault.NumberTooLarge h =
     inr (record { reason = version_fault.NumberTooLarge; reads = h; known = λ e. cc e; is = refl })
+
+-- the refusal of an answer that could not be written
+pub Refuses-from_write : (r : Result ⊤ Fault) (words : List Text) (left after : Option (List ℕ))
+    (source output : Device) (text : List ℕ) → Answers words left after text →
+    source.failed ≡ false → output.failed ≡ is_err r → IfErr r (λ fault. fault ≡ write_fault) →
+    IfErr r (Refuses words left after source output)
+Refuses-from_write (Ok done) words left after source output text answers ready failed faults = tt
+Refuses-from_write (Err f) words left after source output text answers ready failed faults =
+    by_output text answers ready failed faults

@@ -1,6 +1,6 @@
 -- What a run of the program does to its streams.
 use Rattle.std.specs.Prelude.{◌≡◌, ◌≢◌, ◌⊎◌, ℕ, IsTrue, false, List, [], ◌∷◌, ◌++◌, Option, Ok, Err}
-use Rattle.std.specs.Prelude.{codes}
+use Rattle.std.specs.Prelude.{codes, length, ◌≤◌}
 use Rattle.std.specs.Io.KnownBytes.{Appends, Consumes, IsAtEnd, Keeps}
 use Rattle.clap.specs.Words.{Text}
 use Rattle.pep_version.specs.Spelling.{Reads}
@@ -15,6 +15,7 @@ use Rattle.pep_tool.specs.declared.input.Input.{Input}
 use Rattle.pep_tool.specs.declared.input.Kind.TheVariants as kind
 use Rattle.pep_tool.specs.Device.{Device}
 use Rattle.pep_tool.specs.FaultLine.{fault_line}
+use Rattle.pep_tool.specs.Lists.{input_limit}
 use Rattle.pep_tool.specs.Merge.{IsMerge}
 pub use Rattle.pep_tool.specs.Refusal.{no_memory}
 use Rattle.pep_tool.specs.Refusal.{IsRefusedList}
@@ -58,10 +59,11 @@ pub record PrintsAnswer (words : List Text) (left after written printed : Option
     pub answers : Answers words left after text
     pub writes : Appends written printed text
 
--- the bytes that were read are refused, as one list, which is input 1
+-- The bytes that were read are refused, as one list, which is input 1: the whole input, or more than a list may have.
 pub record RefusesInput (left after : Option (List ℕ)) (fault : Fault) : Type 0 where
   pub bytes : List ℕ
   pub reads : Consumes left after bytes
+  pub whole : length bytes ≤ input_limit → IsAtEnd after
   pub lies : fault.place ≡ place.Input 1
   pub refused : IsRefusedList bytes fault.cause
 
@@ -84,7 +86,8 @@ pub data Refuses (words : List Text) (left after : Option (List ℕ)) (input out
   by_memory : fault ≡ no_memory → Refuses words left after input output fault
   by_input : Asks words standard → IsTrue input.failed → fault ≡ read_fault →
       Refuses words left after input output fault
-  by_output : IsTrue output.failed → fault ≡ write_fault →
+  by_output : (text : List ℕ) → Answers words left after text → input.failed ≡ false
+      → IsTrue output.failed → fault ≡ write_fault →
       Refuses words left after input output fault
   by_bytes : Asks words standard → input.failed ≡ false → RefusesInput left after fault
       → Refuses words left after input output fault

@@ -89,8 +89,10 @@ pub fn run<R: Files + AllocGlobal, I: Source, O: Sink, F: Sink>(
         → ((I.device input.new).failed ≡ false) × ((O.device output.new).failed ≡ false) }
     ensures quiet { result ≡ 0 → Keeps (F.written faults.old) (F.written faults.new) }
 
-    // Where the words don't ask for the table of the input, the input is as it was.
+    // Where the words don't ask for the table of the input, the input is as it was; no more of it
+    // is read than the largest list and a byte.
     ensures unread { ¬ Asks (map string_bytes words.now) standard → input.new ≡ input.old }
+    ensures calls { (I.device input.new).calls ≤ input_limit + 1 }
 
     // At status 2 a fault was told, and nothing was printed.
     ensures told { result ≡ 2
@@ -132,6 +134,7 @@ fn print_answer<I: Source, O: Sink>(
         ((O.device output.new).failed ≡ false →
         Keeps (O.written output.old) (O.written output.new)) }
     ensures unread { ¬ Asks (map string_bytes words.now) standard → input.new ≡ input.old }
+    ensures calls { (I.device input.new).calls ≤ input_limit + 1 }
 {
     let text = answer(alloc, words, input)?;
     write_text(output, text.as_str())
@@ -148,6 +151,7 @@ fn answer<S: Source>(alloc: Global, words: &[String], source: &mut S) -> Result<
         → Refuses (map string_bytes words.now) (S.left source.old) (S.left source.new)
         (S.device source.new) output fault) }
     ensures unread { ¬ Asks (map string_bytes words.now) standard → source.new ≡ source.old }
+    ensures calls { (S.device source.new).calls ≤ input_limit + 1 }
 {
     match plan_of(alloc, words)? {
         Plan::Standard => merge_input(alloc, source),
@@ -173,6 +177,7 @@ fn merge_input<S: Source>(alloc: Global, source: &mut S) -> Result<String, Fault
     ensures merged { IfOk result
         (λ text. MergesInput (S.left source.old) (S.left source.new) (string_bytes text)) }
     ensures no_failure { OnOk result ((S.device source.new).failed ≡ false) }
+    ensures calls { (S.device source.new).calls ≤ input_limit + 1 }
     ensures refused { IfErr result (λ fault. (output : Device)
         → Refuses [] (S.left source.old) (S.left source.new) (S.device source.new) output fault) }
 {

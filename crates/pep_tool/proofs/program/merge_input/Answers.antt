@@ -15,4 +15,4 @@ pub returns-clause-refused : goal.returns-clause-refused
 returns-clause-refused g c =
     let i : Input = record { kind = kind.List; bytes = c.in_ok-bytes.bytes } in
     Refuses-from_merge c.merge_bytes.result i _ _ _ refl c.in_ok-bytes.ensures.bytes
-    (search rules) c.merge_bytes.ensures.refused
+    c.in_ok-bytes.ensures.whole (search rules) c.merge_bytes.ensures.refused
