@@ -1,5 +1,5 @@
 -- THE CODE'S WAY, and no definition of a clause's meaning: the ranges that the code makes of each
--- clause. That they hold exactly the versions that the clause admits is to be proved. `last` is the
+-- clause. They hold exactly the versions that the clause admits (`VersionSet::of`). `last` is the
 -- largest number.
 use Rattle.std.specs.Prelude.{ℕ, ◌+◌, ◌-◌, ◌^◌, List, [], ◌∷◌, ◌++◌, Option, Some, None, nat_lt}
 use Rattle.std.specs.Prelude.{if◌then◌else◌}

@@ -8,7 +8,7 @@ pub enum ClauseFault {
     /// 11: no operator stands in front.
     #[error("no operator")]
     NoOperator,
-    /// 12: what follows the operator is no version.
+    /// 12: what follows the operator is no version, or for `===` no text that may stand there.
     #[error("not a version")]
     BadVersion,
     /// 13: `.*` behind more than a release, or with another operator than `==` and `!=`.

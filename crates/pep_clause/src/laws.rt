@@ -5,6 +5,7 @@ ghost use Rattle.pep_version.specs.Order.{place_of};
 ghost use Rattle.pep_version.specs.Version.{Version};
 ghost use Rattle.pep_clause.specs.Clause.{Clause, ClauseOf, IsClause, clause_text};
 ghost use Rattle.pep_clause.specs.SetEquality.{SamePoints, SameVersions};
+ghost use Rattle.pep_clause.specs.Valid.{IsValidClause};
 ghost use Rattle.pep_clause.specs.VersionSet.{IsNormal, Range, is_in};
 
 use crate::fault::ClauseFault;
@@ -46,6 +47,15 @@ pub fn one_answer()
 /// clause's.
 pub fn clause_text_is_read()
     ensures { (text : List ℕ) (c : Clause) → IsClause text c → IsClause (clause_text c) c }
+{
+    laws::one_version();
+    laws::text_is_read();
+    laws::text_bytes();
+}
+
+/// A valid clause, as `Clause::read` and `Clause::of` give, is read back from its own text.
+pub fn valid_clause_is_read()
+    ensures { (c : Clause) → IsValidClause c → IsClause (clause_text c) c }
 {
     laws::one_version();
     laws::text_is_read();

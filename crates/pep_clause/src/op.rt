@@ -1,6 +1,5 @@
 /// An operator of a version specifier clause (PEP 440, "Version specifiers"): `~=`, `==`, `!=`,
-/// `<=`,
-/// `>=`, `<`, `>` and `===`, in this order.
+/// `<=`, `>=`, `<`, `>` and `===`, in this order.
 #[derive(Clone, Copy, Debug, PartialEq, Eq)]
 pub enum Op {
     Compatible,

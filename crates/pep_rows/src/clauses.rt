@@ -58,22 +58,6 @@ fn refuses_clauses(rt: HostRuntime) {
 
 // The codes of the faults are in order.
 #[test]
-fn codes_of_faults(rt: HostRuntime) {
-    let faults = [
-        ClauseFault::NoOperator,
-        ClauseFault::BadVersion,
-        ClauseFault::StarNotAllowed,
-        ClauseFault::LocalNotAllowed,
-        ClauseFault::OneNumber,
-        ClauseFault::NumberTooLarge,
-        ClauseFault::NoMemory,
-    ];
-    for (fault, code) in faults.iter().zip(11..18) {
-        assert_eq!(rt; fault.code(), code);
-    }
-}
-
-#[test]
 fn bytes_of_clauses(rt: HostRuntime) {
     for (text, run) in [
         ("1.0a-1_x+Y!*", 12),
@@ -140,4 +124,5 @@ fn laws_of_clauses() {
     laws::one_clause();
     laws::one_answer();
     laws::clause_text_is_read();
+    laws::valid_clause_is_read();
 }

@@ -215,6 +215,22 @@ fn reads_that_fail_before_a_fault(rt: HostRuntime) -> Result<(), Fail> {
 }
 
 #[test]
+fn a_list_in_many_pieces(rt: HostRuntime) -> Result<(), Fail> {
+    // A clause goes over the 65,536th byte, and the list is faulty wherever it ends before its end.
+    let mut list = Vec::new(rt.alloc());
+    for _ in 0..65_530 {
+        list.push(b'\n')?;
+    }
+    list.extend_from_slice(LIST)?;
+    let mut input = Bytes::new(list.as_slice());
+    let mut output = Writer::new(rt.alloc(), NEVER);
+    let mut faults = Writer::new(rt.alloc(), NEVER);
+    assert_eq!(rt; run(&rt, &[], &mut input, &mut output, &mut faults), 0);
+    assert_eq!(rt; output.bytes.as_slice(), TABLE.as_bytes());
+    Ok(())
+}
+
+#[test]
 fn writes_that_fail(rt: HostRuntime) -> Result<(), Fail> {
     // The table goes in seven pieces.
     for fails_at in 1..9u64 {

@@ -211,24 +211,6 @@ fn refuses_parts(rt: HostRuntime) -> Result<(), Fail> {
 }
 
 #[test]
-fn tells_faults(rt: HostRuntime) -> Result<(), Fail> {
-    for (fault, code, text) in [
-        (VersionFault::NotAVersion, 1, "not a version"),
-        (
-            VersionFault::NumberTooLarge,
-            2,
-            "a number of the version is too large",
-        ),
-        (VersionFault::NoMemory, 3, "out of memory"),
-    ] {
-        assert_eq!(rt; fault.code(), code);
-        let told = format!(in rt.alloc(); "{fault}")?;
-        assert_eq!(rt; told.as_str(), text);
-    }
-    Ok(())
-}
-
-#[test]
 fn splits_texts(rt: HostRuntime) {
     assert_eq!(rt;
         first_part(b"1.20.3", b'.'),

@@ -136,7 +136,7 @@ impl Key {
     }
 
     /// The version that stands at this place: of those that are the same in order, the one whose
-    /// release has no zeros at its end. The only fault is `NoMemory`.
+    /// release has no zeros at its end, but for its first number. The only fault is `NoMemory`.
     pub fn version(&self, alloc: Global) -> Result<Version, VersionFault>
         ensures version { IfOk result (λ v. v ≡ self.now) }
         ensures is_version { IsVersion self.now }

@@ -111,11 +111,10 @@ impl Clause {
     /// space at both ends of the text does not matter.
     ///
     /// Behind `==` and `!=` stands a version, which may have a local version label, or a release
-    /// with its epoch and
-    /// `.*` ("Version matching", "Version exclusion"); behind the others a version without a label
-    /// ("Inclusive ordered comparison", "Exclusive ordered comparison"), for `~=` with two release
-    /// numbers or more ("Compatible release"); behind `===` one or more letters, digits and bytes
-    /// of `-_.*+!`, kept in lower case ("Arbitrary equality").
+    /// with its epoch and `.*` ("Version matching", "Version exclusion"); behind the others a
+    /// version without a label ("Inclusive ordered comparison", "Exclusive ordered comparison"),
+    /// for `~=` with two release numbers or more ("Compatible release"); behind `===` one or more
+    /// letters, digits and bytes of `-_.*+!`, kept in lower case ("Arbitrary equality").
     ///
     /// Each refusal is the first check that fails: 12 `BadVersion` where no version stands before
     /// `.*` or in the text, or the text of `===` is empty or has another byte; 16 `NumberTooLarge`
