@@ -224,6 +224,13 @@ fn none_between(rt: HostRuntime) -> Result<(), Fail> {
     Ok(())
 }
 
+// The cuts between which the first range of a clause lies.
+fn ends(alloc: Global, clause: &str) -> Result<(Cut, Cut), Fail> {
+    let set = set(alloc, clause)?;
+    let range = set.ranges().first().ok_or("no range")?;
+    Ok((range.low().copied(alloc)?, range.high().copied(alloc)?))
+}
+
 // Each cut is below the next, and equal to itself alone.
 #[test]
 fn orders_cuts(rt: HostRuntime) -> Result<(), Fail> {
@@ -233,9 +240,9 @@ fn orders_cuts(rt: HostRuntime) -> Result<(), Fail> {
     for text in ["0", "1.dev0", "1a1", "1", "1+x"] {
         cuts.push(Cut::before(alloc, &version(alloc, text)?)?)?;
     }
-    cuts.push(set(alloc, "==1+x")?.ranges()[0].high().copied(alloc)?)?;
+    cuts.push(ends(alloc, "==1+x")?.1)?;
     cuts.push(Cut::before(alloc, &version(alloc, "1.post1")?)?)?;
-    cuts.push(set(alloc, ">1")?.ranges()[0].low().copied(alloc)?)?;
+    cuts.push(ends(alloc, ">1")?.0)?;
     cuts.push(Cut::before(alloc, &version(alloc, "1.0.1")?)?)?;
     cuts.push(Cut::end())?;
     for (i, one) in cuts.iter().enumerate() {
@@ -246,7 +253,8 @@ fn orders_cuts(rt: HostRuntime) -> Result<(), Fail> {
         assert!(rt; one.copied(alloc)? == *one);
     }
     let same = Cut::before(alloc, &version(alloc, "1.0")?)?;
-    assert!(rt; same == cuts[4] && same < Cut::end());
+    let fifth = cuts.get(4).ok_or("no cut")?;
+    assert!(rt; same == *fifth && same < Cut::end());
     Ok(())
 }
 
