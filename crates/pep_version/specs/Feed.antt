@@ -18,8 +18,8 @@ abbrev pub feed_segment : Segment → HashWrites
 feed_segment (number n) = fed.u8 0 ++ fed.u64 n
 feed_segment (word letters) = fed.u8 1 ++ fed.str letters
 
--- what a key feeds: its parts, the release without the zeros at its end. Whoever needs it cites this
--- name and `key_feed-alike` alone, so that keys may come to feed otherwise
+-- what a key feeds: its parts, the release without the zeros at its end. Whoever needs it cites
+-- this name and `key_feed-alike` alone, so that keys may come to feed otherwise
 unfoldable pub key_feed : Version → HashWrites
 key_feed v =
     fed.u64 v.epoch ++ fed.slice fed.u64 (without_end_zeros v.release) ++ feed_pre v.pre
