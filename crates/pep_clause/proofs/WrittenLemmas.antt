@@ -21,7 +21,8 @@ use Rattle.pep_clause.specs.declared.fault.ClauseFault.{ClauseFault}
 use Rattle.pep_clause.specs.declared.fault.ClauseFault.TheVariants as fault
 use Rattle.pep_clause.specs.declared.op.Op.{Op}
 use Rattle.pep_clause.specs.declared.op.Op.TheVariants as op
-use Rattle.pep_clause.specs.Clause.{Clause, IsClause, Prefix, PrefixAnswers, ReadsClauseAs}
+use Rattle.pep_clause.specs.Clause.{Clause, IsClause, IsOperatorAndRun, Prefix, PrefixAnswers}
+use Rattle.pep_clause.specs.Clause.{ReadsClauseAs}
 use Rattle.pep_clause.specs.Clause.{ReadsThen, TargetAnswers, VersionAnswers, compatible, matching}
 use Rattle.pep_clause.specs.Clause.{matching_prefix, excluding, excluding_prefix, at_most, at_least}
 use Rattle.pep_clause.specs.Clause.{less_than, greater_than, demanded, demanded_of, clause_text}
@@ -356,3 +357,53 @@ valid-written back has (demanded text) is =
 pub clause-written : ReadsBack → HasTextBytes → (text : List ℕ) (c : Clause) → IsClause text c →
     IsClause (clause_text c) c
 clause-written back has text c h = valid-written back has c (clause-valid text c h)
+
+-- ---- a clause's text is an operator and a run
+
+version-run : HasTextBytes → (o : Op) (v : Version) → IsVersion v →
+    IsOperatorAndRun (operator_text o ++ normal_text v)
+version-run has o v is = record {
+  operator = o;
+  run = normal_text v;
+  whole = refl;
+  bytes = list_all-weaker is_text_byte is_clause_byte text-clause (normal_text v) (has v is);
+}
+
+prefix-run : HasTextBytes → (o : Op) (p : Prefix) → IsPrefix p →
+    IsOperatorAndRun (operator_text o ++ prefix_text p)
+prefix-run has o p is =
+    let v = final_version p in
+    let bytes : list_all is_clause_byte (normal_text v ++ codes ".*") ≡ true =
+    rw (
+      list_all-append is_clause_byte (normal_text v) (codes ".*"),
+      list_all-weaker is_text_byte is_clause_byte text-clause (normal_text v) (has v is),
+    ) refl in
+    record {
+      operator = o;
+      run = prefix_text p;
+      whole = refl;
+      bytes = subst (λ t. list_all is_clause_byte t ≡ true) (sym (prefix-shape p)) bytes;
+    }
+
+valid-run : HasTextBytes → (c : Clause) → IsValidClause c → IsOperatorAndRun (clause_text c)
+valid-run has (compatible v) is = version-run has op.Compatible v is.0.0
+valid-run has (matching v) is = version-run has op.Equal v is
+valid-run has (matching_prefix p) is = prefix-run has op.Equal p is
+valid-run has (excluding v) is = version-run has op.NotEqual v is
+valid-run has (excluding_prefix p) is = prefix-run has op.NotEqual p is
+valid-run has (at_most v) is = version-run has op.AtMost v is.0
+valid-run has (at_least v) is = version-run has op.AtLeast v is.0
+valid-run has (less_than v) is = version-run has op.Less v is.0
+valid-run has (greater_than v) is = version-run has op.More v is.0
+valid-run has (demanded text) is = record {
+  operator = op.Exact;
+  run = text;
+  whole = refl;
+  bytes = demanded-bytes text
+      (and_second (not (is_empty text)) (list_all (λ b. is_clause_byte b
+      && not (is_ascii_uppercase b)) text) is);
+}
+
+pub clause-run : HasTextBytes → (text : List ℕ) (c : Clause) → IsClause text c →
+    IsOperatorAndRun (clause_text c)
+clause-run has text c h = valid-run has c (clause-valid text c h)

@@ -2,7 +2,7 @@
 -- specification "Version specifiers" (PEP 440). A text is a list of bytes.
 use Rattle.std.specs.Prelude.{◌≡◌, ℕ, ◌==◌, ◌-◌, ◌&&◌, ◌||◌, Bool, not, List, ◌++◌, length, take}
 use Rattle.std.specs.Prelude.{drop, Option, Some, None, Result, Ok, Err, is_none, nat_eq, nat_lt}
-use Rattle.std.specs.Prelude.{codes, if◌then◌else◌, MatchBool, ⊤}
+use Rattle.std.specs.Prelude.{codes, if◌then◌else◌, IsTrue, MatchBool, ⊤}
 use Rattle.std.specs.Char.{is_ascii_alphanumeric, is_ascii_uppercase}
 use Rattle.std.specs.List.{ends_with, list_all, starts_with}
 use Rattle.std.specs.Str.{str_to_ascii_lowercase}
@@ -202,3 +202,10 @@ clause_text (at_least v) = operator_text op.AtLeast ++ normal_text v
 clause_text (less_than v) = operator_text op.Less ++ normal_text v
 clause_text (greater_than v) = operator_text op.More ++ normal_text v
 clause_text (demanded text) = operator_text op.Exact ++ text
+
+-- the text is an operator, and behind it bytes that a clause may have there
+pub record IsOperatorAndRun (x : List ℕ) : Type 0 where
+  pub operator : Op
+  pub run : List ℕ
+  pub whole : x ≡ operator_text operator ++ run
+  pub bytes : IsTrue (list_all is_clause_byte run)

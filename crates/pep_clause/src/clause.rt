@@ -47,7 +47,7 @@ impl Clause {
     ghost use Rattle.std.specs.Prelude.{◌≡◌, IfErr, IfOk};
     ghost use Rattle.pep_clause.specs.ClauseView.{IsStored, clause_of};
     ghost use Rattle.pep_clause.specs.Operator.{operator};
-    ghost use Rattle.pep_clause.specs.Valid.{IsPublic, IsValidClause};
+    ghost use Rattle.pep_clause.specs.Valid.{IsValidClause};
 
     /// The clause that is kept so.
     pub(crate) fn of_form(form: ClauseForm) -> Clause

@@ -6,12 +6,8 @@ ghost use Rattle.std.specs.Prelude.{
   ◌≡◌,
   ◌<◌,
   ◌↔◌,
-  ◌∷◌,
-  ◌++◌,
-  [],
   length,
   refl,
-  string_bytes,
   IfErr,
   IfOk,
   IsTrue,
@@ -21,20 +17,15 @@ ghost use Rattle.std.specs.Cmp.{
   partial_equiv_from_equiv,
   partial_order_from_total,
 };
-ghost use Rattle.std.specs.List.{AllByRecursion};
 ghost use Rattle.std.specs.Ordering.{as_partial_cmp, eq_by_cmp, is_le};
 ghost use Rattle.std.specs.declared.cmp.Ordering.TheVariants.{Less, Equal, Greater};
 ghost use Rattle.pep_version.specs.Order.{place_of};
-ghost use Rattle.pep_version.specs.Text.{normal_text};
-ghost use Rattle.pep_version.specs.Version.{Fits};
 ghost use Rattle.pep_clause.specs.Cut.{
   IsCut,
   after,
   before,
   cut_cmp,
-  cut_text,
   end,
-  final_version,
   is_under,
   least,
 };

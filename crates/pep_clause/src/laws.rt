@@ -3,7 +3,13 @@
 ghost use Rattle.std.specs.Prelude.{◌≡◌, ◌≢◌, ℕ, Err, List, Result};
 ghost use Rattle.pep_version.specs.Order.{place_of};
 ghost use Rattle.pep_version.specs.Version.{Version};
-ghost use Rattle.pep_clause.specs.Clause.{Clause, ClauseOf, IsClause, clause_text};
+ghost use Rattle.pep_clause.specs.Clause.{
+  Clause,
+  ClauseOf,
+  IsClause,
+  IsOperatorAndRun,
+  clause_text,
+};
 ghost use Rattle.pep_clause.specs.SetEquality.{SamePoints, SameVersions};
 ghost use Rattle.pep_clause.specs.Valid.{IsValidClause};
 ghost use Rattle.pep_clause.specs.VersionSet.{IsNormal, Range, is_in};
@@ -50,6 +56,14 @@ pub fn clause_text_is_read()
 {
     laws::one_version();
     laws::text_is_read();
+    laws::text_bytes();
+}
+
+/// The text of what some text is read as is an operator, and behind it characters that a clause may
+/// have there.
+pub fn clause_text_run()
+    ensures { (text : List ℕ) (c : Clause) → IsClause text c → IsOperatorAndRun (clause_text c) }
+{
     laws::text_bytes();
 }
 

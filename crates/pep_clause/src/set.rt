@@ -7,8 +7,6 @@ ghost use Rattle.std.specs.Prelude.{
   ◌++◌,
   ◌-◌,
   [],
-  length,
-  take,
   IfErr,
   IfOk,
   IsSome,
@@ -25,7 +23,7 @@ ghost use Rattle.pep_clause.specs.Clause.{at_least, at_most, compatible, demande
 ghost use Rattle.pep_clause.specs.Clause.{excluding_prefix, greater_than, less_than, matching};
 ghost use Rattle.pep_clause.specs.Clause.{matching_prefix, prefix_of};
 ghost use Rattle.pep_clause.specs.ClauseView.{IsStored, clause_of};
-ghost use Rattle.pep_clause.specs.Cut.{Cut, IsCut, cut_cmp, least};
+ghost use Rattle.pep_clause.specs.Cut.{Cut, IsCut, cut_cmp};
 ghost use Rattle.pep_clause.specs.Inhabited.{HasVersionUnlessEmpty};
 ghost use Rattle.pep_clause.specs.Joined.{all_within, are_within, joined, row_joined};
 ghost use Rattle.pep_clause.specs.OperatorTable.{outside, range, set_of};

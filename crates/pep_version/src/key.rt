@@ -3,7 +3,6 @@
 ghost use Rattle.std.specs.Prelude.{
   ◌≡◌,
   ◌<◌,
-  [],
   fold,
   length,
   map,
@@ -11,7 +10,6 @@ ghost use Rattle.std.specs.Prelude.{
   slice_index,
   IfErr,
   IfOk,
-  None,
 };
 ghost use Rattle.std.specs.Cmp.{
   eq_by_cmp_equiv,

@@ -4,21 +4,14 @@ ghost use Rattle.std.specs.Prelude.{
   ◌≡◌,
   ◌∷◌,
   ◌<◌,
-  ◌++◌,
-  codes,
   length,
-  map,
   string_bytes,
   IfErr,
   IfOk,
   IfSome,
   IsTrue,
-  MatchResult,
 };
-ghost use Rattle.std.specs.Char.{is_ascii_digit};
 ghost use Rattle.std.specs.List.{list_all};
-ghost use Rattle.std.specs.Str.Parse.{digits_value};
-ghost use Rattle.pep_version.specs.Bytes.{is_separator};
 ghost use Rattle.pep_version.specs.Slices.{
   IsDigits,
   label_of,

@@ -3,13 +3,11 @@
 
 ghost use Rattle.std.specs.Prelude.{
   ◌≡◌,
-  ◌&&◌,
   false,
   true,
   IfSome,
   IsTrue,
   MatchOption,
-  codes,
   Some,
 };
 ghost use Rattle.std.specs.Char.{is_ascii_alphanumeric};
@@ -56,8 +54,6 @@ ghost use Rattle.pep_version.specs.Reading.{
 };
 ghost use Rattle.pep_version.specs.Spelling.{
   dev_words,
-  dotted_parts,
-  is_number,
   is_run,
   post_words,
   separated_parts,

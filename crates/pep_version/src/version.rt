@@ -4,7 +4,6 @@ ghost use Rattle.std.specs.Prelude.{
   ◌≡◌,
   ◌↔◌,
   map,
-  refl,
   string_bytes,
   IfErr,
   IfOk,
