@@ -1,3 +1,14 @@
 pub mod NormalNames
 pub mod NameHeadLemmas
 pub mod RunLemmas
+pub mod ChainLaws
+pub mod ChainLoops
+pub mod TokenLaws
+pub mod FoundTokens
+pub mod MarkerLaws
+pub mod TokenLoop
+pub mod ChainTexts
+pub mod TokenTexts
+pub mod SlotLemmas
+pub mod MarkerTruth
+pub mod TextTruth

@@ -2,7 +2,15 @@ pub mod Name
 pub mod Runs
 pub mod NameHead
 pub mod Environment
+pub mod Pairs
+pub mod Slots
 pub mod Marker
 pub mod MarkerText
 pub mod Holds
 pub mod Code
+pub mod View
+pub mod NormalView
+pub mod Token
+pub mod Chains
+pub mod TokenReading
+pub mod MarkerTokens

@@ -118,3 +118,7 @@ pub record IsMarker (x : List ℕ) (m : MarkerParts) : Type 0 where
   pub written : HasTokens x tokens
   pub grammar : IsOrChain 64 tokens m
   pub few : comparisons m ≤ 1024
+
+-- the text is read as no marker
+abbrev pub NoMarker : List ℕ → Type 0
+NoMarker x = (m : MarkerParts) → ¬ IsMarker x m

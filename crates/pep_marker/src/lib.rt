@@ -1,14 +1,22 @@
 //! Names of packages by PEP 503, and what environment markers mean by PEP 508.
 #![tactic(auto)]
 
+mod chains;
 mod environment;
 mod fault;
+mod holds;
+pub mod laws;
+mod marker;
 mod name;
+mod normal;
 mod runs;
+mod slots;
+mod token;
 
-pub use crate::environment::Variable;
+pub use crate::environment::{Environment, Variable};
 pub use crate::fault::MarkerFault;
-pub use crate::name::Name;
+pub use crate::marker::{Marker, Operand, Operator};
+pub use crate::name::{Name, norm_of};
 pub use crate::runs::{
     blank_end, blank_run, is_blank_byte, is_name_byte, name_run, without_leading_blanks,
     without_outer_blanks,

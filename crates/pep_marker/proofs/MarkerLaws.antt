@@ -1,0 +1,127 @@
+-- A text is one marker, by the law of its tokens and that of chains.
+use Rattle.std.proofs.Common.{◌≡◌, ℕ, ◌≤◌, ◌<◌, Bool, true, false, List, [], ◌∷◌, ◌++◌, length}
+use Rattle.std.proofs.Common.{sym, ap, subst, ◌∙◌, refl, append-nil, arith, map, ◌==◌}
+use Rattle.std.proofs.lemmas.Bool.Decides.{nat_tests}
+use Rattle.pep_marker.specs.Marker.{MarkerParts, comparisons, Token, HasTokens, IsOrChain}
+use Rattle.pep_marker.specs.Marker.{IsMarker, is_word_byte, NoMarker}
+use Rattle.pep_marker.specs.Token.{token_of}
+use Rattle.pep_marker.specs.declared.token.Token as cut
+use Rattle.pep_marker.specs.Chains.{OrFrom, NoOrChain, ends_or}
+use Rattle.pep_marker.proofs.ChainLaws.{one_marker_of_tokens, or_grammar, same_or, whole_from}
+use Rattle.pep_marker.proofs.ChainTexts.{or_tokens}
+use Rattle.pep_marker.proofs.TokenLaws.{one_token_list}
+use Rattle.pep_marker.proofs.TokenTexts.{Breaks, joined_texts, read_has_tokens, with_space}
+use Rattle.pep_version.proofs.Connectives.{and_first}
+use Rattle.std.specs.List.{list_all}
+use Rattle.pep_marker.specs.Runs.{is_blank_byte}
+use Rattle.pep_marker.specs.MarkerText.{marker_text}
+use Rattle.pep_marker.specs.MarkerTokens.{marker_tokens}
+
+-- the tokens of a text that is a marker
+tokens_are : (x : List ℕ) (ts : List Token) (m : MarkerParts) → HasTokens x ts →
+    (marker : IsMarker x m) → IsOrChain 64 ts m
+tokens_are x ts m h marker =
+    subst (λ us. IsOrChain 64 us m) (one_token_list x marker.tokens ts marker.written h)
+    marker.grammar
+
+pub one_marker : (x : List ℕ) (m n : MarkerParts) → IsMarker x m → IsMarker x n → m ≡ n
+one_marker x m n h g =
+    one_marker_of_tokens (tokens_are x g.tokens m g.written h) g.grammar
+
+-- what is read is read back from its own text
+pub text_is_read : (x : List ℕ) (m : MarkerParts) → IsMarker x m → IsMarker (marker_text m) m
+text_is_read x m h = record {
+  tokens = marker_tokens m;
+  written = read_has_tokens x m h;
+  grammar = or_tokens h.grammar;
+  few = h.few;
+}
+
+-- a text with no tokens is none
+pub no_tokens : (x : List ℕ) → ((ts : List Token) → ¬ HasTokens x ts) → NoMarker x
+no_tokens x none m h = none h.tokens h.written
+
+-- nor one whose tokens have no chain at the front
+no_chain : (x : List ℕ) (ts : List Token) → HasTokens x ts → NoOrChain 64 1024 ts → NoMarker x
+no_chain x ts h none m marker =
+    let more = none m [] (whole_from (tokens_are x ts m h marker)) refl in
+    omega (arith, more, marker.few)
+
+-- ---- the steps of the code, with the tokens that it reads as its caller has them
+
+-- what is read to its end is a marker
+pub read_marker : (x : List ℕ) (found ts rest : List Token) (m : MarkerParts) → ts ≡ found →
+    HasTokens x found → OrFrom 64 ts m rest → rest ≡ [] → comparisons m ≤ 1024 → IsMarker x m
+read_marker x found ts rest m same h c e few =
+    let (used, f, g) = or_grammar c in
+    record {
+      tokens = used;
+      written = subst (HasTokens x) (sym same ∙ f ∙ ap (λ us. used ++ us) e ∙ append-nil used) h;
+      grammar = g;
+      few = few;
+    }
+
+-- where something is left behind the chain, there is no marker
+pub left_behind : (x : List ℕ) (found ts rest : List Token) (m : MarkerParts) → ts ≡ found →
+    HasTokens x found → OrFrom 64 ts m rest → ends_or rest ≡ true → 0 < length rest → NoMarker x
+left_behind x found ts rest m same h c e some n marker =
+    let one =
+    same_or c (whole_from (tokens_are x ts n (subst (HasTokens x) (sym same) h) marker)) e refl in
+    omega (arith, some, ap length one.1)
+
+-- nor where there is no chain in the tokens that are found, which may not be the whole text
+pub no_chain_of : (x : List ℕ) (found ts : List Token) (whole : Bool) → ts ≡ found →
+    (whole ≡ true → HasTokens x found) →
+    (whole ≡ false → (us : List Token) → ¬ HasTokens x us) → NoOrChain 64 1024 ts → NoMarker x
+no_chain_of x found ts true same h stopped none =
+    no_chain x ts (subst (HasTokens x) (sym same) (h refl)) none
+no_chain_of x found ts false same h stopped none = no_tokens x (stopped refl)
+
+pub some_left : (us : List cut.Token) → (length us == 0) ≡ false → 0 < length (map token_of us)
+some_left [] e = absurd (cc e)
+some_left (u ∷ us) e = omega arith
+
+pub none_left : (us : List cut.Token) → (length us == 0) ≡ true → map token_of us ≡ []
+none_left [] e = refl
+none_left (u ∷ us) e = absurd (not_empty u us e)
+  where
+    not_empty : (u : cut.Token) (us : List cut.Token) → ¬ ((length (u ∷ us) == 0) ≡ true)
+    not_empty u us e = grind (arith, nat_tests)
+
+pub few_enough : (count : ℕ) (m : MarkerParts) → count ≡ comparisons m → count ≤ 1024 →
+    comparisons m ≤ 1024
+few_enough count m e few = omega (arith, e, few)
+
+-- ---- white space behind a marker says nothing
+
+blank_breaks : (space : List ℕ) → list_all is_blank_byte space ≡ true → Breaks space
+blank_breaks [] h = (refl, refl)
+blank_breaks (b ∷ space) h =
+    let blank = and_first (is_blank_byte b) (list_all is_blank_byte space) h in
+    (no_word b blank, no_equal b blank)
+  where
+    no_word : (b : ℕ) → is_blank_byte b ≡ true → is_word_byte b ≡ false
+    no_word b e = grind (arith, nat_tests)
+
+    no_equal : (b : ℕ) → is_blank_byte b ≡ true → (b == 61) ≡ false
+    no_equal b e = grind (arith, nat_tests)
+
+pub marker_with_space : (x space : List ℕ) (m : MarkerParts) → list_all is_blank_byte space ≡ true →
+    IsMarker x m → IsMarker (x ++ space) m
+marker_with_space x space m blank h = record {
+  tokens = h.tokens;
+  written = subst (HasTokens (x ++ space)) (append-nil h.tokens)
+      (joined_texts x space h.tokens [] (blank_breaks space blank) h.written blank);
+  grammar = h.grammar;
+  few = h.few;
+}
+
+-- nor does white space before it
+pub marker_behind_space : (space x : List ℕ) (m : MarkerParts) →
+    list_all is_blank_byte space ≡ true → IsMarker x m → IsMarker (space ++ x) m
+marker_behind_space space x m blank h = record {
+  tokens = h.tokens;
+  written = with_space space x h.tokens blank h.written;
+  grammar = h.grammar;
+  few = h.few;
+}

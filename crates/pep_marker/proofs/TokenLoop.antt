@@ -1,0 +1,185 @@
+-- The loop over the tokens of a text.
+use Rattle.std.proofs.Common.{◌≡◌, ◌≢◌, ℕ, ◌+◌, ◌-◌, ◌<◌, ◌≤◌, true, false, List, [], ◌∷◌}
+use Rattle.std.proofs.Common.{◌++◌, length, take, drop, map, Some, None, refl, sym, ap, subst}
+use Rattle.std.proofs.Common.{◌∙◌, arith, append_assoc, length-drop}
+use Rattle.std.proofs.Math.Seq.{take-append_seam, drop-append_seam}
+use Rattle.std.proofs.lemmas.List.{append-nil, drop-drop, drop_all, map-append, take-append-drop}
+use Rattle.pep_version.proofs.Connectives.{and_first}
+use Rattle.std.proofs.lemmas.Str.{IsUtf8-drop, IsCharBoundary-from_rest}
+use Rattle.std.specs.List.{list_all, prefix_len}
+use Rattle.std.specs.Str.{IsCharBoundary, IsUtf8}
+use Rattle.pep_marker.specs.Marker as syntax
+use Rattle.pep_marker.specs.Marker.{HasTokens}
+use Rattle.pep_marker.specs.Runs.{begins, is_blank_byte, without_leading_blanks}
+use Rattle.pep_marker.specs.Token.{AreSpans, AreSpansFrom, IsTokenAt, token_of}
+use Rattle.pep_marker.specs.TokenReading.{next_token}
+use Rattle.pep_marker.specs.declared.token.Token.{Token}
+use Rattle.pep_marker.proofs.FoundTokens.{boundary-token, token-stands, token_some}
+use Rattle.pep_marker.proofs.RunLemmas.{all-rest, all-run, begins-rest, rest-all, rest-span}
+use Rattle.pep_marker.proofs.TokenLaws.{found_at, same_found, tokens_begin, blanks_away, trimmed_at}
+
+-- ---- one token
+
+pub token_here : (x : List ℕ) (count : ℕ) (t : Token) → IsUtf8 x → IsCharBoundary x t.start →
+    next_token (drop t.start x) ≡ Some (token_of t, count) → t.end ≡ t.start + count →
+    t.written.now ≡ take count (drop t.start x) → IsTokenAt x t.start t
+token_here x count t utf8 boundary found end slice =
+    let rest = drop t.start x in
+    let rest_utf8 = IsUtf8-drop x t.start utf8 boundary in
+    let s = token-stands rest (token_of t) count found in
+    let cut : IsCharBoundary x t.end =
+    subst (IsCharBoundary x) (sym end)
+    (IsCharBoundary-from_rest x t.start count boundary.0
+    (boundary-token rest (token_of t) count rest_utf8 s)) in
+    let some = token_some (token_of t) s.written s.token in
+    let length_is : t.end - t.start ≡ count = omega arith in
+    let written : t.written.now ≡ s.written =
+    slice ∙ ap (take count) s.is ∙ ap (λ k. take k (s.written ++ s.rest)) (sym s.count)
+    ∙ take-append_seam s.written s.rest in
+    record {
+      begin = refl;
+      longer = omega (arith, s.count, some);
+      boundary = cut;
+      found = found ∙ ap (λ k. found_at (token_of t) k) (sym length_is);
+      span = record {
+        ordered = omega arith;
+        within = cut.0;
+        slice = slice ∙ ap (λ k. take k rest) (sym length_is);
+        token = subst (syntax.IsToken (token_of t)) (sym written) s.token;
+      };
+    }
+
+-- ---- the loop
+
+-- something is left
+abbrev pub Goes : List ℕ → Type 0
+Goes y = (us : List syntax.Token) × HasTokens y us
+
+-- The tokens so far are those in front of a place of the text where no white space stands.
+pub record SoFar (x : List ℕ) (items : List Token) (start : ℕ) : Type 0 where
+  pub boundary : IsCharBoundary x start
+  pub trimmed : without_leading_blanks (drop start x) ≡ drop start x
+  pub whole : (ts : List syntax.Token) → HasTokens (drop start x) ts →
+      HasTokens x (map token_of items ++ ts)
+  pub goes_on : (ts : List syntax.Token) → HasTokens x ts → Goes (drop start x)
+  pub spans : (ts : List Token) → AreSpansFrom start x ts → AreSpans x (items ++ ts)
+
+trimmed_once : (x : List ℕ) →
+    without_leading_blanks (without_leading_blanks x) ≡ without_leading_blanks x
+trimmed_once x =
+    rest-span is_blank_byte [] (without_leading_blanks x) refl (begins-rest is_blank_byte x)
+
+-- white space in front of tokens may stand or go
+with_blanks : (x : List ℕ) (ts : List syntax.Token) → HasTokens (without_leading_blanks x) ts →
+    HasTokens x ts
+with_blanks x [] h =
+    all-rest is_blank_byte x (none (without_leading_blanks x) h (begins-rest is_blank_byte x))
+  where
+    none : (y : List ℕ) → list_all is_blank_byte y ≡ true → begins is_blank_byte y ≡ false → y ≡ []
+    none [] h g = refl
+    none (b ∷ y) h g = cc (and_first (is_blank_byte b) _ h, g)
+with_blanks x (t ∷ ts) (space, written, rest, is, blank, token, ends, others) =
+    let front = trimmed_at t (without_leading_blanks x) space written rest is blank token ends in
+    let same : without_leading_blanks x ≡ written ++ rest = sym (trimmed_once x) ∙ front in
+    let run = take (prefix_len is_blank_byte x) x in
+    let whole : x ≡ run ++ written ++ rest =
+    sym (take-append-drop (prefix_len is_blank_byte x) x) ∙ ap (λ y. run ++ y) same
+    ∙ sym (append_assoc run written rest) in
+    (run, written, rest, whole, all-run is_blank_byte x, token, ends, others)
+
+-- spans from a place on are spans from any place before it on
+spans_later : (from start : ℕ) (x : List ℕ) (ts : List Token) → from ≤ start →
+    AreSpansFrom start x ts → AreSpansFrom from x ts
+spans_later from start x [] le h = tt
+spans_later from start x (t ∷ ts) le h = (omega (arith, h.0), h.1, h.2)
+
+-- a token in front of others
+joined : (y : List ℕ) (t : syntax.Token) (n : ℕ) (ts : List syntax.Token) →
+    next_token y ≡ found_at t n → HasTokens (drop n y) ts → HasTokens y (t ∷ ts)
+joined y t n ts found h =
+    let s = token-stands y t n found in
+    let behind : drop n y ≡ s.rest =
+    ap (drop n) s.is ∙ ap (λ k. drop k (s.written ++ s.rest)) (sym s.count)
+    ∙ drop-append_seam s.written s.rest in
+    ([], s.written, s.rest, s.is, refl, s.token, s.ends, subst (λ z. HasTokens z ts) behind h)
+
+-- white space has no token in front
+none-of-blank : {G : Type 0} (y : List ℕ) (t : syntax.Token) (n : ℕ) →
+    without_leading_blanks y ≡ y → next_token y ≡ found_at t n → HasTokens y [] → G
+unfolding next_token
+none-of-blank y t n trimmed found blank =
+    let empty : y ≡ [] = sym trimmed ∙ rest-all is_blank_byte y blank in
+    cc (found, ap next_token empty)
+
+goes : (y : List ℕ) (t : syntax.Token) (n : ℕ) → without_leading_blanks y ≡ y →
+    next_token y ≡ found_at t n → (z : List ℕ) → z ≡ without_leading_blanks (drop n y) →
+    Goes y → Goes z
+goes y t n trimmed found z rest ([], h) = none-of-blank y t n trimmed found h
+goes y t n trimmed found z rest (u ∷ us, h) =
+    let b = tokens_begin y u us h in
+    let same = same_found u t b.count n (sym b.found ∙ ap next_token trimmed ∙ found) in
+    let left = blanks_away (drop b.count (without_leading_blanks y)) us b.others in
+    let place : without_leading_blanks (drop b.count (without_leading_blanks y)) ≡ z =
+    ap without_leading_blanks (ap (drop b.count) trimmed ∙ ap (λ k. drop k y) same.1) ∙ sym rest in
+    (us, subst (λ v. HasTokens v us) place left)
+
+nothing : (y : List ℕ) → without_leading_blanks y ≡ y → y ≢ [] → next_token y ≡ None → Goes y → ⊥
+nothing y trimmed some none ([], h) = some (sym trimmed ∙ rest-all is_blank_byte y h)
+nothing y trimmed some none (u ∷ us, h) =
+    let b = tokens_begin y u us h in cc (sym b.found ∙ ap next_token trimmed ∙ none)
+
+pub none_yet : (x : List ℕ) (start : ℕ) → IsCharBoundary x start →
+    drop start x ≡ without_leading_blanks x → SoFar x [] start
+none_yet x start boundary rest = record {
+  boundary = boundary;
+  trimmed = ap without_leading_blanks rest ∙ trimmed_once x ∙ sym rest;
+  whole = λ ts h. with_blanks x ts (subst (λ y. HasTokens y ts) rest h);
+  goes_on = λ ts h. (ts, subst (λ y. HasTokens y ts) (sym rest) (blanks_away x ts h));
+  spans = λ ts h. spans_later 0 start x ts (omega arith) h;
+}
+
+more : (items : List Token) (t : Token) (ts : List syntax.Token) →
+    map token_of items ++ token_of t ∷ ts ≡ map token_of (items ++ t ∷ []) ++ ts
+more items t ts =
+    sym (ap (λ us. us ++ ts) (map-append token_of items (t ∷ []))
+    ∙ append_assoc (map token_of items) (token_of t ∷ []) ts)
+
+pub one_more : (x : List ℕ) (items : List Token) (start next : ℕ) (t : Token) →
+    SoFar x items start → IsTokenAt x start t → IsCharBoundary x next →
+    drop next x ≡ without_leading_blanks (drop t.end x) → t.end ≤ next →
+    SoFar x (items ++ t ∷ []) next
+one_more x items start next t s here boundary rest le =
+    let y = drop start x in
+    let count = t.end - start in
+    let behind : drop count y ≡ drop t.end x =
+    drop-drop count start x ∙ ap (λ k. drop k x) (omega (arith, here.longer)) in
+    let later : drop next x ≡ without_leading_blanks (drop count y) =
+    rest ∙ ap without_leading_blanks (sym behind) in
+    record {
+      boundary = boundary;
+      trimmed = ap without_leading_blanks rest ∙ trimmed_once (drop t.end x) ∙ sym rest;
+      whole = λ ts h. subst (HasTokens x) (more items t ts) (s.whole (token_of t ∷ ts)
+          (joined y (token_of t) count ts here.found
+          (with_blanks (drop count y) ts (subst (λ z. HasTokens z ts) later h))));
+      goes_on = λ ts h. goes y (token_of t) count s.trimmed here.found (drop next x) later
+          (s.goes_on ts h);
+      spans = λ ts h. subst (AreSpans x) (sym (append_assoc items (t ∷ []) ts)) (s.spans (t ∷ ts)
+          (omega (arith, here.begin), here.span, spans_later t.end next x ts le h));
+    }
+
+pub all_tokens : (x : List ℕ) (items : List Token) (start : ℕ) → SoFar x items start →
+    length x ≤ start → HasTokens x (map token_of items)
+all_tokens x items start s le =
+    let blank : HasTokens (drop start x) [] = rw (drop_all start x le) refl in
+    subst (HasTokens x) (append-nil (map token_of items)) (s.whole [] blank)
+
+pub no_token : (x : List ℕ) (items : List Token) (start : ℕ) → SoFar x items start →
+    start < length x → next_token (drop start x) ≡ None → (ts : List syntax.Token) →
+    ¬ HasTokens x ts
+no_token x items start s lt none ts h =
+    nothing (drop start x) s.trimmed (λ e. omega (arith, length-drop start x, ap length e)) none
+    (s.goes_on ts h)
+
+pub spans_so_far : (x : List ℕ) (items : List Token) (start : ℕ) → SoFar x items start →
+    AreSpans x items
+spans_so_far x items start s = subst (AreSpans x) (append-nil items) (s.spans [] tt)

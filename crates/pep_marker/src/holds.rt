@@ -1,0 +1,242 @@
+// Whether a marker is true in an environment (PEP 508, "Environment Markers").
+
+ghost use Rattle.std.specs.Prelude.{◌≡◌, ◌⊎◌, ◌&&◌, ◌||◌, IfErr, IfOk, MatchOption, Ok, Some};
+ghost use Rattle.pep_version.specs.Spelling.{Spells};
+ghost use Rattle.pep_version.specs.Version as version;
+ghost use Rattle.pep_clause.specs.Admits.{admits};
+ghost use Rattle.pep_clause.specs.Clause as clause;
+ghost use Rattle.pep_clause.specs.Clause.{ClauseOf};
+ghost use Rattle.pep_marker.specs.Holds.{
+  Compares,
+  ComparesVersions,
+  Evaluates,
+  IsUndefined,
+  both,
+  is_extra,
+  is_part,
+  operand_value,
+  plain_truth,
+  text_truth,
+};
+ghost use Rattle.pep_marker.specs.Marker as syntax;
+ghost use Rattle.pep_marker.specs.View.{marker_parts, operand_parts, operator_parts, tree_parts};
+
+use crate::environment::{Environment, Variable};
+use crate::fault::MarkerFault;
+use crate::marker::{Marker, Operand, Operator, Tree};
+use crate::normal::Normal;
+use pep_clause::{Clause, ClauseFault, Op};
+use pep_version::{Version, VersionFault};
+use std::alloc::Global;
+
+// True, false, or undefined.
+type Truth = Option<bool>;
+
+impl Marker {
+    /// Whether the marker is true in the environment (PEP 508, "Environment Markers").
+    ///
+    /// Beside `extra` both texts are normalized as names are, and compared as texts. Else two texts
+    /// are compared as versions where the right one makes a clause with the operator and the left
+    /// one is a version, and as texts, by their bytes, where not; `===` compares texts in lower
+    /// case, and `in` and `not in` ask for a part of a text. `~=` has no meaning for texts, and a
+    /// marker with such a comparison is `Undefined`, 28: both sides of `and` and `or` count. There
+    /// may be want of memory, 29.
+    pub fn holds(&self, alloc: Global, environment: &Environment) -> Result<bool, MarkerFault>
+        ensures value { IfOk result (λ b. Evaluates environment.now (marker_parts self.now)
+            (Some b)) }
+        ensures faults { IfErr result (λ e. (e ≡ MarkerFault.NoMemory)
+            ⊎ ((e ≡ MarkerFault.Undefined)
+            × IsUndefined environment.now (marker_parts self.now))) }
+    {
+        match tree_truth(alloc, environment, &self.tree)? {
+            Some(truth) => Ok(truth),
+            None => Err(MarkerFault::Undefined),
+        }
+    }
+}
+
+// Both sides of `and` and `or` are evaluated.
+fn tree_truth(alloc: Global, environment: &Environment, tree: &Tree) -> Result<Truth, MarkerFault>
+    ensures value { IfOk result (λ t. Evaluates environment.now (tree_parts tree.now) t) }
+    ensures faults { IfErr result (λ e. e ≡ MarkerFault.NoMemory) }
+{
+    match tree {
+        Tree::Comparison(left, operator, right) => {
+            comparison_truth(alloc, environment, left, *operator, right)
+        }
+        Tree::And(left, right) => {
+            let left = tree_truth(alloc, environment, left)?;
+            let right = tree_truth(alloc, environment, right)?;
+            Ok(and_truth(left, right))
+        }
+        Tree::Or(left, right) => {
+            let left = tree_truth(alloc, environment, left)?;
+            let right = tree_truth(alloc, environment, right)?;
+            Ok(or_truth(left, right))
+        }
+    }
+}
+
+fn and_truth(left: Truth, right: Truth) -> Truth
+    ensures { result ≡ both (λ x y. x && y) left right }
+{
+    match (left, right) {
+        (Some(left), Some(right)) => Some(left && right),
+        _ => None,
+    }
+}
+
+fn or_truth(left: Truth, right: Truth) -> Truth
+    ensures { result ≡ both (λ x y. x || y) left right }
+{
+    match (left, right) {
+        (Some(left), Some(right)) => Some(left || right),
+        _ => None,
+    }
+}
+
+// The text of one side.
+fn operand_text<'a>(environment: &'a Environment, operand: &'a Operand) -> &'a str
+    ensures { result.now ≡ operand_value environment.now (operand_parts operand.now) }
+{
+    match operand {
+        Operand::Variable(variable) => environment.text(*variable),
+        Operand::Text(text) => text.as_str(),
+    }
+}
+
+fn is_extra(operand: &Operand) -> bool
+    ensures { result ≡ is_extra (operand_parts operand.now) }
+{
+    matches!(operand, Operand::Variable(Variable::Extra))
+}
+
+fn comparison_truth(
+    alloc: Global,
+    environment: &Environment,
+    left: &Operand,
+    operator: Operator,
+    right: &Operand,
+) -> Result<Truth, MarkerFault>
+    ensures value { IfOk result (λ t. Evaluates environment.now (syntax.compare
+        (operand_parts left.now) (operator_parts operator) (operand_parts right.now)) t) }
+    ensures faults { IfErr result (λ e. e ≡ MarkerFault.NoMemory) }
+{
+    let left_text = operand_text(environment, left);
+    let right_text = operand_text(environment, right);
+    if is_extra(left) || is_extra(right) {
+        let left_text = Normal::of(alloc, left_text)?;
+        let right_text = Normal::of(alloc, right_text)?;
+        return Ok(plain_truth(operator, left_text.as_str(), right_text.as_str()));
+    }
+    compared(alloc, operator, left_text, right_text)
+}
+
+// What the operator says of two texts, as versions where they are.
+fn compared(
+    alloc: Global,
+    operator: Operator,
+    left: &str,
+    right: &str,
+) -> Result<Truth, MarkerFault>
+    ensures value { IfOk result (λ t. Compares (operator_parts operator) left.now right.now t) }
+    ensures faults { IfErr result (λ e. e ≡ MarkerFault.NoMemory) }
+{
+    let Operator::Version(op) = operator else {
+        return Ok(plain_truth(operator, left, right));
+    };
+    match version_truth(alloc, op, left, right)? {
+        Some(truth) => Ok(Some(truth)),
+        None => Ok(text_truth(op, left, right)),
+    }
+}
+
+// What the operator says of two versions; nothing where the texts are not compared as versions.
+fn version_truth(
+    alloc: Global,
+    op: Op,
+    left: &str,
+    right: &str,
+) -> Result<Option<bool>, MarkerFault>
+    ensures value { IfOk result (λ t. MatchOption t
+        ((c : clause.Clause) (v : version.Version) → ¬ ComparesVersions op left.now right.now c v)
+        (λ b. (c : clause.Clause) × (v : version.Version)
+        × ComparesVersions op left.now right.now c v × (b ≡ admits c v))) }
+    ensures faults { IfErr result (λ e. e ≡ MarkerFault.NoMemory) }
+{
+    if op == Op::Exact {
+        return Ok(None);
+    }
+    let Some(clause) = clause_of(alloc, op, right)? else {
+        return Ok(None);
+    };
+    let Some(version) = version_of(alloc, left)? else {
+        return Ok(None);
+    };
+    match clause.admits(alloc, &version) {
+        Ok(truth) => Ok(Some(truth)),
+        Err(_) => Err(MarkerFault::NoMemory),
+    }
+}
+
+// The clause of the operator and the text, if they make one.
+fn clause_of(alloc: Global, op: Op, text: &str) -> Result<Option<Clause>, MarkerFault>
+    ensures value { IfOk result (λ found. MatchOption found
+        ((c : clause.Clause) → ¬ ClauseOf op text.now (Ok c)) (λ c. ClauseOf op text.now (Ok c))) }
+    ensures faults { IfErr result (λ e. e ≡ MarkerFault.NoMemory) }
+{
+    match Clause::of(alloc, op, text) {
+        Ok(clause) => Ok(Some(clause)),
+        Err(fault) => match fault {
+            ClauseFault::NoMemory => Err(MarkerFault::NoMemory),
+            _ => Ok(None),
+        },
+    }
+}
+
+// The version that the text spells, if it spells one.
+fn version_of(alloc: Global, text: &str) -> Result<Option<Version>, MarkerFault>
+    ensures value { IfOk result (λ found. MatchOption found
+        ((v : version.Version) → ¬ Spells text.now v) (λ v. Spells text.now v)) }
+    ensures faults { IfErr result (λ e. e ≡ MarkerFault.NoMemory) }
+{
+    match Version::read(alloc, text) {
+        Ok(version) => Ok(Some(version)),
+        Err(fault) => match fault {
+            VersionFault::NoMemory => Err(MarkerFault::NoMemory),
+            _ => Ok(None),
+        },
+    }
+}
+
+// What the operator says of two texts that are not compared as versions.
+fn plain_truth(operator: Operator, left: &str, right: &str) -> Truth
+    ensures { result ≡ plain_truth (operator_parts operator) left.now right.now }
+{
+    match operator {
+        Operator::In => Some(is_part(left, right)),
+        Operator::NotIn => Some(!is_part(left, right)),
+        Operator::Version(op) => text_truth(op, left, right),
+    }
+}
+
+fn is_part(part: &str, text: &str) -> bool
+    ensures { result ≡ is_part part.now text.now }
+{
+    text.contains(part)
+}
+
+fn text_truth(op: Op, left: &str, right: &str) -> Truth
+    ensures { result ≡ text_truth op left.now right.now }
+{
+    match op {
+        Op::Exact => Some(left.eq_ignore_ascii_case(right)),
+        Op::Equal => Some(left == right),
+        Op::NotEqual => Some(left != right),
+        Op::Less => Some(left < right),
+        Op::AtMost => Some(left <= right),
+        Op::More => Some(left > right),
+        Op::AtLeast => Some(left >= right),
+        Op::Compatible => None,
+    }
+}

@@ -1,0 +1,41 @@
+// How a marker is read.
+
+use crate::chains::or_chain;
+use crate::fault::MarkerFault;
+use crate::marker::Marker;
+use crate::token::tokens_of;
+use std::alloc::Global;
+
+// How many parentheses may be open at once.
+const DEPTH: usize = 64;
+// How many comparisons a marker may have.
+const COMPARISONS: usize = 1024;
+
+impl Marker {
+    ghost use Rattle.std.specs.Prelude.{◌≡◌, ◌⊎◌, IfErr, IfOk};
+    ghost use Rattle.pep_marker.specs.Marker.{IsMarker, NoMarker};
+    ghost use Rattle.pep_marker.specs.View.{marker_parts};
+
+    /// Reads a marker (PEP 508, "Grammar"): comparisons under `and` and `or`, with parentheses, of
+    /// variables and of texts in quotes. White space is spaces and tabs, between the tokens and at
+    /// both ends.
+    ///
+    /// A text that is no marker is refused as `BadMarker`, 26, or as `TooDeep`, 27, where from left
+    /// to right a 65th parenthesis is opened at once, or a 1,025th comparison read, before there is
+    /// another fault. For a marker there may be want of memory, 29.
+    pub fn read(alloc: Global, text: &str) -> Result<Marker, MarkerFault>
+        ensures ok { IfOk result (λ m. IsMarker text.now (marker_parts m)) }
+        ensures refused { IfErr result (λ e. (e ≡ MarkerFault.NoMemory)
+            ⊎ (((e ≡ MarkerFault.BadMarker) ⊎ (e ≡ MarkerFault.TooDeep)) × NoMarker text.now)) }
+    {
+        let found = tokens_of(alloc, text)?;
+        let front = or_chain(alloc, found.items.as_slice(), DEPTH, COMPARISONS)?;
+        if !found.whole {
+            return Err(MarkerFault::BadMarker);
+        }
+        if !front.rest.is_empty() {
+            return Err(MarkerFault::BadMarker);
+        }
+        Ok(Marker { tree: front.tree })
+    }
+}
