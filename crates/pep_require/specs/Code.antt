@@ -1,5 +1,5 @@
 -- The codes of faults of requirement lines.
-use Rattle.std.specs.Prelude.{ℕ, Option, Some, None}
+use Rattle.std.specs.Prelude.{◌≡◌, ◌⊎◌, ℕ, Option, Some, None}
 use Rattle.pep_clause.specs.Code.{clause_code}
 use Rattle.pep_marker.specs.Code.{marker_code}
 use Rattle.pep_require.specs.declared.fault.RequireFault.{RequireFault}
@@ -23,3 +23,7 @@ abbrev pub require_inner_code : RequireFault → Option ℕ
 require_inner_code (fault.BadClause f) = Some (clause_code f)
 require_inner_code (fault.BadMarker f) = Some (marker_code f)
 require_inner_code _ = None
+
+-- The same fault, or both are of a marker. Which of its two faults a marker has, isn't told.
+abbrev pub IsSameFault : RequireFault → RequireFault → Type 0
+IsSameFault f g = (f ≡ g) ⊎ ((require_code f ≡ 35) × (require_code g ≡ 35))

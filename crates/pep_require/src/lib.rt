@@ -1,6 +1,17 @@
-//! What a requirement line is, by PEP 508. For now the crate has the definitions and the faults.
+//! Requirement lines, by PEP 508.
 #![tactic(auto)]
 
+mod clauses;
+mod extras;
 mod fault;
+mod front;
+pub mod laws;
+mod read;
+mod requirement;
+mod target;
+mod text;
+mod url_text;
 
 pub use crate::fault::RequireFault;
+pub use crate::requirement::{Requirement, Target};
+pub use crate::url_text::UrlText;

@@ -13,11 +13,11 @@ use Rattle.pep_clause.proofs.OneList.{same_points}
 use Rattle.pep_clause.specs.VersionSet.{IsPoint, all_versions, is_point}
 use Rattle.pep_clause.specs.Clause.{demanded}
 use Rattle.pep_require.specs.Requirement.{IsAscending}
+use Rattle.pep_require.proofs.Ascending.{Contains-from_IsIn, IsIn, IsIn-from_Contains}
+use Rattle.pep_require.proofs.Ascending.{ascending_same, first_below, irreflexive, rest_ascends}
 use Rattle.pep_table.specs.declared.verdict.Verdict.{Verdict}
 use Rattle.pep_table.specs.declared.verdict.Verdict.TheVariants.{Possible, Nothing, Conflict}
 use Rattle.pep_table.specs.Demand.{Demand, Demands, HaveSameDemands, clause, extra, url}
-use Rattle.pep_table.specs.JoinLaws.{Contains-from_IsIn, IsIn, IsIn-from_Contains, ascending_same}
-use Rattle.pep_table.specs.JoinLaws.{first_below, irreflexive, rest_ascends}
 use Rattle.pep_table.specs.Table.{AdmitsPoint, EntryParts, HasExactPoints, IsEntry, IsTable}
 use Rattle.pep_table.specs.Table.{IsValidEntry, TableParts, entry_at, names}
 use Rattle.pep_table.specs.TableText.{IsTableText, entry_text}

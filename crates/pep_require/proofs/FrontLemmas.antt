@@ -1,0 +1,70 @@
+-- What stands at the front of a text, and where a text may be cut behind it.
+use Rattle.std.proofs.Common.{◌≡◌, ◌≢◌, ℕ, ◌==◌, ◌<◌, Bool, true, false, not, List, [], ◌∷◌}
+use Rattle.std.proofs.Common.{length, take, Option, Some, None, Bor, refl, ap, arith}
+use Rattle.std.proofs.Common.{◌≤◌, ◌⊎◌, inl, inr, get_or, drop-cons, sym, ◌∙◌}
+use Rattle.std.specs.Prelude.{MatchOption}
+use Rattle.std.specs.List.{prefix_len}
+use Rattle.std.specs.Str.{IsCharBoundary, IsUtf8}
+use Rattle.std.proofs.lemmas.Bool.Decides.{nat_tests}
+use Rattle.std.proofs.lemmas.List.Sums.{prefix_len-le-length}
+use Rattle.std.proofs.lemmas.Str.{IsCharBoundary-from_take, IsUtf8-from_ascii}
+use Rattle.pep_marker.specs.Runs.{begins, is_blank_byte}
+use Rattle.pep_marker.specs.Name.{is_name_byte}
+use Rattle.pep_marker.proofs.NormalNames.{name_byte_small}
+use Rattle.pep_marker.proofs.RunLemmas.{all-run, ascii-class, begins-rest}
+
+-- a run of a class of ASCII bytes ends where a text may be cut
+pub boundary-run : (p : ℕ → Bool) → ((b : ℕ) → p b ≡ true → b < 128) → (x : List ℕ) → IsUtf8 x →
+    IsCharBoundary x (prefix_len p x)
+boundary-run p small x utf8 =
+    IsCharBoundary-from_take x (prefix_len p x) utf8 (prefix_len-le-length p x)
+    (IsUtf8-from_ascii (take (prefix_len p x) x)
+    (ascii-class p small (take (prefix_len p x) x) (all-run p x)))
+
+-- behind the white space in front
+pub boundary-blanks : (x : List ℕ) → IsUtf8 x → IsCharBoundary x (prefix_len is_blank_byte x)
+boundary-blanks = boundary-run is_blank_byte small
+  where
+    small : (b : ℕ) → is_blank_byte b ≡ true → b < 128
+    small b h = grind (arith, nat_tests)
+
+-- a byte in front, which is stripped off
+pub byte_in_front : (c : ℕ) (x : List ℕ) (r : Option (Bor (List ℕ))) →
+    MatchOption r ((rest : List ℕ) → x ≢ c ∷ rest) (λ behind. x ≡ c ∷ behind.now) →
+    MatchOption r (begins (λ b. b == c) x ≡ false) (λ behind. x ≡ c ∷ behind.now)
+byte_in_front c x (Some behind) h = h
+byte_in_front c [] None h = refl
+byte_in_front c (b ∷ x) None h = by (b == c) refl
+  where
+    by : (t : Bool) → (b == c) ≡ t → t ≡ false
+    by true e = let same : b ≡ c = grind (arith, nat_tests) in absurd (h x (ap (λ n. n ∷ x) same))
+    by false e = refl
+
+-- a run that a class of ASCII bytes ends, ends where a text may be cut
+pub boundary-until : (p : ℕ → Bool) → ((b : ℕ) → p b ≡ false → b < 128) → (x : List ℕ) →
+    IsCharBoundary x (prefix_len p x)
+boundary-until p small x = (prefix_len-le-length p x, at)
+  where
+    at : prefix_len p x < length x → 128 ≤ get_or x (prefix_len p x) 0 →
+        192 ≤ get_or x (prefix_len p x) 0
+    at less big =
+        let front : p (get_or x (prefix_len p x) 0) ≡ false =
+        sym (ap (begins p) (drop-cons x (prefix_len p x) 0 less)) ∙ begins-rest p x in
+        absurd (omega (arith, small _ front, big))
+
+-- behind a URL
+pub boundary-url : (x : List ℕ) → IsCharBoundary x (prefix_len (λ b. not (is_blank_byte b)) x)
+boundary-url = boundary-until (λ b. not (is_blank_byte b)) small
+  where
+    small : (b : ℕ) → not (is_blank_byte b) ≡ false → b < 128
+    small b h = grind (arith, nat_tests)
+
+-- ---- a fault of a part is a fault of what it is a part of
+
+pub fault_by : {A B C : Type 0} → A ⊎ B → (B → C) → A ⊎ C
+fault_by (inl h) f = inl h
+fault_by (inr h) f = inr (f h)
+
+-- behind the run of a name
+pub boundary-name : (x : List ℕ) → IsUtf8 x → IsCharBoundary x (prefix_len is_name_byte x)
+boundary-name = boundary-run is_name_byte name_byte_small

@@ -1,0 +1,83 @@
+// The clauses of a line (PEP 508, "Grammar"), read from left to right. No text is copied.
+
+ghost use Rattle.std.specs.Prelude.{◌≡◌, ◌==◌, ◌⊎◌, ◌∷◌, IfErr, IfOk, MatchOption, false};
+ghost use Rattle.pep_marker.specs.Runs.{begins, without_leading_blanks};
+ghost use Rattle.pep_require.specs.LineParts.{
+  BoundFrom,
+  BoundsFrom,
+  RefusesBound,
+  RefusesBounds,
+  is_end,
+};
+
+use crate::fault::RequireFault;
+use crate::front::{behind, stripped};
+use pep_clause::{Clause, ClauseFault, Op, clause_run};
+use std::alloc::Global;
+
+// The clauses in front of a text, and what stands behind them.
+#[derive(Drop)]
+pub(crate) struct Bounds<'a> {
+    pub(crate) clauses: Vec<Clause>,
+    pub(crate) rest: &'a str,
+}
+
+// Whether a list of clauses ends here: at the end of the line, and else at `)` where it began with
+// `(`, at `;` where it didn't.
+fn is_end(closed: bool, text: &str) -> bool
+    ensures { result ≡ is_end closed text.now }
+{
+    let end = if closed { b')' } else { b';' };
+    match text.as_bytes() {
+        [] => true,
+        [first, ..] => *first == end,
+    }
+}
+
+// The clause in front of the text, and what stands behind it, without white space before that. The
+// clause takes the longest run of characters that one may hold.
+fn clause_at<'a>(alloc: Global, text: &'a str) -> Result<(Clause, &'a str), RequireFault>
+    ensures read { IfOk result (λ found. BoundFrom text.now found.0 found.1.now) }
+    ensures refused { IfErr result (λ e. (e ≡ RequireFault.NoMemory) ⊎ RefusesBound text.now e) }
+{
+    let text = stripped(text);
+    let Some(operator) = Op::at_front(text.as_bytes()) else {
+        return Err(RequireFault::BadClause(ClauseFault::NoOperator));
+    };
+    let (_, operand) = text.split_at(operator.text().len());
+    let operand = stripped(operand);
+    let (run, rest) = operand.split_at(clause_run(operand.as_bytes()));
+    let clause = Clause::of(alloc, operator, run)?;
+    Ok((clause, stripped(rest)))
+}
+
+// The clauses in front of the text, one or more, joined by `,`. A `,` behind the last one is
+// dropped. The faults are those of the first clause that is refused, and 40 for want of memory.
+pub(crate) fn clauses_at<'a>(
+    alloc: Global,
+    text: &'a str,
+    closed: bool,
+) -> Result<Bounds<'a>, RequireFault>
+    ensures read { IfOk result (λ found.
+        BoundsFrom closed text.now found.clauses.items found.rest.now) }
+    ensures refused { IfErr result (λ e. (e ≡ RequireFault.NoMemory)
+        ⊎ RefusesBounds closed text.now e) }
+{
+    // Most lines have one clause.
+    let mut clauses = Vec::with_capacity(alloc, 1)?;
+    let mut left = text;
+    loop {
+        let (clause, rest) = clause_at(alloc, left)?;
+        clauses.push(clause)?;
+        let Some(others) = behind(rest, ',') else {
+            return Ok(Bounds { clauses, rest });
+        };
+        left = stripped(others);
+        if is_end(closed, left) {
+            return Ok(Bounds {
+                clauses,
+                rest: left,
+            });
+        }
+    }
+}

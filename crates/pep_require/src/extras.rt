@@ -1,0 +1,85 @@
+// The extras of a requirement line (PEP 508, "Extras").
+
+ghost use Rattle.std.specs.Prelude.{◌≡◌, ◌⊎◌, ◌↔◌, ℕ, Contains, IfErr, IfOk, List};
+ghost use Rattle.pep_require.specs.ExtrasParts.{NamesWithin, NoExtra, NoneWithin};
+ghost use Rattle.pep_require.specs.LineParts.{ExtrasFrom, RefusesExtras};
+ghost use Rattle.pep_require.specs.Reads.{IsExtra};
+ghost use Rattle.pep_require.specs.Requirement.{IsAscending};
+
+use crate::fault::RequireFault;
+use crate::front::{behind, stripped};
+use pep_marker::{MarkerFault, Name, name_run};
+use std::alloc::Global;
+
+// Extras at the front of a text, sorted and each once, and the text behind them.
+#[derive(Drop)]
+pub(crate) struct Extras<'a> {
+    pub(crate) names: Vec<Name>,
+    pub(crate) rest: &'a str,
+}
+
+// The extras at the front of the text, and none where it doesn't begin with `[`.
+pub(crate) fn extras_at<'a>(alloc: Global, text: &'a str) -> Result<Extras<'a>, RequireFault>
+    ensures read { IfOk result (λ found. ExtrasFrom text.now found.names.items found.rest.now) }
+    ensures refused { IfErr result (λ e. (e ≡ RequireFault.NoMemory)
+        ⊎ RefusesExtras text.now e) }
+{
+    let Some(text) = behind(text, '[') else {
+        return Ok(Extras {
+            names: Vec::new(alloc),
+            rest: text,
+        });
+    };
+    let Some((inner, rest)) = text.split_once(']') else {
+        return Err(RequireFault::BadExtras);
+    };
+    let mut names = names_within(alloc, inner)?;
+    sort(&mut names);
+    Ok(Extras { names, rest })
+}
+
+// The names between the brackets, in the order of the text: white space alone, or names joined by
+// `,`.
+fn names_within(alloc: Global, inner: &str) -> Result<Vec<Name>, RequireFault>
+    ensures read { IfOk result (λ names. NamesWithin inner.now names.items) }
+    ensures refused { IfErr result (λ e. (e ≡ RequireFault.NoMemory)
+        ⊎ ((e ≡ RequireFault.BadExtras) × NoneWithin inner.now)) }
+{
+    let mut names = Vec::new(alloc);
+    if stripped(inner).is_empty() {
+        return Ok(names);
+    }
+    for piece in inner.split(',') {
+        let name = extra(alloc, piece)?;
+        names.push(name)?;
+    }
+    Ok(names)
+}
+
+// The name of one extra, with white space round it.
+fn extra(alloc: Global, piece: &str) -> Result<Name, RequireFault>
+    ensures read { IfOk result (λ name. IsExtra piece.now name) }
+    ensures refused { IfErr result (λ e. (e ≡ RequireFault.NoMemory)
+        ⊎ ((e ≡ RequireFault.BadExtras) × NoExtra piece.now)) }
+{
+    let text = stripped(piece);
+    let (written, after) = text.split_at(name_run(text.as_bytes()));
+    if !stripped(after).is_empty() {
+        return Err(RequireFault::BadExtras);
+    }
+    match Name::read(alloc, written) {
+        Ok(name) => Ok(name),
+        Err(MarkerFault::BadName) => Err(RequireFault::BadExtras),
+        // The only other fault is want of memory.
+        Err(_) => Err(RequireFault::NoMemory),
+    }
+}
+
+// Sorts the names, and keeps each once.
+fn sort(names: &mut Vec<Name>)
+    ensures ascending { IsAscending names.new.items }
+    ensures same { (n : List ℕ) → Contains names.new.items n ↔ Contains names.old.items n }
+{
+    names.sort_unstable();
+    names.dedup();
+}

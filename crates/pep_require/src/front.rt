@@ -1,0 +1,23 @@
+// What stands at the front of a text.
+
+ghost use Rattle.std.specs.Prelude.{◌≡◌, ◌<◌, ◌==◌, ◌∷◌, MatchOption, false};
+ghost use Rattle.pep_marker.specs.Runs.{begins, without_leading_blanks};
+
+use pep_marker::blank_run;
+
+// The text without the white space in front.
+pub(crate) fn stripped(text: &str) -> &str
+    ensures { result.now ≡ without_leading_blanks text.now }
+{
+    let (_, rest) = text.split_at(blank_run(text.as_bytes()));
+    rest
+}
+
+// What stands behind this ASCII character in front.
+pub(crate) fn behind(text: &str, character: char) -> Option<&str>
+    requires { character < 128 }
+    ensures { MatchOption result (begins (λ b. b == character) text.now ≡ false)
+        (λ behind. text.now ≡ character ∷ behind.now) }
+{
+    text.strip_prefix(character)
+}

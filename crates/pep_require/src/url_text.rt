@@ -1,0 +1,85 @@
+ghost use Rattle.std.specs.Prelude.{◌≡◌, ◌⊎◌, nat_lt, IfOk, IfErr};
+ghost use Rattle.std.specs.List.{list_all};
+ghost use Rattle.pep_require.specs.LineParts.{RefusesWritten};
+ghost use Rattle.pep_require.specs.Reads.{ReadsUrl, is_url_byte};
+ghost use Rattle.pep_require.specs.Requirement.{UrlParts};
+
+use crate::fault::RequireFault;
+use std::alloc::Global;
+use std::marker::Model;
+use url::{ParseError, Url};
+
+/// The URL of a requirement (PEP 508): the text that is written, and the text by which the URL
+/// Standard prints the URL.
+#[derive(Drop)]
+pub struct UrlText {
+    written: String,
+    text: String,
+}
+
+impl Model for UrlText {
+    ghost use Rattle.std.specs.Prelude.{string_bytes};
+    ghost use Rattle.pep_require.specs.Requirement.{UrlParts};
+
+    ghost Value = { UrlParts };
+
+    ghost view = { λ u. record { written = string_bytes u.written; text = string_bytes u.text } };
+}
+
+fn is_run(text: &str) -> bool
+    ensures { result ≡ list_all (λ b. nat_lt 32 b) text.now }
+{
+    text.as_bytes().iter().all(|b| *b > 32)
+}
+
+fn is_printable(text: &str) -> bool
+    ensures { result ≡ list_all is_url_byte text.now }
+{
+    text.as_bytes().iter().all(|b| 33 <= *b && *b <= 126)
+}
+
+impl UrlText {
+    /// Reads a URL (the URL Standard, by the crate `url`): a text without white space and without
+    /// characters U+0000 to U+001F, which the standard prints with the characters U+0021 to U+007E
+    /// alone.
+    ///
+    /// Any other text is `BadUrl`, 34. Where the reader of URLs answers its own overflow it is
+    /// `UrlOverflow`, 39, and there may be want of memory, 40.
+    pub fn read(alloc: Global, written: &str) -> Result<UrlText, RequireFault>
+        ensures ok { IfOk result (λ u. ReadsUrl written.now u) }
+        ensures refused { IfErr result (λ e. (e ≡ RequireFault.NoMemory)
+            ⊎ RefusesWritten written.now e) }
+    {
+        if !is_run(written) {
+            return Err(RequireFault::BadUrl);
+        }
+        let url = match Url::parse(alloc, written) {
+            Ok(url) => url,
+            Err(ParseError::Overflow) => return Err(RequireFault::UrlOverflow),
+            Err(ParseError::OutOfMemory) => return Err(RequireFault::NoMemory),
+            Err(_) => return Err(RequireFault::BadUrl),
+        };
+        let text = url.as_str();
+        if !is_printable(text) {
+            return Err(RequireFault::BadUrl);
+        }
+        Ok(UrlText {
+            written: String::from_str(alloc, written)?,
+            text: String::from_str(alloc, text)?,
+        })
+    }
+
+    /// The text that was read.
+    pub fn written(&self) -> &str
+        ensures { result.now ≡ self.now.written }
+    {
+        self.written.as_str()
+    }
+
+    /// The text by which the URL Standard prints the URL: two URLs are one where it is the same.
+    pub fn text(&self) -> &str
+        ensures { result.now ≡ self.now.text }
+    {
+        self.text.as_str()
+    }
+}
