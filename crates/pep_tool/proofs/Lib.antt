@@ -11,3 +11,5 @@ pub mod MergeLemmas
 pub mod PlanLemmas
 pub mod BoundsLemmas
 pub mod RequirementLemmas
+pub mod LineTexts
+pub mod RequirementLists

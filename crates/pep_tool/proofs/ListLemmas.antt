@@ -17,14 +17,15 @@ use Rattle.pep_tool.specs.declared.fault.Cause.{Cause}
 use Rattle.pep_tool.specs.declared.fault.Cause.TheVariants as cause
 use Rattle.pep_tool.specs.declared.fault.LineFault.{LineFault}
 use Rattle.pep_tool.specs.declared.fault.LineFault.TheVariants as line_fault
-use Rattle.pep_tool.specs.Line.{ReadsLine, RefusesLine}
+use Rattle.pep_tool.specs.Line.{ReadsLine}
 use Rattle.pep_tool.specs.Lists.{IsListOf, content, input_limit, is_skipped, lines_of}
 use Rattle.pep_tool.specs.Lists.{requirement_lines}
-use Rattle.pep_tool.specs.Refusal.{IsNumbered, IsRefusedLine, IsRefusedList}
+use Rattle.pep_tool.specs.Refusal.{IsNumbered, IsRefusedLine, IsRefusedLineBy}
+use Rattle.pep_tool.specs.Refusal.{IsRefusedList}
 use Rattle.pep_tool.specs.Refusal.{by_content, by_encoding, by_length, by_line, by_size}
 use Rattle.pep_tool.specs.Sets.{Gathers, HasClause, IsGathered, IsGoodLine, IsReadOf, LineGives}
 use Rattle.pep_tool.specs.Sets.{LineParts, LinesGive, ListGives, MergesLine, MergesList, Pair}
-use Rattle.pep_tool.specs.Sets.{RefusesLineBytes, RefusesList, Sets, line_requirement, pairs_of}
+use Rattle.pep_tool.specs.Sets.{RefusesLineBytesBy, RefusesListBy, Sets, line_requirement, pairs_of}
 use Rattle.pep_version.specs.Split.{left_parts}
 use Rattle.pep_tool.proofs.LineLemmas.{line_refused}
 
@@ -172,41 +173,42 @@ known fault.LineTooLong = inr (λ e. cc e)
 known fault.UrlOverflow = inr (λ e. cc e)
 
 -- a fault of a line is no want of memory
-line_known : (line : List ℕ) (f : LineFault) → IsRefusedLine line f →
-    f ≢ line_fault.Requirement fault.NoMemory
+-- the code's facts on lines stand for whatever a line is refused for
+line_known : {R : List ℕ → RequireFault → Type 0} (line : List ℕ) (f : LineFault) →
+    IsRefusedLineBy R line f → f ≢ line_fault.Requirement fault.NoMemory
 line_known line f (by_length long e) memory = cc (e, memory)
 line_known line f (by_encoding short other e) memory = cc (e, memory)
 line_known line f (by_content g short text seen known refuses e) memory = known (cc (e, memory))
 
 -- a line whose content is refused
-pub content_refuses : (line : List ℕ) (f : RequireFault) → length line ≤ line_limit → IsUtf8 line →
-    is_skipped (content line) ≡ false →
-    RefusesLine (content line) f → RefusesLineBytes line (line_fault.Requirement f)
-content_refuses line f short text seen refuses = by (known f)
+pub content_refuses : {R : List ℕ → RequireFault → Type 0} (line : List ℕ) (f : RequireFault) →
+    length line ≤ line_limit → IsUtf8 line → is_skipped (content line) ≡ false →
+    R (content line) f → RefusesLineBytesBy R line (line_fault.Requirement f)
+content_refuses {R} line f short text seen refuses = by (known f)
   where
     by : (f ≡ fault.NoMemory) ⊎ (f ≢ fault.NoMemory) →
-        RefusesLineBytes line (line_fault.Requirement f)
+        RefusesLineBytesBy R line (line_fault.Requirement f)
     by (inl memory) = inl (ap line_fault.Requirement memory)
     by (inr other) = inr (by_content f short text seen other refuses refl)
 
 -- the cause of a fault of a line
-pub line_refuses : (bytes line : List ℕ) (number : ℕ) (f : LineFault) (c : Cause) →
-    IsNumbered (lines_of bytes) number line →
-    RefusesLineBytes line f → (f ≡ line_fault.Requirement fault.NoMemory → c ≡ cause.NoMemory) →
-    (f ≢ line_fault.Requirement fault.NoMemory → c ≡ cause.Line number f) → RefusesList bytes c
+pub line_refuses : {R : List ℕ → RequireFault → Type 0} (bytes line : List ℕ) (number : ℕ)
+    (f : LineFault) (c : Cause) → IsNumbered (lines_of bytes) number line →
+    RefusesLineBytesBy R line f → (f ≡ line_fault.Requirement fault.NoMemory → c ≡ cause.NoMemory) →
+    (f ≢ line_fault.Requirement fault.NoMemory → c ≡ cause.Line number f) → RefusesListBy R bytes c
 line_refuses bytes line number f c at (inl memory) none told = inl (none memory)
 line_refuses bytes line number f c at (inr refused) none told =
     inr (by_line number line f at refused (told (line_known line f refused)))
 
 -- the cause of a list that goes on behind its largest size
-cut_refuses : (bytes line : List ℕ) (number : ℕ) (c : Cause) → input_limit < length bytes →
-    ((longer : List ℕ) × IsNumbered (lines_of bytes) number longer × (length line ≤ length longer))
+cut_refuses : {R : List ℕ → RequireFault → Type 0} (bytes line : List ℕ) (number : ℕ) (c : Cause) →
+    input_limit < length bytes → ((longer : List ℕ) × IsNumbered (lines_of bytes) number longer × (length line ≤ length longer))
     →
     (line_limit < length line → c ≡ cause.Line number (line_fault.Requirement fault.LineTooLong)) →
-    (length line ≤ line_limit → c ≡ cause.TooLarge) → RefusesList bytes c
-cut_refuses bytes line number c large at long fits = by (cases_lt line_limit (length line))
+    (length line ≤ line_limit → c ≡ cause.TooLarge) → RefusesListBy R bytes c
+cut_refuses {R} bytes line number c large at long fits = by (cases_lt line_limit (length line))
   where
-    by : (line_limit < length line) ⊎ (length line ≤ line_limit) → RefusesList bytes c
+    by : (line_limit < length line) ⊎ (length line ≤ line_limit) → RefusesListBy R bytes c
     by (inl more) =
         inr (by_line number at.0 (line_fault.Requirement fault.LineTooLong) at.1
         (by_length (omega (arith, more, at.2)) refl) (long more))
@@ -306,12 +308,12 @@ last_of_read bytes read more line done number goes e counted =
     )
 
 -- why a list that goes on behind its largest size is refused in its last line
-pub cut_of_read : (bytes read line : List ℕ) (fits : Bool) (done : List (List ℕ))
-    (after : Option (Bor (List ℕ))) (number : ℕ) (c : Cause) →
+pub cut_of_read : {R : List ℕ → RequireFault → Type 0} (bytes read line : List ℕ) (fits : Bool)
+    (done : List (List ℕ)) (after : Option (Bor (List ℕ))) (number : ℕ) (c : Cause) →
     fits ≡ false → after ≡ None → IsReadOf fits read bytes → lines_of read ≡ done
     ++ line ∷ left_parts 10 after → number ≡ length done + 1 →
     (line_limit < length line → c ≡ cause.Line number (line_fault.Requirement fault.LineTooLong)) →
-    (length line ≤ line_limit → c ≡ cause.TooLarge) → RefusesList bytes c
+    (length line ≤ line_limit → c ≡ cause.TooLarge) → RefusesListBy R bytes c
 cut_of_read bytes read line true done after number c cut over is e counted long large = cc cut
 cut_of_read bytes read line false done (Some rest) number c cut over is e counted long large =
     cc over

@@ -1,13 +1,13 @@
 -- A line of a list is a requirement by the whole grammar.
-use Rattle.std.proofs.Common.{◌≡◌, ℕ, ◌==◌, ◌≤◌, List, [], ◌∷◌, ◌++◌, length, Option, None, Ok}
+use Rattle.std.proofs.Common.{◌≡◌, ℕ, ◌==◌, List, [], ◌∷◌, ◌++◌}
 use Rattle.std.proofs.Common.{refl, sym, ap, subst, ◌∙◌, arith, append-nil, append_assoc}
 use Rattle.std.specs.List.{AllZip, join_with_byte}
 use Rattle.std.proofs.lemmas.List.Splits.{join_with_byte-slice_split, length-slice_split}
 use Rattle.pep_clause.specs.Clause.{Clause, operator_text}
 use Rattle.pep_clause.proofs.Written.{written-of}
 use Rattle.pep_require.specs.Reads.{IsBound, Reads, ReadsBounds as ReadsTargetBounds, ReadsExtras}
-use Rattle.pep_require.specs.Reads.{ReadsTarget, Spaces, always, bare, no_comma, none}
-use Rattle.pep_require.specs.Requirement.{RequirementParts, bounds}
+use Rattle.pep_require.specs.Reads.{always, bare, no_comma, none}
+use Rattle.pep_require.specs.Requirement.{RequirementParts}
 use Rattle.pep_tool.specs.Line.{ReadsBound, ReadsBounds, ReadsLine, pieces_of, plain_requirement}
 
 five_pieces : (a b c d e : List ℕ) → a ++ (b ++ (c ++ (d ++ e))) ≡ a ++ b ++ c ++ d ++ e

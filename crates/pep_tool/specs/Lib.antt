@@ -10,3 +10,4 @@ pub mod Device
 pub mod Plan
 pub mod Run
 pub mod Sets
+pub mod RequirementLines

@@ -1,5 +1,5 @@
 -- What merging inputs gives.
-use Rattle.std.specs.Prelude.{◌≡◌, ℕ, List, All, IfSome}
+use Rattle.std.specs.Prelude.{ℕ, List, All, IfSome}
 use Rattle.pep_table.specs.declared.verdict.Verdict.{Verdict}
 use Rattle.pep_table.specs.Demand.{Demands}
 use Rattle.pep_table.specs.Table.{HasExactPoints, TableParts, IsTable, entry_at}

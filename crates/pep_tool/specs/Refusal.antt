@@ -2,6 +2,7 @@
 -- else is answered.
 use Rattle.std.specs.Prelude.{◌≡◌, ◌≢◌, ℕ, ◌+◌, ◌<◌, ◌≤◌, ◌⊎◌, false, List, ◌∷◌, ◌++◌, length}
 use Rattle.std.specs.Prelude.{IsUtf8}
+use Rattle.pep_require.specs.LineParts as requirement
 use Rattle.pep_require.specs.Reads.{line_limit}
 use Rattle.pep_require.specs.declared.fault.RequireFault.{RequireFault}
 use Rattle.pep_require.specs.declared.fault.RequireFault.TheVariants as require
@@ -30,24 +31,38 @@ pub record IsNumbered {A : Type 0} (xs : List A) (number : ℕ) (x : A) : Type 0
   pub counted : number ≡ length before + 1
 
 -- Why a line is refused: it is longer than a line may be; or else it isn't UTF-8; or else it isn't
--- skipped, and its content is refused as a requirement.
-pub data IsRefusedLine (line : List ℕ) (fault : LineFault) : Type 0 where
+-- skipped, and its content is refused as a requirement, by what a line is refused for.
+pub data IsRefusedLineBy (refuses : List ℕ → RequireFault → Type 0) (line : List ℕ)
+    (fault : LineFault) : Type 0 where
   by_length : line_limit < length line → fault ≡ line_fault.Requirement require.LineTooLong →
-      IsRefusedLine line fault
+      IsRefusedLineBy refuses line fault
   by_encoding : length line ≤ line_limit → ¬ IsUtf8 line → fault ≡ line_fault.NotUtf8 →
-      IsRefusedLine line fault
+      IsRefusedLineBy refuses line fault
   by_content : (f : RequireFault) → length line ≤ line_limit → IsUtf8 line →
       is_skipped (content line) ≡ false
-      → f ≢ require.NoMemory → RefusesLine (content line) f → fault ≡ line_fault.Requirement f →
-      IsRefusedLine line fault
+      → f ≢ require.NoMemory → refuses (content line) f → fault ≡ line_fault.Requirement f →
+      IsRefusedLineBy refuses line fault
 
 -- Why bytes are refused as a list: they are more than a list may have, or the line with this number
 -- is refused.
-pub data IsRefusedList (bytes : List ℕ) (c : Cause) : Type 0 where
-  by_size : input_limit < length bytes → c ≡ cause.TooLarge → IsRefusedList bytes c
+pub data IsRefusedListBy (refuses : List ℕ → RequireFault → Type 0) (bytes : List ℕ) (c : Cause) :
+    Type 0 where
+  by_size : input_limit < length bytes → c ≡ cause.TooLarge → IsRefusedListBy refuses bytes c
   by_line : (number : ℕ) (line : List ℕ) (fault : LineFault) →
       IsNumbered (lines_of bytes) number line
-      → IsRefusedLine line fault → c ≡ cause.Line number fault → IsRefusedList bytes c
+      → IsRefusedLineBy refuses line fault → c ≡ cause.Line number fault →
+      IsRefusedListBy refuses bytes c
+
+-- .. by the lines that are merged today
+abbrev pub IsRefusedLine : List ℕ → LineFault → Type 0
+IsRefusedLine line fault = IsRefusedLineBy RefusesLine line fault
+
+abbrev pub IsRefusedList : List ℕ → Cause → Type 0
+IsRefusedList bytes c = IsRefusedListBy RefusesLine bytes c
+
+-- .. by whole requirement lines
+abbrev pub IsRefusedRequirementList : List ℕ → Cause → Type 0
+IsRefusedRequirementList bytes c = IsRefusedListBy requirement.RefusesLine bytes c
 
 -- why bytes are refused as an input of this kind
 abbrev pub IsRefused : Kind → List ℕ → Cause → Type 0

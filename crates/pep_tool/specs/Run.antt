@@ -59,8 +59,8 @@ pub record PrintsAnswer (words : List Text) (left after written printed : Option
     pub answers : Answers words left after text
     pub writes : Appends written printed text
 
--- The bytes that were read are refused, as one list, which is input 1: the whole input, or more than
--- a list may have.
+-- The bytes that were read are refused, as one list, which is input 1: the whole input, or more
+-- than a list may have.
 pub record RefusesInput (left after : Option (List ℕ)) (fault : Fault) : Type 0 where
   pub bytes : List ℕ
   pub reads : Consumes left after bytes

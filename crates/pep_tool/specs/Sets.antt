@@ -14,11 +14,12 @@ use Rattle.pep_clause.specs.OperatorTable.{set_of}
 use Rattle.pep_clause.specs.VersionSet.{IsNormal, Range, is_in, is_point}
 use Rattle.pep_marker.specs.Name.{IsNormalName, name_cmp}
 use Rattle.pep_require.specs.Requirement.{RequirementParts}
-use Rattle.pep_tool.specs.Line.{ReadsBound, ReadsBounds, ReadsLine, plain_requirement}
+use Rattle.pep_tool.specs.Line.{ReadsBound, ReadsBounds, ReadsLine, RefusesLine, plain_requirement}
 use Rattle.pep_require.specs.Reads.{line_limit}
+use Rattle.pep_require.specs.declared.fault.RequireFault.{RequireFault}
 use Rattle.pep_require.specs.declared.fault.RequireFault.TheVariants as fault
 use Rattle.pep_tool.specs.Lists.{IsListOf, content, input_limit, is_skipped}
-use Rattle.pep_tool.specs.Refusal.{IsRefusedLine, IsRefusedList}
+use Rattle.pep_tool.specs.Refusal.{IsRefusedLineBy, IsRefusedListBy}
 use Rattle.pep_table.specs.Table.{EntryParts, TableParts}
 use Rattle.pep_table.specs.TableText.{line, range_text}
 use Rattle.pep_table.specs.Verdict.{verdict_word}
@@ -160,12 +161,19 @@ abbrev pub MergesList : List ℕ → Sets → Sets → Type 0
 MergesList bytes old new = (ps : List Pair) × ListGives bytes ps × Gathers old ps new
 
 -- why a line is refused: want of memory, of which nothing is said, or a fault of its own
+abbrev pub RefusesLineBytesBy : (List ℕ → RequireFault → Type 0) → List ℕ → LineFault → Type 0
+RefusesLineBytesBy refuses line f =
+    (f ≡ line_fault.Requirement fault.NoMemory) ⊎ IsRefusedLineBy refuses line f
+
 abbrev pub RefusesLineBytes : List ℕ → LineFault → Type 0
-RefusesLineBytes line f = (f ≡ line_fault.Requirement fault.NoMemory) ⊎ IsRefusedLine line f
+RefusesLineBytes line f = RefusesLineBytesBy RefusesLine line f
 
 -- .. and why bytes are, as a list
+abbrev pub RefusesListBy : (List ℕ → RequireFault → Type 0) → List ℕ → Cause → Type 0
+RefusesListBy refuses bytes c = (c ≡ NoMemory) ⊎ IsRefusedListBy refuses bytes c
+
 abbrev pub RefusesList : List ℕ → Cause → Type 0
-RefusesList bytes c = (c ≡ NoMemory) ⊎ IsRefusedList bytes c
+RefusesList bytes c = RefusesListBy RefusesLine bytes c
 
 -- the bytes are what was read; or they are more than a list may have, and what was read is their
 -- front

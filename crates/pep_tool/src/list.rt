@@ -23,7 +23,7 @@ use std::alloc::Global;
 pub(crate) const INPUT_LIMIT: usize = 16_777_216;
 
 /// The line without a carriage return at its end, and then without white space at both ends.
-fn content(line: &[u8]) -> &[u8]
+pub(crate) fn content(line: &[u8]) -> &[u8]
     ensures { result.now ≡ content line.now }
 {
     let line = match line {
@@ -34,7 +34,7 @@ fn content(line: &[u8]) -> &[u8]
 }
 
 /// Whether a line with this content is empty or a comment.
-fn is_skipped(content: &[u8]) -> bool
+pub(crate) fn is_skipped(content: &[u8]) -> bool
     ensures { result ≡ is_skipped content.now }
 {
     content.is_empty() || content.starts_with(b"#")
@@ -66,7 +66,7 @@ fn merge_line(alloc: Global, sets: &mut Sets, line: &[u8]) -> Result<(), LineFau
 }
 
 /// Why the bytes are no list: a fault of a line, or want of memory, which has no place.
-fn line_cause(number: u64, fault: LineFault) -> Cause
+pub(crate) fn line_cause(number: u64, fault: LineFault) -> Cause
     ensures memory { fault ≡ LineFault.Requirement RequireFault.NoMemory → result ≡ Cause.NoMemory }
     ensures line { fault ≢ LineFault.Requirement RequireFault.NoMemory →
         result ≡ Cause.Line number fault }
@@ -79,7 +79,7 @@ fn line_cause(number: u64, fault: LineFault) -> Cause
 
 /// The fault of a list that goes on behind its largest size, in this line: that of the limit which
 /// is passed first.
-fn cut_off(number: u64, line: &[u8]) -> Cause
+pub(crate) fn cut_off(number: u64, line: &[u8]) -> Cause
     ensures long { line_limit < length line.now →
         result ≡ Cause.Line number (LineFault.Requirement RequireFault.LineTooLong) }
     ensures large { length line.now ≤ line_limit → result ≡ Cause.TooLarge }

@@ -14,7 +14,7 @@ use std::alloc::Global;
 use std::collections::BTreeMap;
 
 /// Where a fault with this cause in this input lies: want of memory has no place.
-fn fault_in(input: u64, cause: Cause) -> Fault
+pub(crate) fn fault_in(input: u64, cause: Cause) -> Fault
     ensures cause { result.cause ≡ cause }
     ensures memory { cause ≡ Cause.NoMemory → result ≡ no_memory }
     ensures place { cause ≢ Cause.NoMemory → result.place ≡ Place.Input input }

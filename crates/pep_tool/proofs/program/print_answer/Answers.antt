@@ -1,6 +1,5 @@
 use Rattle.std.proofs.lemmas.Result.{err_from_is_err_and}
-use Rattle.std.proofs.Common.{map, string_bytes, subst}
-use Rattle.pep_tool.specs.Run.{Answers}
+use Rattle.std.proofs.Common.{map, string_bytes}
 use Rattle.pep_tool.proofs.Refusals.{Refuses-from_write}
 use Rattle.pep_tool.proofs.program.print_answer.Goals as goal
 

@@ -1,4 +1,3 @@
-use Rattle.std.proofs.Common.{sym, subst}
 use Rattle.std.proofs.lemmas.Result.{err_from_is_err_and}
 use Rattle.pep_tool.proofs.Refusals.{refused_version}
 use Rattle.pep_tool.proofs.program.version_line.Goals as goal

@@ -1,0 +1,160 @@
+-- The loop over the lines of a list that is read as requirements.
+use Rattle.std.proofs.Common.{◌≡◌, ◌≢◌, ℕ, ◌+◌, ◌≤◌, ◌⊎◌, true, false, not, List, [], ◌∷◌}
+use Rattle.std.proofs.Common.{◌++◌, length, length-append, map, refl, sym, ap, subst, ◌∙◌, inl, inr}
+use Rattle.std.proofs.Common.{append_assoc, append-nil}
+use Rattle.std.specs.Prelude.{IsUtf8, filter}
+use Rattle.std.specs.List.{AllByRecursion, AllZip}
+use Rattle.std.proofs.lemmas.List.{map-append}
+use Rattle.std.proofs.lemmas.List.Elements.{All-from_recursion, filter-append}
+use Rattle.pep_require.specs.Reads.{Reads, line_limit}
+use Rattle.pep_require.specs.Requirement.{RequirementParts}
+use Rattle.pep_tool.specs.Lists.{IsRequirementList, content, input_limit, is_skipped, lines_of}
+use Rattle.pep_tool.specs.RequirementLines.{TakesLine}
+use Rattle.pep_require.specs.LineParts.{RefusesLine}
+use Rattle.pep_require.specs.declared.fault.RequireFault.{RequireFault}
+use Rattle.pep_tool.specs.declared.fault.LineFault.TheVariants as line_fault
+use Rattle.pep_tool.specs.declared.fault.Cause.{Cause}
+use Rattle.pep_tool.specs.declared.fault.Cause.TheVariants as cause
+use Rattle.pep_tool.specs.declared.fault.Fault.{Fault}
+use Rattle.pep_tool.specs.declared.fault.Place.TheVariants as place
+use Rattle.pep_tool.specs.Refusal.{IsRefusedListBy, IsRefusedRequirementList, by_encoding}
+use Rattle.pep_tool.specs.Refusal.{by_line, by_size, no_memory}
+use Rattle.pep_tool.specs.Sets.{RefusesLineBytesBy, RefusesListBy}
+use Rattle.pep_tool.proofs.LineTexts.{content_is_utf8, line_is_utf8}
+use Rattle.pep_tool.proofs.ListLemmas.{content_refuses, requirements_among}
+
+zip_append : (xs ys : List (List ℕ)) (rs ss : List RequirementParts) → AllZip Reads xs rs →
+    AllZip Reads ys ss → AllZip Reads (xs ++ ys) (rs ++ ss)
+zip_append [] ys [] ss z w = w
+zip_append [] ys (r ∷ rs) ss z w = absurd z
+zip_append (x ∷ xs) ys [] ss z w = absurd z
+zip_append (x ∷ xs) ys (r ∷ rs) ss z w = (z.0, zip_append xs ys rs ss z.1 w)
+
+all_append : (P : List ℕ → Type 0) (xs : List (List ℕ)) (x : List ℕ) → AllByRecursion P xs → P x →
+    AllByRecursion P (xs ++ x ∷ [])
+all_append P [] x h g = (g, tt)
+all_append P (y ∷ xs) x h g = (h.0, all_append P xs x h.1 g)
+
+-- the lines before these are read as these requirements
+pub record SoFar (read : List ℕ) (number : ℕ) (left : List (List ℕ)) (rs : List RequirementParts) :
+    Type 0 where
+  pub done : List (List ℕ)
+  pub split : lines_of read ≡ done ++ left
+  pub short : AllByRecursion (λ line. length line ≤ line_limit) done
+  pub texts : AllByRecursion IsUtf8 done
+  pub requirements : AllZip Reads (requirements_among done) rs
+  pub counted : number ≡ length done
+
+pub none_read : (read : List ℕ) → SoFar read 0 (lines_of read) []
+none_read read = record {
+  done = [];
+  split = refl;
+  short = tt;
+  texts = tt;
+  requirements = tt;
+  counted = refl;
+}
+
+among_last : (done : List (List ℕ)) (line : List ℕ) →
+    requirements_among (done ++ line ∷ [])
+    ≡ requirements_among done ++ requirements_among (line ∷ [])
+among_last done line =
+    ap (filter (λ x. not (is_skipped x))) (map-append content done (line ∷ []))
+    ∙ filter-append (λ x. not (is_skipped x)) (map content done) (map content (line ∷ []))
+
+zip_more : (done : List (List ℕ)) (line : List ℕ) (rs new : List RequirementParts) →
+    AllZip Reads (requirements_among done) rs → TakesLine line rs new →
+    AllZip Reads (requirements_among (done ++ line ∷ [])) new
+zip_more done line rs new z t = by t.adds
+  where
+    whole : (ss : List RequirementParts) → AllZip Reads (requirements_among (line ∷ [])) ss →
+        new ≡ rs ++ ss → AllZip Reads (requirements_among (done ++ line ∷ [])) new
+    whole ss w e =
+        subst (λ l. AllZip Reads l new) (sym (among_last done line))
+        (subst (AllZip Reads (requirements_among done ++ requirements_among (line ∷ []))) (sym e)
+        (zip_append (requirements_among done) (requirements_among (line ∷ [])) rs ss z w))
+
+    by : ((is_skipped (content line) ≡ true) × (new ≡ rs))
+        ⊎ ((is_skipped (content line) ≡ false)
+        × ((r : RequirementParts) × Reads (content line) r × (new ≡ rs ++ r ∷ []))) →
+        AllZip Reads (requirements_among (done ++ line ∷ [])) new
+    by (inl (skipped, e)) = whole [] (rw skipped tt) (e ∙ sym (append-nil rs))
+    by (inr (kept, (r, reads, e))) = whole (r ∷ []) (rw kept (reads, tt)) e
+
+pub one_line_more : (read line : List ℕ) (number : ℕ) (left : List (List ℕ))
+    (rs new : List RequirementParts) → SoFar read number (line ∷ left) rs → TakesLine line rs new →
+    SoFar read (number + 1) left new
+one_line_more read line number left rs new s t = record {
+  done = s.done ++ line ∷ [];
+  split = s.split ∙ sym (append_assoc s.done (line ∷ []) left);
+  short = all_append (λ x. length x ≤ line_limit) s.done line s.short t.short;
+  texts = all_append IsUtf8 s.done line s.texts t.text;
+  requirements = zip_more s.done line rs new s.requirements t;
+  counted = ap (λ n. n + 1) s.counted ∙ sym (length-append s.done (line ∷ []));
+}
+
+-- all lines are read
+pub all_read : (read : List ℕ) (number : ℕ) (rs : List RequirementParts) →
+    length read ≤ input_limit → SoFar read number [] rs → IsRequirementList read rs
+all_read read number rs size s =
+    let all : s.done ≡ lines_of read = sym (append-nil s.done) ∙ sym s.split in
+    record {
+      size = size;
+      short = All-from_recursion (λ x. length x ≤ line_limit) (lines_of read)
+          (subst (AllByRecursion (λ x. length x ≤ line_limit)) all s.short);
+      texts = All-from_recursion IsUtf8 (lines_of read) (subst (AllByRecursion IsUtf8) all s.texts);
+      requirements = subst (λ l. AllZip Reads (requirements_among l) rs) all s.requirements;
+    }
+
+-- ---- one line, as the code reads it
+
+pub skipped_line : (line content_now : List ℕ) (rs : List RequirementParts) →
+    length line ≤ line_limit → content_now ≡ content line → IsUtf8 content_now →
+    is_skipped content_now ≡ true → TakesLine line rs rs
+skipped_line line now rs short e text skipped = record {
+  short = short;
+  text = line_is_utf8 line (subst IsUtf8 e text);
+  adds = inl (subst (λ t. is_skipped t ≡ true) e skipped, refl);
+}
+
+pub read_line : (line content_now text : List ℕ) (r : RequirementParts)
+    (rs new : List RequirementParts) → length line ≤ line_limit → content_now ≡ content line →
+    text ≡ content_now → IsUtf8 content_now → is_skipped content_now ≡ false → Reads text r →
+    new ≡ rs ++ r ∷ [] → TakesLine line rs new
+read_line line now text r rs new short e same utf8 kept reads added = record {
+  short = short;
+  text = line_is_utf8 line (subst IsUtf8 e utf8);
+  adds = inr (
+    subst (λ t. is_skipped t ≡ false) e kept,
+    (r, subst (λ t. Reads t r) (same ∙ e) reads, added),
+  );
+}
+
+pub refused_line : (line content_now text : List ℕ) (f : RequireFault) → length line ≤ line_limit →
+    content_now ≡ content line → text ≡ content_now → IsUtf8 content_now →
+    is_skipped content_now ≡ false → RefusesLine text f →
+    RefusesLineBytesBy RefusesLine line (line_fault.Requirement f)
+refused_line line now text f short e same utf8 kept refuses =
+    content_refuses line f short (line_is_utf8 line (subst IsUtf8 e utf8))
+    (subst (λ t. is_skipped t ≡ false) e kept) (subst (λ t. RefusesLine t f) (same ∙ e) refuses)
+
+pub no_text : (line content_now : List ℕ) → length line ≤ line_limit → content_now ≡ content line →
+    ¬ IsUtf8 content_now → RefusesLineBytesBy RefusesLine line line_fault.NotUtf8
+no_text line now short e none =
+    inr (by_encoding short
+    (λ utf8. none (subst IsUtf8 (sym e) (content_is_utf8 line utf8))) refl)
+
+-- ---- the fault of a list
+
+known_cause : (bytes : List ℕ) (c : Cause) → IsRefusedListBy RefusesLine bytes c →
+    c ≢ cause.NoMemory
+known_cause bytes c (by_size large e) memory = cc (e, memory)
+known_cause bytes c (by_line number line f at refused e) memory = cc (e, memory)
+
+pub list_fault : (bytes : List ℕ) (c : Cause) (f : Fault) → RefusesListBy RefusesLine bytes c →
+    f.cause ≡ c → (c ≡ cause.NoMemory → f ≡ no_memory) →
+    (c ≢ cause.NoMemory → f.place ≡ place.Input 1) →
+    (f ≡ no_memory) ⊎ ((f.place ≡ place.Input 1) × IsRefusedRequirementList bytes f.cause)
+list_fault bytes c f (inl h) same none lies = inl (none h)
+list_fault bytes c f (inr h) same none lies =
+    inr (lies (known_cause bytes c h), subst (IsRefusedListBy RefusesLine bytes) (sym same) h)

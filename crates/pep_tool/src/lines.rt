@@ -1,0 +1,121 @@
+//! A list as requirements, one on each line.
+
+ghost use Rattle.std.specs.Prelude.{
+  ◌≡◌,
+  ◌⊎◌,
+  ◌≤◌,
+  List,
+  ℕ,
+  IfErr,
+  IfOk,
+  IsTrue,
+  OnOk,
+  length,
+  map,
+};
+ghost use Rattle.pep_require.specs.LineParts.{RefusesLine};
+ghost use Rattle.pep_require.specs.View.{requirement_parts};
+ghost use Rattle.pep_tool.specs.Lists.{IsRequirementList, input_limit};
+ghost use Rattle.pep_tool.specs.Refusal.{IsRefusedRequirementList};
+ghost use Rattle.pep_tool.specs.RequirementLines.{TakesLine};
+ghost use Rattle.pep_tool.specs.Run.{no_memory};
+ghost use Rattle.pep_tool.specs.Sets.{IsReadOf, RefusesLineBytesBy, RefusesListBy};
+
+use crate::fault::{Cause, Fault, LineFault, Place};
+use crate::line::LINE_LIMIT;
+use crate::list::{INPUT_LIMIT, content, cut_off, is_skipped, line_cause};
+use crate::merge::fault_in;
+use pep_require::{RequireFault, Requirement};
+use pep_version::first_part;
+use std::alloc::Global;
+
+/// The requirements of a list, which is at most 16,777,216 bytes: one on each line (PEP 508,
+/// "Grammar"), of at most 65,536 bytes. A carriage return at a line's end and white space at both
+/// ends are dropped; empty lines and lines that begin with `#` are skipped.
+///
+/// The fault is that of input 1, in the order of the bytes: 57 with 38 at the 65,537th byte of a
+/// line, and at its end 57 with 51 where the line isn't UTF-8, else with the fault of its
+/// requirement (see [`Requirement::read`]); 56 at the 16,777,217th byte, which is the fault where
+/// both fall on one byte. Want of memory, 60, has no place.
+pub fn list_of(alloc: Global, bytes: &[u8]) -> Result<Vec<Requirement>, Fault>
+    ensures ok { IfOk result (λ requirements.
+        IsRequirementList bytes.now (map requirement_parts requirements.items)) }
+    ensures refused { IfErr result (λ fault. (fault ≡ no_memory)
+        ⊎ ((fault.place ≡ Place.Input 1)
+        × IsRefusedRequirementList bytes.now fault.cause)) }
+{
+    match requirements_of(alloc, bytes) {
+        Ok(requirements) => Ok(requirements),
+        Err(cause) => Err(fault_in(1, cause)),
+    }
+}
+
+// The same, with the cause alone.
+fn requirements_of(alloc: Global, bytes: &[u8]) -> Result<Vec<Requirement>, Cause>
+    ensures ok { IfOk result (λ requirements.
+        IsRequirementList bytes.now (map requirement_parts requirements.items)) }
+    ensures refused { IfErr result (RefusesListBy RefusesLine bytes.now) }
+{
+    if bytes.len() <= INPUT_LIMIT {
+        requirements_read(alloc, bytes, true)
+    } else {
+        let (read, _) = bytes.split_at(INPUT_LIMIT);
+        requirements_read(alloc, read, false)
+    }
+}
+
+// The requirements of lines. Where the list does not fit its largest size these are its first
+// lines, and the last of them is cut.
+fn requirements_read(alloc: Global, read: &[u8], fits: bool) -> Result<Vec<Requirement>, Cause>
+    ensures fits { OnOk result (IsTrue fits) }
+    ensures ok { IfOk result (λ requirements. length read.now ≤ input_limit →
+        IsRequirementList read.now (map requirement_parts requirements.items)) }
+    ensures refused { IfErr result (λ cause. (bytes : List ℕ) → IsReadOf fits read.now bytes
+        → RefusesListBy RefusesLine bytes cause) }
+{
+    let mut requirements = Vec::new(alloc);
+    let mut rest = Some(read);
+    let mut number: u64 = 0;
+    while let Some(text) = rest {
+        let (line, after) = first_part(text, b'\n');
+        number += 1;
+        if !fits && after.is_none() {
+            return Err(cut_off(number, line));
+        }
+        if let Err(fault) = take_line(alloc, &mut requirements, line) {
+            return Err(line_cause(number, fault));
+        }
+        rest = after;
+    }
+    Ok(requirements)
+}
+
+// Takes the requirement on a line behind these, if the line isn't skipped.
+fn take_line(
+    alloc: Global,
+    requirements: &mut Vec<Requirement>,
+    line: &[u8],
+) -> Result<(), LineFault>
+    ensures ok { OnOk result (TakesLine line.now (map requirement_parts requirements.old.items)
+        (map requirement_parts requirements.new.items)) }
+    ensures refused { IfErr result (RefusesLineBytesBy RefusesLine line.now) }
+{
+    if line.len() > LINE_LIMIT {
+        return Err(LineFault::Requirement(RequireFault::LineTooLong));
+    }
+    let content = content(line);
+    let Ok(text) = std::str::from_utf8(content) else {
+        return Err(LineFault::NotUtf8);
+    };
+    if is_skipped(content) {
+        return Ok(());
+    }
+    let requirement = match Requirement::read(alloc, text) {
+        Ok(requirement) => requirement,
+        Err(fault) => return Err(LineFault::Requirement(fault)),
+    };
+    match requirements.push(requirement) {
+        Ok(()) => Ok(()),
+        Err(_) => Err(LineFault::Requirement(RequireFault::NoMemory)),
+    }
+}
