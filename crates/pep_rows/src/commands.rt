@@ -44,7 +44,7 @@ fn ran(rt: &HostRuntime, words: &[&str]) -> Result<Outcome, Fail> {
 
 #[test]
 fn versions_that_are_shown(rt: HostRuntime) -> Result<(), Fail> {
-    for (text, line) in [
+    for &(text, line) in &[
         ("1.0a-1", "1.0a1\n"),
         ("1.0a--1", "1.0a0.post1\n"),
         ("V1.0-1", "1.0.post1\n"),
@@ -68,7 +68,7 @@ fn versions_that_are_shown(rt: HostRuntime) -> Result<(), Fail> {
 
 #[test]
 fn versions_that_are_refused(rt: HostRuntime) -> Result<(), Fail> {
-    for (text, line) in [
+    for &(text, line) in &[
         ("1.0-", "refused code 62 1\n"),
         ("", "refused code 62 1\n"),
         ("é", "refused code 62 1\n"),
@@ -91,7 +91,7 @@ fn versions_that_are_refused(rt: HostRuntime) -> Result<(), Fail> {
 #[test]
 fn words_that_are_refused(rt: HostRuntime) -> Result<(), Fail> {
     // The texts are those of clap for Rust.
-    for (words, told) in [
+    for &(words, told) in &[
         (
             ["merge"].as_slice(),
             "refused code 61\nerror: unrecognized subcommand 'merge'\n\nUsage: tubrambutan <COMMAND>\n\nFor more information, try '--help'.\n",
@@ -109,7 +109,7 @@ fn words_that_are_refused(rt: HostRuntime) -> Result<(), Fail> {
         assert_eq!(rt; it.told.as_str(), told);
         assert_eq!(rt; (it.status, it.printed.as_str(), it.reads), (2, "", 0));
     }
-    for word in ["--help", "help", "--", "-x", "", "--version"] {
+    for &word in &["--help", "help", "--", "-x", "", "--version"] {
         let it = ran(&rt, &[word])?;
         assert!(rt;
             it.told.as_str().starts_with("refused code 61\n"),

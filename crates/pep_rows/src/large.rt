@@ -4,9 +4,6 @@
 ghost use Rattle.std.specs.Prelude.{◌<◌};
 
 use crate::lists::told;
-use pep_clause::{Clause, VersionSet};
-use pep_marker::Name;
-use pep_version::{Key, Version};
 use std::alloc::{AllocError, Global};
 use std::test::Fail;
 
@@ -81,70 +78,5 @@ fn clauses_of_one_line(rt: HostRuntime) -> Result<(), Fail> {
     let table = told(rt.alloc(), &[list.as_bytes()])?;
     let want = gaps(rt.alloc(), 1000)?;
     assert_eq!(rt; table.as_str(), want.as_str());
-    Ok(())
-}
-
-#[test]
-fn long_versions(rt: HostRuntime) -> Result<(), Fail> {
-    let alloc = rt.alloc();
-    let mut text = String::from_str(alloc, "1")?;
-    for _ in 0..20_000 {
-        text.push_str(".0")?;
-    }
-    text.push_str(".7+0")?;
-    for i in 1..1000 {
-        let segment = format!(in alloc; ".{i}")?;
-        text.push_str(segment.as_str())?;
-    }
-    let version = Version::read(alloc, text.as_str())?;
-    let (again, copied) = (version.text(alloc)?, version.copied(alloc)?.text(alloc)?);
-    let placed = Key::of(alloc, &version)?.version(alloc)?.text(alloc)?;
-    assert!(rt; again == text && copied == text && placed == text);
-    Ok(())
-}
-
-#[test]
-fn long_names(rt: HostRuntime) -> Result<(), Fail> {
-    let mut text = String::new(rt.alloc());
-    for _ in 0..20_000 {
-        text.push_str("a-b")?;
-    }
-    let name = Name::read(rt.alloc(), text.as_str())?;
-    let copied = name.copied(rt.alloc())?;
-    assert!(rt; name.text() == text.as_str() && name == copied);
-    Ok(())
-}
-
-// The set of all versions but every second number from the first one on, below 201.
-fn without_each_second(alloc: Global, first: u32) -> Result<VersionSet, Fail> {
-    let mut set = VersionSet::all(alloc)?;
-    for number in 1..201 {
-        if number % 2 == first % 2 {
-            let clause = format!(in alloc; "!={number}")?;
-            let other = VersionSet::of(alloc, &Clause::read(alloc, clause.as_str())?)?;
-            set.join(alloc, &other)?;
-        }
-    }
-    Ok(set)
-}
-
-#[test]
-fn sets_of_many_ranges(rt: HostRuntime) -> Result<(), Fail> {
-    let alloc = rt.alloc();
-    let (odd, even) = (
-        without_each_second(alloc, 1)?,
-        without_each_second(alloc, 0)?,
-    );
-    assert_eq!(rt; (odd.ranges().len(), even.ranges().len()), (101, 101));
-    let (joined, other) = (odd.joined(alloc, &even)?, even.joined(alloc, &odd)?);
-    let mut text = String::from_str(alloc, "a open\n")?;
-    for range in joined.ranges() {
-        let (low, high) = (range.low().text(alloc)?, range.high().text(alloc)?);
-        let line = format!(in alloc; "  range {low} to {high}\n")?;
-        text.push_str(line.as_str())?;
-    }
-    let want = gaps(alloc, 200)?;
-    assert_eq!(rt; text.as_str(), want.as_str());
-    assert!(rt; joined == other);
     Ok(())
 }

@@ -3,8 +3,6 @@
 #![tactic(auto)]
 
 #[cfg(test)]
-mod clauses;
-#[cfg(test)]
 mod commands;
 #[cfg(test)]
 mod example;
@@ -21,14 +19,8 @@ mod lines;
 #[cfg(test)]
 mod lists;
 #[cfg(test)]
-mod names;
-#[cfg(test)]
 mod operators;
 #[cfg(test)]
-mod sets;
+mod requirements;
 #[cfg(test)]
 mod streams;
-#[cfg(test)]
-mod vectors;
-#[cfg(test)]
-mod versions;

@@ -22,62 +22,61 @@ fn told(alloc: Global, pieces: &[(&[u8], u32)]) -> Result<String, Fault> {
     }
 }
 
+// A list: pieces, and how often each stands.
+type Pieces<'a> = &'a [(&'a [u8], u32)];
+
+const TOO_LONG: &str = "refused input 1 line 1 code 57 38\n";
+
 #[test]
 fn lines(rt: HostRuntime) -> Result<(), Fail> {
-    let too_long = "refused input 1 line 1 code 57 38\n";
-    let alloc = rt.alloc();
-    assert_eq!(rt; told(alloc, &[(b"#", 65536)])?.as_str(), "");
-    assert_eq!(rt; told(alloc, &[(b"#", 65537)])?.as_str(), too_long);
-    assert_eq!(rt; told(alloc, &[(b" ", 65537)])?.as_str(), too_long);
-    assert_eq!(rt;
-        told(alloc, &[(b"\n", 3), (b"#", 65537), (b"\n\xff", 1)])?.as_str(),
-        "refused input 1 line 4 code 57 38\n"
-    );
-    // The line's fault comes with its 65,537th byte, before the bytes behind it are looked at.
-    assert_eq!(rt;
-        told(alloc, &[(b"#", 65536), (b"\xff", 1)])?.as_str(),
-        too_long
-    );
-    assert_eq!(rt;
-        told(alloc, &[(b"\xff", 1), (b"#", 65535), (b"\n", 1)])?.as_str(),
-        "refused input 1 line 1 code 57 51\n"
-    );
-    let zeros = "a open\n  range before 1 to end\n";
-    assert_eq!(rt;
-        told(alloc, &[(b"a>=1", 1), (b".0", 32766)])?.as_str(),
-        zeros
-    );
-    assert_eq!(rt;
-        told(alloc, &[(b"a>=1", 1), (b".0", 32767)])?.as_str(),
-        too_long
-    );
+    let rows: [(Pieces, &str); 8] = [
+        (&[(b"#", 65536)], ""),
+        (&[(b"#", 65537)], TOO_LONG),
+        (&[(b" ", 65537)], TOO_LONG),
+        (
+            &[(b"\n", 3), (b"#", 65537), (b"\n\xff", 1)],
+            "refused input 1 line 4 code 57 38\n",
+        ),
+        // The line's fault comes with its 65,537th byte, before the bytes behind it are looked at.
+        (&[(b"#", 65536), (b"\xff", 1)], TOO_LONG),
+        (
+            &[(b"\xff", 1), (b"#", 65535), (b"\n", 1)],
+            "refused input 1 line 1 code 57 51\n",
+        ),
+        (
+            &[(b"a>=1", 1), (b".0", 32766)],
+            "a open\n  range before 1 to end\n",
+        ),
+        (&[(b"a>=1", 1), (b".0", 32767)], TOO_LONG),
+    ];
+    for &(pieces, want) in &rows {
+        assert_eq!(rt; told(rt.alloc(), pieces)?.as_str(), want);
+    }
     Ok(())
 }
 
+const TOO_LARGE: &str = "refused input 1 code 56\n";
+
 #[test]
 fn inputs(rt: HostRuntime) -> Result<(), Fail> {
-    let too_large = "refused input 1 code 56\n";
-    let alloc = rt.alloc();
-    assert_eq!(rt; told(alloc, &[(b"\n", 16777216)])?.as_str(), "");
-    assert_eq!(rt; told(alloc, &[(b"\n", 16777217)])?.as_str(), too_large);
-    // Where a line's fault and the limit fall on one byte, the limit is told.
-    assert_eq!(rt;
-        told(alloc, &[(b"\n", 16711680), (b"#", 65537)])?.as_str(),
-        too_large
-    );
-    assert_eq!(rt;
-        told(alloc, &[(b"\n", 16777213), (b"a>=\n", 1)])?.as_str(),
-        too_large
-    );
-    let later = "refused input 1 line 16777213 code 57 33 12\n";
-    assert_eq!(rt;
-        told(alloc, &[(b"\n", 16777212), (b"a>=\n", 1)])?.as_str(),
-        later
-    );
-    // A fault of an earlier byte is told before the limit.
-    assert_eq!(rt;
-        told(alloc, &[(b"-\n", 1), (b"\n", 16777217)])?.as_str(),
-        "refused input 1 line 1 code 57 37\n"
-    );
+    let rows: [(Pieces, &str); 6] = [
+        (&[(b"\n", 16777216)], ""),
+        (&[(b"\n", 16777217)], TOO_LARGE),
+        // Where a line's fault and the limit fall on one byte, the limit is told.
+        (&[(b"\n", 16711680), (b"#", 65537)], TOO_LARGE),
+        (&[(b"\n", 16777213), (b"a>=\n", 1)], TOO_LARGE),
+        (
+            &[(b"\n", 16777212), (b"a>=\n", 1)],
+            "refused input 1 line 16777213 code 57 33 12\n",
+        ),
+        // A fault of an earlier byte is told before the limit.
+        (
+            &[(b"-\n", 1), (b"\n", 16777217)],
+            "refused input 1 line 1 code 57 37\n",
+        ),
+    ];
+    for &(pieces, want) in &rows {
+        assert_eq!(rt; told(rt.alloc(), pieces)?.as_str(), want);
+    }
     Ok(())
 }

@@ -56,7 +56,7 @@ fn tables_of_one_list(rt: HostRuntime) -> Result<(), Fail> {
             "a open\n  range before 18446744073709551615 to end\n",
         ),
     ];
-    for (list, want) in rows {
+    for &(list, want) in &rows {
         assert_eq!(rt; told(rt.alloc(), &[list])?.as_str(), want);
     }
     Ok(())
@@ -64,20 +64,18 @@ fn tables_of_one_list(rt: HostRuntime) -> Result<(), Fail> {
 
 #[test]
 fn tables_of_several_lists(rt: HostRuntime) -> Result<(), Fail> {
-    let flask: &[u8] = b"flask>=2.0";
-    assert_eq!(rt; told(rt.alloc(), &[])?.as_str(), "");
-    assert_eq!(rt;
-        told(rt.alloc(), &[b"Flask<3", flask, flask])?.as_str(),
-        FLASK
-    );
-    assert_eq!(rt;
-        told(rt.alloc(), &[flask, b"", b"Flask<3"])?.as_str(),
-        FLASK
-    );
-    assert_eq!(rt;
-        told(rt.alloc(), &[flask, b"\n-", b"a"])?.as_str(),
-        "refused input 2 line 2 code 57 37\n"
-    );
+    let rows: [(&[&[u8]], &str); 4] = [
+        (&[], ""),
+        (&[b"Flask<3", b"flask>=2.0", b"flask>=2.0"], FLASK),
+        (&[b"flask>=2.0", b"", b"Flask<3"], FLASK),
+        (
+            &[b"flask>=2.0", b"\n-", b"a"],
+            "refused input 2 line 2 code 57 37\n",
+        ),
+    ];
+    for &(lists, want) in &rows {
+        assert_eq!(rt; told(rt.alloc(), lists)?.as_str(), want);
+    }
     Ok(())
 }
 
@@ -129,7 +127,7 @@ const REFUSED: [(&[u8], &str); 42] = [
 
 #[test]
 fn refusals_of_the_first_line(rt: HostRuntime) -> Result<(), Fail> {
-    for (list, codes) in REFUSED {
+    for &(list, codes) in &REFUSED {
         let want = format!(in rt.alloc(); "refused input 1 line 1 code 57 {codes}\n")?;
         assert_eq!(rt; told(rt.alloc(), &[list])?, want, "of {list:?}");
     }
@@ -150,7 +148,7 @@ fn refusals_of_later_lines(rt: HostRuntime) -> Result<(), Fail> {
         ),
         (b"a>=1\n\na\n\xff", "refused input 1 line 3 code 57 33 11\n"),
     ];
-    for (list, want) in rows {
+    for &(list, want) in &rows {
         assert_eq!(rt; told(rt.alloc(), &[list])?.as_str(), want);
     }
     Ok(())

@@ -111,7 +111,7 @@ const SEVERAL_CLAUSES: [(&str, &str); 11] = [
 
 #[test]
 fn tables_of_one_clause(rt: HostRuntime) -> Result<(), Fail> {
-    for (list, want) in ONE_CLAUSE {
+    for &(list, want) in &ONE_CLAUSE {
         let text = told(rt.alloc(), &[list.as_bytes()])?;
         assert_eq!(rt; text.as_str(), want, "of {list}");
     }
@@ -120,7 +120,7 @@ fn tables_of_one_clause(rt: HostRuntime) -> Result<(), Fail> {
 
 #[test]
 fn tables_of_several_clauses(rt: HostRuntime) -> Result<(), Fail> {
-    for (list, want) in SEVERAL_CLAUSES {
+    for &(list, want) in &SEVERAL_CLAUSES {
         let text = told(rt.alloc(), &[list.as_bytes()])?;
         assert_eq!(rt; text.as_str(), want, "of {list}");
     }

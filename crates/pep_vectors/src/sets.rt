@@ -1,8 +1,7 @@
-//! Sets of clauses: their cuts, with carries at the largest number, their order, and which versions
-//! they hold.
+//! Sets of clauses: their cuts, with carries at the largest number, and which versions they hold.
 
-use crate::vectors::ORDERED;
-use pep_clause::{Clause, ClauseFault, Cut, VersionSet, laws};
+use crate::ordered::ORDERED;
+use pep_clause::{Clause, ClauseFault, VersionSet, laws};
 use pep_version::{Key, Phase, Version};
 use std::alloc::Global;
 use std::process::Abort;
@@ -63,10 +62,6 @@ const NEAR: [&str; 15] = [
     "1!0.dev1",
 ];
 
-fn version(alloc: Global, text: &str) -> Result<Version, ClauseFault> {
-    Ok(Version::read(alloc, text)?)
-}
-
 fn set(alloc: Global, text: &str) -> Result<VersionSet, ClauseFault> {
     VersionSet::of(alloc, &Clause::read(alloc, text)?)
 }
@@ -110,7 +105,7 @@ fn holds_what_a_clause_admits(rt: HostRuntime) -> Result<(), Fail> {
     let from = set(alloc, ">=1.0")?;
     let below = set(alloc, "<1.0")?;
     let beta = Some((Phase::Beta, 1));
-    for (release, pre, post, dev, in_from, in_below) in [
+    for &(release, pre, post, dev, in_from, in_below) in &[
         ([1, 0], None, None, None, true, false),
         ([1, 1], None, None, None, true, false),
         ([1, 0], None, Some(1), None, true, false),
@@ -152,7 +147,7 @@ fn writes_cuts(rt: HostRuntime) -> Result<(), Fail> {
 
 #[test]
 fn ranges_of_clauses(rt: HostRuntime) -> Result<(), Fail> {
-    for (clause, low, high) in [
+    for &(clause, low, high) in &[
         ("~=1.4.5a4", "before 1.4.5a4", "before 1.5.dev0"),
         (
             "==1.18446744073709551615.*",
@@ -179,36 +174,71 @@ fn ranges_of_clauses(rt: HostRuntime) -> Result<(), Fail> {
     Ok(())
 }
 
+// The set of all these clauses, each joined to those before it.
+fn joined(alloc: Global, clauses: &[&str]) -> Result<VersionSet, ClauseFault> {
+    let mut joined = VersionSet::all(alloc)?;
+    for clause in clauses {
+        let other = set(alloc, clause)?;
+        joined = joined.joined(alloc, &other)?;
+    }
+    Ok(joined)
+}
+
+// The same, in place.
+fn kept(alloc: Global, clauses: &[&str]) -> Result<VersionSet, ClauseFault> {
+    let mut kept = VersionSet::all(alloc)?;
+    for clause in clauses {
+        let other = set(alloc, clause)?;
+        kept.join(alloc, &other)?;
+    }
+    Ok(kept)
+}
+
+// Clauses, and the cuts of their set.
+type Row<'a> = (&'a [&'a str], &'a [&'a str]);
+
+const JOINED: [Row; 10] = [
+    (&["<0"], &[]),
+    (&[">=1"], &["before 1", "end"]),
+    (&[">=1", ">=0.5"], &["before 1", "end"]),
+    (&[">=1", "<2"], &["before 1", "before 2.dev0"]),
+    (&[">=1", ">=0.5", "<2"], &["before 1", "before 2.dev0"]),
+    (&[">=1", "<2", "<3"], &["before 1", "before 2.dev0"]),
+    (&[">=1", "<2", ">=1.5"], &["before 1.5", "before 2.dev0"]),
+    (&[">=1", "<2", "<3", ">=2"], &[]),
+    (&[">=1", "<2", ">=1.5", ">=2"], &[]),
+    (
+        &[">=1", "<2", ">=1.5", "===x"],
+        &["before 1.5", "before 2.dev0"],
+    ),
+];
+
 #[test]
 fn joins(rt: HostRuntime) -> Result<(), Fail> {
-    let alloc = rt.alloc();
-    let both = set(alloc, ">=1")?.joined(alloc, &set(alloc, "<2")?)?;
-    expect_cuts(&rt, alloc, &both, &["before 1", "before 2.dev0"])?;
-    let narrower = both.joined(alloc, &set(alloc, ">=1.5")?)?;
-    expect_cuts(&rt, alloc, &narrower, &["before 1.5", "before 2.dev0"])?;
-    let same = narrower
-        .copied(alloc)?
-        .joined(alloc, &VersionSet::all(alloc)?)?;
-    expect_cuts(&rt, alloc, &same, &["before 1.5", "before 2.dev0"])?;
-    assert!(rt; !same.is_empty());
-    let nothing = same.joined(alloc, &set(alloc, ">=2")?)?;
-    assert!(rt; nothing.is_empty());
-    assert!(rt; set(alloc, "<0")?.is_empty());
+    for &(clauses, cuts) in &JOINED {
+        let set = joined(rt.alloc(), clauses)?;
+        assert_eq!(rt; set.is_empty(), cuts.is_empty());
+        expect_cuts(&rt, rt.alloc(), &set, cuts)?;
+    }
     Ok(())
 }
 
 #[test]
 fn joins_in_place(rt: HostRuntime) -> Result<(), Fail> {
-    let alloc = rt.alloc();
-    let mut kept = set(alloc, ">=1")?;
-    kept.join(alloc, &set(alloc, ">=0.5")?)?;
-    expect_cuts(&rt, alloc, &kept, &["before 1", "end"])?;
-    kept.join(alloc, &set(alloc, "<2")?)?;
-    expect_cuts(&rt, alloc, &kept, &["before 1", "before 2.dev0"])?;
-    kept.join(alloc, &set(alloc, "<3")?)?;
-    expect_cuts(&rt, alloc, &kept, &["before 1", "before 2.dev0"])?;
-    kept.join(alloc, &set(alloc, ">=2")?)?;
-    assert!(rt; kept.is_empty());
+    for &(clauses, cuts) in &JOINED {
+        let set = kept(rt.alloc(), clauses)?;
+        assert_eq!(rt; set.is_empty(), cuts.is_empty());
+        expect_cuts(&rt, rt.alloc(), &set, cuts)?;
+    }
+    Ok(())
+}
+
+#[test]
+fn copies_sets(rt: HostRuntime) -> Result<(), Fail> {
+    for &(clauses, cuts) in &JOINED {
+        let copy = joined(rt.alloc(), clauses)?.copied(rt.alloc())?;
+        expect_cuts(&rt, rt.alloc(), &copy, cuts)?;
+    }
     Ok(())
 }
 
@@ -221,40 +251,6 @@ fn none_between(rt: HostRuntime) -> Result<(), Fail> {
     let both = above.joined(alloc, &below)?;
     assert!(rt; both.is_empty() && both == VersionSet::none(alloc) && above != below);
     assert!(rt; both.ranges().is_empty(), "no range is left");
-    Ok(())
-}
-
-// The cuts between which the first range of a clause lies.
-fn ends(alloc: Global, clause: &str) -> Result<(Cut, Cut), Fail> {
-    let set = set(alloc, clause)?;
-    let range = set.ranges().first().ok_or("no range")?;
-    Ok((range.low().copied(alloc)?, range.high().copied(alloc)?))
-}
-
-// Each cut is below the next, and equal to itself alone.
-#[test]
-fn orders_cuts(rt: HostRuntime) -> Result<(), Fail> {
-    let alloc = rt.alloc();
-    let mut cuts = Vec::new(alloc);
-    cuts.push(Cut::least(alloc)?)?;
-    for text in ["0", "1.dev0", "1a1", "1", "1+x"] {
-        cuts.push(Cut::before(alloc, &version(alloc, text)?)?)?;
-    }
-    cuts.push(ends(alloc, "==1+x")?.1)?;
-    cuts.push(Cut::before(alloc, &version(alloc, "1.post1")?)?)?;
-    cuts.push(ends(alloc, ">1")?.0)?;
-    cuts.push(Cut::before(alloc, &version(alloc, "1.0.1")?)?)?;
-    cuts.push(Cut::end())?;
-    for (i, one) in cuts.iter().enumerate() {
-        for (j, other) in cuts.iter().enumerate() {
-            assert_eq!(rt; one.cmp(other), i.cmp(&j), "at {i} and {j}");
-            assert_eq!(rt; one == other, i == j, "at {i} and {j}");
-        }
-        assert!(rt; one.copied(alloc)? == *one);
-    }
-    let same = Cut::before(alloc, &version(alloc, "1.0")?)?;
-    let fifth = cuts.get(4).ok_or("no cut")?;
-    assert!(rt; same == *fifth && same < Cut::end());
     Ok(())
 }
 
@@ -292,9 +288,9 @@ fn laws_of_sets() {
 
 fn clauses(alloc: Global) -> Result<Vec<Clause>, ClauseFault> {
     let mut clauses = Vec::new(alloc);
-    for operator in OPERATORS {
-        for operand in OPERANDS {
-            for star in ["", ".*"] {
+    for &operator in &OPERATORS {
+        for &operand in &OPERANDS {
+            for &star in &["", ".*"] {
                 let text = format!(in alloc; "{operator}{operand}{star}")?;
                 if let Ok(clause) = Clause::read(alloc, text.as_str()) {
                     clauses.push(clause)?;
@@ -310,8 +306,8 @@ fn candidates(alloc: Global) -> Result<Vec<Version>, ClauseFault> {
     for text in ORDERED.iter().chain(NEAR.iter()) {
         versions.push(Version::read(alloc, text)?)?;
     }
-    for operand in OPERANDS {
-        for ending in ENDINGS {
+    for &operand in &OPERANDS {
+        for &ending in &ENDINGS {
             let text = format!(in alloc; "{operand}{ending}")?;
             if let Ok(version) = Version::read(alloc, text.as_str()) {
                 versions.push(version)?;
@@ -363,37 +359,41 @@ fn sets_hold_what_clauses_admit(rt: HostRuntime) -> Result<(), Fail> {
     Ok(())
 }
 
-// The set of both clauses holds the versions that the sets of both hold.
+// The set of both holds the versions that both sets hold.
 fn expect_joined(
     rt: &impl Abort,
-    alloc: Global,
-    clauses: (&str, &str),
+    (first, second): (&VersionSet, &VersionSet),
+    both: &VersionSet,
     keys: &[Key],
-) -> Result<(), ClauseFault> {
-    let (mut first, second) = (set(alloc, clauses.0)?, set(alloc, clauses.1)?);
-    let both = first.joined(alloc, &second)?;
+) {
     for key in keys {
         let is_wanted = first.contains(key) && second.contains(key);
-        assert_eq!(rt; both.contains(key), is_wanted, "{clauses:?}");
+        assert_eq!(rt; both.contains(key), is_wanted);
     }
-    first.join(alloc, &second)?;
-    assert!(rt; first == both, "{clauses:?}");
-    Ok(())
+}
+
+fn keys(alloc: Global) -> Result<Vec<Key>, ClauseFault> {
+    let mut keys = Vec::new(alloc);
+    for version in &candidates(alloc)? {
+        keys.push(Key::of(alloc, version)?)?;
+    }
+    Ok(keys)
 }
 
 #[test]
 fn joined_sets_hold_what_both_hold(rt: HostRuntime) -> Result<(), Fail> {
     let alloc = rt.alloc();
-    let mut keys = Vec::new(alloc);
-    for version in &candidates(alloc)? {
-        keys.push(Key::of(alloc, version)?)?;
-    }
-    for clauses in [
+    let keys = keys(alloc)?;
+    for &(first, second) in &[
         ("!=1.0", "!=1.0a1.post0"),
         (">=1.0a1.dev1", "!=1.0.*"),
         ("!=1.0+x", "~=1.0rc1"),
     ] {
-        expect_joined(&rt, alloc, clauses, keys.as_slice())?;
+        let (mut first, second) = (set(alloc, first)?, set(alloc, second)?);
+        let both = first.joined(alloc, &second)?;
+        expect_joined(&rt, (&first, &second), &both, keys.as_slice());
+        first.join(alloc, &second)?;
+        assert!(rt; first == both);
     }
     Ok(())
 }

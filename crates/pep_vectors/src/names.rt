@@ -4,8 +4,10 @@ use pep_marker::{
     MarkerFault, Name, blank_end, blank_run, is_blank_byte, is_name_byte, name_run,
     without_leading_blanks, without_outer_blanks,
 };
+use std::alloc::Global;
 use std::cmp::Ordering;
 use std::hash::{DefaultHasher, Hash, Hasher};
+use std::process::Abort;
 use std::test::Fail;
 
 // Names in their order, by the bytes of their normal texts. Some share their first eight bytes.
@@ -42,10 +44,10 @@ fn names(rt: HostRuntime) -> Result<(), Fail> {
         ("a_b", "a-b"),
         ("Zope.Interface", "zope-interface"),
     ];
-    for (text, want) in rows {
+    for &(text, want) in &rows {
         assert_eq!(rt; Name::read(rt.alloc(), text)?.text(), want);
     }
-    for text in [
+    for &text in &[
         "", "-", "a-", "_a", "a b", " a", "a ", "a\n", "a+b", "\u{e9}", "a\u{e9}b",
     ] {
         assert!(rt;
@@ -56,24 +58,30 @@ fn names(rt: HostRuntime) -> Result<(), Fail> {
     Ok(())
 }
 
+fn names_in_order(alloc: Global) -> Result<Vec<Name>, Fail> {
+    let mut names = Vec::new(alloc);
+    for text in &IN_ORDER {
+        names.push(Name::read(alloc, text)?)?;
+    }
+    Ok(names)
+}
+
+fn expect_order(rt: &impl Abort, first: &Name, second: &Name, wanted: Ordering) {
+    assert_eq!(rt; first.cmp(second), wanted);
+    assert_eq!(rt; first.partial_cmp(second), Some(wanted));
+    assert_eq!(rt; first == second, wanted == Ordering::Equal);
+    assert_eq!(rt;
+        hash_of(first) == hash_of(second),
+        wanted == Ordering::Equal
+    );
+}
+
 #[test]
 fn order_of_names(rt: HostRuntime) -> Result<(), Fail> {
-    for (i, a) in IN_ORDER.iter().enumerate() {
-        let first = Name::read(rt.alloc(), a)?;
-        for (j, b) in IN_ORDER.iter().enumerate() {
-            let second = Name::read(rt.alloc(), b)?;
-            assert_eq!(rt; first.cmp(&second), i.cmp(&j), "at {a} and {b}");
-            assert_eq!(rt;
-                first.partial_cmp(&second),
-                Some(i.cmp(&j)),
-                "at {a} and {b}"
-            );
-            assert_eq!(rt; first == second, i == j, "at {a} and {b}");
-            assert_eq!(rt;
-                hash_of(&first) == hash_of(&second),
-                i == j,
-                "at {a} and {b}"
-            );
+    let names = names_in_order(rt.alloc())?;
+    for (i, first) in names.iter().enumerate() {
+        for (j, second) in names.iter().enumerate() {
+            expect_order(&rt, first, second, i.cmp(&j));
         }
     }
     Ok(())
@@ -81,18 +89,24 @@ fn order_of_names(rt: HostRuntime) -> Result<(), Fail> {
 
 #[test]
 fn equal_names(rt: HostRuntime) -> Result<(), Fail> {
-    for (a, b) in [
+    for &(a, b) in &[
         ("Flask", "flask"),
         ("a_.-b", "A-B"),
         ("Abcdefgh.I", "abcdefgh-i"),
     ] {
         let (first, second) = (Name::read(rt.alloc(), a)?, Name::read(rt.alloc(), b)?);
-        assert!(rt; first == second, "at {a} and {b}");
-        assert_eq!(rt; first.cmp(&second), Ordering::Equal, "at {a} and {b}");
-        assert_eq!(rt; hash_of(&first), hash_of(&second), "at {a} and {b}");
-        let copy = first.copied(rt.alloc())?;
-        assert!(rt; copy == first, "at {a}");
-        assert_eq!(rt; copy.text(), first.text());
+        expect_order(&rt, &first, &second, Ordering::Equal);
+    }
+    Ok(())
+}
+
+#[test]
+fn copies_names(rt: HostRuntime) -> Result<(), Fail> {
+    for &text in &["Flask", "a_.-b", "Abcdefgh.I"] {
+        let name = Name::read(rt.alloc(), text)?;
+        let copy = name.copied(rt.alloc())?;
+        assert!(rt; copy == name);
+        assert_eq!(rt; copy.text(), name.text());
     }
     Ok(())
 }
@@ -117,19 +131,24 @@ fn runs(rt: HostRuntime) -> Result<(), Fail> {
         (b"\r a", 0, 0, 0),
         (b"a\n", 0, 0, 1),
     ];
-    for (text, front, end, name) in rows {
+    for &(text, front, end, name) in &rows {
         assert_eq!(rt; blank_run(text), front);
         assert_eq!(rt; blank_end(text), end);
         assert_eq!(rt; name_run(text), name);
         assert_eq!(rt; without_leading_blanks(text), &text[front..]);
     }
+    Ok(())
+}
+
+#[test]
+fn trims_names(rt: HostRuntime) -> Result<(), Fail> {
     let trims: [(&[u8], &[u8]); 4] = [
         (b" a b\t ", b"a b"),
         (b"\t ", b""),
         (b"", b""),
         (b"\ra ", b"\ra"),
     ];
-    for (text, want) in trims {
+    for &(text, want) in &trims {
         assert_eq!(rt; without_outer_blanks(text), want);
     }
     Ok(())

@@ -1,4 +1,4 @@
-//! Vectors that several tables share.
+//! Versions in their order, for several tables.
 
 /// Versions, each below the next (PEP 440, "Summary of permitted suffixes and relative ordering").
 pub(crate) const ORDERED: [&str; 26] = [

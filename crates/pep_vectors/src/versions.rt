@@ -1,6 +1,6 @@
 //! Versions by PEP 440: what texts are read as, their normal texts, and their order.
 
-use crate::vectors::ORDERED;
+use crate::ordered::ORDERED;
 use pep_version::{Key, Label, Phase, Version, VersionFault, first_part, is_separator, laws};
 use std::alloc::Global;
 use std::hash::{DefaultHasher, Hash, Hasher};
@@ -22,7 +22,7 @@ fn hash_of(key: &Key) -> u64 {
 
 #[test]
 fn reads_releases(rt: HostRuntime) -> Result<(), Fail> {
-    for (text, want) in [
+    for &(text, want) in &[
         ("1.2", "1.2"),
         ("01.002", "1.2"),
         ("0", "0"),
@@ -38,7 +38,7 @@ fn reads_releases(rt: HostRuntime) -> Result<(), Fail> {
 
 #[test]
 fn reads_spellings(rt: HostRuntime) -> Result<(), Fail> {
-    for (text, want) in [
+    for &(text, want) in &[
         ("1.0a", "1.0a0"),
         ("1.0a-", "1.0a0"),
         ("1.0a-1", "1.0a1"),
@@ -92,7 +92,7 @@ fn reads_a_long_text(rt: HostRuntime) -> Result<(), Fail> {
 
 #[test]
 fn refuses_texts(rt: HostRuntime) {
-    for text in [
+    for &text in &[
         "", " ", "1..0", "1.", ".1", "é", "1. 0", "1.\t0", "1.\n0", "1.\r0", "1.\u{b}0",
         "1.\u{c}0", "1\u{a0}", "1.0+é", "1.0α1", "１.0", "1.0+", "1.0-", "1.0a1a2", "!1.0", "vv1",
         "1.0+a..b",
@@ -103,7 +103,7 @@ fn refuses_texts(rt: HostRuntime) {
             "at {text}"
         );
     }
-    for text in [
+    for &text in &[
         "18446744073709551616",
         "1.18446744073709551616",
         "100000000000000000000.1",
@@ -122,12 +122,17 @@ fn refuses_texts(rt: HostRuntime) {
     }
 }
 
+fn keys_in_order(alloc: Global) -> Result<Vec<Key>, Fail> {
+    let mut keys = Vec::new(alloc);
+    for &text in &ORDERED {
+        keys.push(key(alloc, text)?)?;
+    }
+    Ok(keys)
+}
+
 #[test]
 fn orders_versions(rt: HostRuntime) -> Result<(), Fail> {
-    let mut keys = Vec::new(rt.alloc());
-    for text in ORDERED {
-        keys.push(key(rt.alloc(), text)?)?;
-    }
+    let keys = keys_in_order(rt.alloc())?;
     for (i, one) in keys.iter().enumerate() {
         for (j, other) in keys.iter().enumerate() {
             assert_eq!(rt; one.cmp(other), i.cmp(&j), "at {i} and {j}");
@@ -140,7 +145,7 @@ fn orders_versions(rt: HostRuntime) -> Result<(), Fail> {
 
 #[test]
 fn joins_equal_versions(rt: HostRuntime) -> Result<(), Fail> {
-    for (one, other) in [
+    for &(one, other) in &[
         ("0", "0.0.0"),
         ("1.0", "1"),
         ("1.0", "1.0.0"),
@@ -151,26 +156,25 @@ fn joins_equal_versions(rt: HostRuntime) -> Result<(), Fail> {
         ("1.0+1.a", "1+01-A"),
     ] {
         let (one, other) = (key(rt.alloc(), one)?, key(rt.alloc(), other)?);
-        assert!(rt; one == other);
-        assert_eq!(rt; hash_of(&one), hash_of(&other));
+        assert!(rt; one == other && hash_of(&one) == hash_of(&other));
     }
     Ok(())
 }
 
+// `1!2.0rc3.post4.dev5+a0.7`, made of its parts.
+fn version_of_parts(alloc: Global) -> Result<Version, Fail> {
+    let release = Vec::from_slice(alloc, &[2, 0])?;
+    let mut label = Vec::new(alloc);
+    label.push(Label::Word(String::from_str(alloc, "a0")?))?;
+    label.push(Label::Number(7))?;
+    let pre = Some((Phase::Rc, 3));
+    let version = Version::of_parts(1, release, pre, Some(4), Some(5), label);
+    Ok(version.ok_or("no version")?)
+}
+
 #[test]
 fn keeps_parts(rt: HostRuntime) -> Result<(), Fail> {
-    let release = Vec::from_slice(rt.alloc(), &[2, 0])?;
-    let mut label = Vec::new(rt.alloc());
-    label.push(Label::Word(String::from_str(rt.alloc(), "a0")?))?;
-    label.push(Label::Number(7))?;
-    let version = Version::of_parts(
-        1,
-        release,
-        Some((Phase::Rc, 3)),
-        Some(4),
-        Some(5),
-        label,
-    ).expect(&rt, "a version");
+    let version = version_of_parts(rt.alloc())?;
     assert_eq!(rt; version.epoch(), 1);
     assert_eq!(rt; version.release(), [2, 0].as_slice());
     assert_eq!(rt; version.pre(), Some((Phase::Rc, 3)));
@@ -178,11 +182,23 @@ fn keeps_parts(rt: HostRuntime) -> Result<(), Fail> {
     assert_eq!(rt; version.dev(), Some(5));
     assert_eq!(rt; version.label().len(), 2);
     assert!(rt; version.is_pre());
-    let copy = version.copied(rt.alloc())?;
-    let text = copy.text(rt.alloc())?;
+    Ok(())
+}
+
+#[test]
+fn copies_versions(rt: HostRuntime) -> Result<(), Fail> {
+    let alloc = rt.alloc();
+    let version = version_of_parts(alloc)?;
+    let text = version.copied(alloc)?.text(alloc)?;
     assert_eq!(rt; text.as_str(), "1!2.0rc3.post4.dev5+a0.7");
-    let place = Key::of(rt.alloc(), &version)?.copied(rt.alloc())?;
-    let text = place.version(rt.alloc())?.text(rt.alloc())?;
+    Ok(())
+}
+
+#[test]
+fn copies_keys(rt: HostRuntime) -> Result<(), Fail> {
+    let alloc = rt.alloc();
+    let place = Key::of(alloc, &version_of_parts(alloc)?)?.copied(alloc)?;
+    let text = place.version(alloc)?.text(alloc)?;
     assert_eq!(rt; text.as_str(), "1!2rc3.post4.dev5+a0.7");
     Ok(())
 }
@@ -198,7 +214,7 @@ fn refuses_parts(rt: HostRuntime) -> Result<(), Fail> {
         Vec::new(rt.alloc()),
     );
     assert!(rt; empty.is_none());
-    for word in ["", "1", "A", "a-b", "é"] {
+    for &word in &["", "1", "A", "a-b", "é"] {
         let release = Vec::from_slice(rt.alloc(), &[1])?;
         let mut label = Vec::new(rt.alloc());
         label.push(Label::Word(String::from_str(rt.alloc(), word)?))?;

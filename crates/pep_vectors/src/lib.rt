@@ -1,0 +1,27 @@
+//! Vectors of versions, clauses, sets of versions, names, environments and markers, and of the
+//! faults that these have, as the documents of the project say them.
+#![tactic(auto)]
+
+#[cfg(test)]
+mod clauses;
+#[cfg(test)]
+mod codes;
+#[cfg(test)]
+mod cuts;
+#[cfg(test)]
+mod environments;
+pub mod faults;
+#[cfg(test)]
+mod large;
+#[cfg(test)]
+mod markers;
+#[cfg(test)]
+mod names;
+#[cfg(test)]
+mod ordered;
+#[cfg(test)]
+mod requirements;
+#[cfg(test)]
+mod sets;
+#[cfg(test)]
+mod versions;
