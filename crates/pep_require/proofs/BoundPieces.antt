@@ -27,31 +27,31 @@ use Rattle.pep_require.proofs.BlankLemmas.{stripped_behind, stripped_twice}
 
 -- ---- classes of bytes
 
-clause_no_blank : (b : ℕ) → is_clause_byte b ≡ true → is_blank_byte b ≡ false
+pub clause_no_blank : (b : ℕ) → is_clause_byte b ≡ true → is_blank_byte b ≡ false
 clause_no_blank b h = grind (arith, nat_tests)
 
-blank_no_clause : (b : ℕ) → is_blank_byte b ≡ true → is_clause_byte b ≡ false
+pub blank_no_clause : (b : ℕ) → is_blank_byte b ≡ true → is_clause_byte b ≡ false
 blank_no_clause b h = grind (arith, nat_tests)
 
-clause_no_equal : (b : ℕ) → is_clause_byte b ≡ true → (61 == b) ≡ false
+pub clause_no_equal : (b : ℕ) → is_clause_byte b ≡ true → (61 == b) ≡ false
 clause_no_equal b h = grind (arith, nat_tests)
 
-blank_no_equal : (b : ℕ) → is_blank_byte b ≡ true → (61 == b) ≡ false
+pub blank_no_equal : (b : ℕ) → is_blank_byte b ≡ true → (61 == b) ≡ false
 blank_no_equal b h = grind (arith, nat_tests)
 
 -- ---- a run of a clause
 
-some_run : (o : Op) (run : List ℕ) (c : Clause) → ClauseOf o run (Ok c) → run ≡ [] → ⊥
+pub some_run : (o : Op) (run : List ℕ) (c : Clause) → ClauseOf o run (Ok c) → run ≡ [] → ⊥
 some_run o run c s e = no-clause-of-nothing o c (subst (λ (x : List ℕ). ClauseOf o x (Ok c)) e s)
 
-begins_run : (p : ℕ → Bool) → ((b : ℕ) → is_clause_byte b ≡ true → p b ≡ false) →
+pub begins_run : (p : ℕ → Bool) → ((b : ℕ) → is_clause_byte b ≡ true → p b ≡ false) →
     (run rest : List ℕ) → (run ≡ [] → ⊥) → list_all is_clause_byte run ≡ true →
     begins p (run ++ rest) ≡ false
 begins_run p off [] rest some h = absurd (some refl)
 begins_run p off (b ∷ run) rest some h =
     off b (and_first (is_clause_byte b) (list_all is_clause_byte run) h)
 
-begins_after : (p : ℕ → Bool) → ((b : ℕ) → is_blank_byte b ≡ true → p b ≡ false) →
+pub begins_after : (p : ℕ → Bool) → ((b : ℕ) → is_blank_byte b ≡ true → p b ≡ false) →
     (space rest : List ℕ) → list_all is_blank_byte space ≡ true → begins p rest ≡ false →
     begins p (space ++ rest) ≡ false
 begins_after p off [] rest h g = g
@@ -59,7 +59,7 @@ begins_after p off (b ∷ space) rest h g =
     off b (and_first (is_blank_byte b) (list_all is_blank_byte space) h)
 
 -- an operator is found where no `=` follows it
-found_operator : (o : Op) (tail : List ℕ) → begins (λ b. 61 == b) tail ≡ false →
+pub found_operator : (o : Op) (tail : List ℕ) → begins (λ b. 61 == b) tail ≡ false →
     operator_of (operator_text o ++ tail) ≡ Some o
 found_operator op.Compatible tail h = refl
 found_operator op.NotEqual tail h = refl

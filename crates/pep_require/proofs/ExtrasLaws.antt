@@ -15,9 +15,8 @@ use Rattle.pep_require.proofs.ExtrasPieces.{all_but, no_blank_extra, no_comma_in
 use Rattle.pep_require.proofs.ExtrasPieces.{no_end_in_blank, no_end_joined, one_extra, one_part}
 use Rattle.pep_require.proofs.ExtrasPieces.{parts_joined}
 
--- ---- between the brackets
-
-AllZip-one : {A B : Type 0} (R : A → B → Type 0) → ((x : A) (r q : B) → R x r → R x q → r ≡ q) →
+-- where at most one element belongs to each, at most one list belongs to a list
+pub AllZip-one : {A B : Type 0} (R : A → B → Type 0) → ((x : A) (r q : B) → R x r → R x q → r ≡ q) →
     (xs : List A) (rs qs : List B) → AllZip R xs rs → AllZip R xs qs → rs ≡ qs
 AllZip-one R one [] [] [] z w = refl
 AllZip-one R one [] [] (q ∷ qs) z w = absurd w
@@ -26,6 +25,8 @@ AllZip-one R one (x ∷ xs) [] qs z w = absurd z
 AllZip-one R one (x ∷ xs) (r ∷ rs) [] z w = absurd w
 AllZip-one R one (x ∷ xs) (r ∷ rs) (q ∷ qs) z w =
     λ i. one x r q z.0 w.0 i ∷ AllZip-one R one xs rs qs z.1 w.1 i
+
+-- ---- between the brackets
 
 no_one_blank : (x : List ℕ) (ns : List (List ℕ)) → list_all is_blank_byte x ≡ true →
     AllZip IsExtra (x ∷ []) ns → ⊥

@@ -1,7 +1,6 @@
 // The clauses of a line (PEP 508, "Grammar"), read from left to right. No text is copied.
 
-ghost use Rattle.std.specs.Prelude.{◌≡◌, ◌==◌, ◌⊎◌, ◌∷◌, IfErr, IfOk, MatchOption, false};
-ghost use Rattle.pep_marker.specs.Runs.{begins, without_leading_blanks};
+ghost use Rattle.std.specs.Prelude.{◌≡◌, ◌⊎◌, if◌then◌else◌, IfErr, IfOk};
 ghost use Rattle.pep_require.specs.LineParts.{
   BoundFrom,
   BoundsFrom,
@@ -11,8 +10,9 @@ ghost use Rattle.pep_require.specs.LineParts.{
 };
 
 use crate::fault::RequireFault;
-use crate::front::{behind, stripped};
+use crate::front::{behind, pieces, stripped};
 use pep_clause::{Clause, ClauseFault, Op, clause_run};
+use pep_version::first_part;
 use std::alloc::Global;
 
 // The clauses in front of a text, and what stands behind them.
@@ -22,12 +22,18 @@ pub(crate) struct Bounds<'a> {
     pub(crate) rest: &'a str,
 }
 
-// Whether a list of clauses ends here: at the end of the line, and else at `)` where it began with
-// `(`, at `;` where it didn't.
+// What ends a list of clauses within the line: `)` where it began with `(`, `;` where it didn't.
+fn end_byte(closed: bool) -> u8
+    ensures { result ≡ (if closed then 41 else 59) }
+{
+    if closed { b')' } else { b';' }
+}
+
+// Whether a list of clauses ends here: at the end of the line, and else at its end byte.
 fn is_end(closed: bool, text: &str) -> bool
     ensures { result ≡ is_end closed text.now }
 {
-    let end = if closed { b')' } else { b';' };
+    let end = end_byte(closed);
     match text.as_bytes() {
         [] => true,
         [first, ..] => *first == end,
@@ -63,8 +69,8 @@ pub(crate) fn clauses_at<'a>(
     ensures refused { IfErr result (λ e. (e ≡ RequireFault.NoMemory)
         ⊎ RefusesBounds closed text.now e) }
 {
-    // Most lines have one clause.
-    let mut clauses = Vec::with_capacity(alloc, 1)?;
+    let (listed, _) = first_part(text.as_bytes(), end_byte(closed));
+    let mut clauses = Vec::with_capacity(alloc, pieces(listed))?;
     let mut left = text;
     loop {
         let (clause, rest) = clause_at(alloc, left)?;
@@ -74,6 +80,8 @@ pub(crate) fn clauses_at<'a>(
         };
         left = stripped(others);
         if is_end(closed, left) {
+            // The `,` behind the last clause was counted.
+            clauses.shrink_to_fit();
             return Ok(Bounds {
                 clauses,
                 rest: left,

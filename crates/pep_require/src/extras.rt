@@ -7,7 +7,7 @@ ghost use Rattle.pep_require.specs.Reads.{IsExtra};
 ghost use Rattle.pep_require.specs.Requirement.{IsAscending};
 
 use crate::fault::RequireFault;
-use crate::front::{behind, stripped};
+use crate::front::{behind, pieces, stripped};
 use pep_marker::{MarkerFault, Name, name_run};
 use std::alloc::Global;
 
@@ -45,10 +45,10 @@ fn names_within(alloc: Global, inner: &str) -> Result<Vec<Name>, RequireFault>
     ensures refused { IfErr result (λ e. (e ≡ RequireFault.NoMemory)
         ⊎ ((e ≡ RequireFault.BadExtras) × NoneWithin inner.now)) }
 {
-    let mut names = Vec::new(alloc);
     if stripped(inner).is_empty() {
-        return Ok(names);
+        return Ok(Vec::new(alloc));
     }
+    let mut names = Vec::with_capacity(alloc, pieces(inner.as_bytes()))?;
     for piece in inner.split(',') {
         let name = extra(alloc, piece)?;
         names.push(name)?;
@@ -82,4 +82,5 @@ fn sort(names: &mut Vec<Name>)
 {
     names.sort_unstable();
     names.dedup();
+    names.shrink_to_fit();
 }

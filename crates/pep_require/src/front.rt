@@ -1,6 +1,15 @@
 // What stands at the front of a text.
 
-ghost use Rattle.std.specs.Prelude.{◌≡◌, ◌<◌, ◌==◌, ◌∷◌, MatchOption, false};
+ghost use Rattle.std.specs.Prelude.{
+  ◌≡◌,
+  ◌<◌,
+  ◌+◌,
+  ◌==◌,
+  ◌∷◌,
+  MatchOption,
+  false,
+  count_by,
+};
 ghost use Rattle.pep_marker.specs.Runs.{begins, without_leading_blanks};
 
 use pep_marker::blank_run;
@@ -20,4 +29,11 @@ pub(crate) fn behind(text: &str, character: char) -> Option<&str>
         (λ behind. text.now ≡ character ∷ behind.now) }
 {
     text.strip_prefix(character)
+}
+
+// How many pieces a text has, with a `,` between each two.
+pub(crate) fn pieces(text: &[u8]) -> usize
+    ensures { result ≡ count_by (λ b. b == 44) text.now + 1 }
+{
+    text.iter().filter(|b| **b == b',').count() + 1
 }

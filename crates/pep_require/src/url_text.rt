@@ -1,4 +1,4 @@
-ghost use Rattle.std.specs.Prelude.{◌≡◌, ◌⊎◌, nat_lt, IfOk, IfErr};
+ghost use Rattle.std.specs.Prelude.{◌≡◌, ◌⊎◌, ◌<◌, length, nat_lt, IfOk, IfErr, IsTrue};
 ghost use Rattle.std.specs.List.{list_all};
 ghost use Rattle.pep_require.specs.LineParts.{RefusesWritten};
 ghost use Rattle.pep_require.specs.Reads.{ReadsUrl, is_url_byte};
@@ -18,12 +18,17 @@ pub struct UrlText {
 }
 
 impl Model for UrlText {
-    ghost use Rattle.std.specs.Prelude.{string_bytes};
+    ghost use Rattle.std.specs.Prelude.{◌<◌, IsTrue, length, string_bytes};
+    ghost use Rattle.std.specs.List.{list_all};
+    ghost use Rattle.pep_require.specs.Reads.{is_url_byte};
     ghost use Rattle.pep_require.specs.Requirement.{UrlParts};
 
     ghost Value = { UrlParts };
 
     ghost view = { λ u. record { written = string_bytes u.written; text = string_bytes u.text } };
+
+    ghost invariant = { λ u. (0 < length (string_bytes u.text))
+        × IsTrue (list_all is_url_byte (string_bytes u.text)) };
 }
 
 fn is_run(text: &str) -> bool
@@ -78,7 +83,9 @@ impl UrlText {
 
     /// The text by which the URL Standard prints the URL: two URLs are one where it is the same.
     pub fn text(&self) -> &str
-        ensures { result.now ≡ self.now.text }
+        ensures text { result.now ≡ self.now.text }
+        ensures some { 0 < length self.now.text }
+        ensures bytes { IsTrue (list_all is_url_byte self.now.text) }
     {
         self.text.as_str()
     }

@@ -31,7 +31,7 @@ returns-in_default-clause-read c =
 pub returns-then-is_end-clause-read : goal.returns-then-is_end-clause-read
 returns-then-is_end-clause-read c =
     subst (λ done. BoundsFrom c.args.closed c.args.text.now done c.stripped-left.result.now)
-    (sym c.in_ok-push.ensures.items)
+    (sym (c.shrink_to_fit.ensures.items ∙ c.in_ok-push.ensures.items))
     (ends_at_comma c.args.closed c.args.text.now c.loop-clauses.left.now c.in_ok-clause.rest.now
     c.in-Some.others.now c.stripped-left.result.now c.loop-clauses.clauses.items
     c.in_ok-clause.clause c.loop-clauses.invariant.1 c.in_ok-clause.ensures.read c.in-Some.ensures

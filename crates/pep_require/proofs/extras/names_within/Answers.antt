@@ -12,7 +12,7 @@ use Rattle.pep_require.proofs.extras.names_within.Goals as goal
 
 pub returns-then-is_empty-clause-read : goal.returns-then-is_empty-clause-read
 returns-then-is_empty-clause-read c =
-    subst (NamesWithin c.args.inner.now) (sym c.new-names.ensures.items)
+    subst (NamesWithin c.args.inner.now) (sym c.new.ensures.items)
     (nothing_within c.args.inner.now c.stripped.result.now c.stripped.ensures
     (sym c.is_empty.ensures ∙ c.if-is_empty.true))
 
@@ -23,7 +23,8 @@ returns-in_err-name-clause-refused c =
     c.split-piece-items.ensures.has_more c.split-piece-items.ensures.pattern) in
     let at = YieldsList-turn parts c.loop-piece.yielded _ c.loop-piece.yielded_by _ _
     c.in-Some.piece c.in-Some.is c.next.ensures.steps in
-    let p = err_from_is_err_and c.from_residual.result c.from_residual.ensures.1 in
+    let p = err_from_is_err_and c.from_residual-in_err-name.result
+    c.from_residual-in_err-name.ensures.1 in
     rw (p.1, p.2) (fault_by c.in_err-name.ensures.refused
     (λ h. (
       h.0,
