@@ -104,10 +104,10 @@ one_entry Q W e f same ve vf ie fi pe pf =
 abbrev Named : Type 0
 Named = List ℕ × EntryParts
 
-eq_true : (x y : List ℕ) → x ≡ y → bytes_eq x y ≡ true
+pub eq_true : (x y : List ℕ) → x ≡ y → bytes_eq x y ≡ true
 eq_true x y e = (bytes_eq-Decides x y).1 e
 
-eq_false : (x y : List ℕ) → (x ≡ y → ⊥) → bytes_eq x y ≡ false
+pub eq_false : (x y : List ℕ) → (x ≡ y → ⊥) → bytes_eq x y ≡ false
 eq_false x y differ = by (bytes_eq x y) refl
   where
     by : (b : Bool) → bytes_eq x y ≡ b → b ≡ false
@@ -115,16 +115,16 @@ eq_false x y differ = by (bytes_eq x y) refl
     by false e = refl
 
 -- the entry of the first name
-entry_first : (p : Named) (t : TableParts) → entry_at (p ∷ t) p.0 ≡ Some p.1
+pub entry_first : (p : Named) (t : TableParts) → entry_at (p ∷ t) p.0 ≡ Some p.1
 entry_first p t = rw (eq_true p.0 p.0 refl) refl
 
 -- the entry of another name
-entry_other : (p : Named) (t : TableParts) (name : List ℕ) → (p.0 ≡ name → ⊥) →
+pub entry_other : (p : Named) (t : TableParts) (name : List ℕ) → (p.0 ≡ name → ⊥) →
     entry_at (p ∷ t) name ≡ entry_at t name
 entry_other p t name differ = rw (eq_false p.0 name differ) refl
 
 -- a name of the table has an entry there, and the other way round
-entry_there : (t : TableParts) (name : List ℕ) → IsIn (names t) name → (e : EntryParts)
+pub entry_there : (t : TableParts) (name : List ℕ) → IsIn (names t) name → (e : EntryParts)
     × (entry_at t name ≡ Some e)
 entry_there [] name h = absurd h
 entry_there (p ∷ t) name h = by (bytes_eq p.0 name) refl h (λ m. entry_there t name m)
@@ -137,7 +137,7 @@ entry_there (p ∷ t) name h = by (bytes_eq p.0 name) refl h (λ m. entry_there 
         let found : true ≡ false = sym (eq_true p.0 name (sym same)) ∙ at in cc found
     by false at (inr m) rest = let more = rest m in (more.0, rw at more.1)
 
-name_there : (t : TableParts) (name : List ℕ) (e : EntryParts) → entry_at t name ≡ Some e →
+pub name_there : (t : TableParts) (name : List ℕ) (e : EntryParts) → entry_at t name ≡ Some e →
     IsIn (names t) name
 name_there [] name e h = cc h
 name_there (p ∷ t) name e h = by (bytes_eq p.0 name) refl (name_there t name e)
@@ -147,7 +147,7 @@ name_there (p ∷ t) name e h = by (bytes_eq p.0 name) refl (name_there t name e
     by true at rest = inl (sym ((bytes_eq-Decides p.0 name).0 at))
     by false at rest = inr (rest (rw at at h))
 
-absent : (t : TableParts) (name : List ℕ) → (IsIn (names t) name → ⊥) → entry_at t name ≡ None
+pub absent : (t : TableParts) (name : List ℕ) → (IsIn (names t) name → ⊥) → entry_at t name ≡ None
 absent t name never = by (entry_at t name) refl
   where
     by : (o : Option EntryParts) → entry_at t name ≡ o → o ≡ None
@@ -155,7 +155,7 @@ absent t name never = by (entry_at t name) refl
     by (Some f) e = absurd (never (name_there t name f e))
 
 -- the first name of rising names is none of the others
-first_apart : (p : Named) (t : TableParts) (name : List ℕ) → IsAscending (names (p ∷ t)) →
+pub first_apart : (p : Named) (t : TableParts) (name : List ℕ) → IsAscending (names (p ∷ t)) →
     p.0 ≡ name → IsIn (names t) name → ⊥
 first_apart p t name up e m =
     irreflexive p.0 (subst (λ (n : List ℕ). slice_cmp nat_cmp p.0 n
@@ -201,7 +201,7 @@ one_table t s up more same = same_named t s
 
 -- ---- tables of the same demands
 
-valid_at : (t : TableParts) (name : List ℕ) (e : EntryParts) →
+pub valid_at : (t : TableParts) (name : List ℕ) (e : EntryParts) →
     All (λ (p : Named). IsValidEntry p.1) t → entry_at t name ≡ Some e → IsValidEntry e
 valid_at [] name e h at = cc at
 valid_at (p ∷ t) name e h at =

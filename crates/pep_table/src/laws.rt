@@ -1,10 +1,32 @@
 //! Laws of the definitions.
 
-ghost use Rattle.std.specs.Prelude.{◌≡◌, ℕ, List};
-ghost use Rattle.pep_table.specs.Join.{IsJoin, IsUnion};
-ghost use Rattle.pep_table.specs.Table.{TableParts};
+ghost use Rattle.std.specs.Prelude.{◌≡◌, ◌↔◌, ℕ, Bool, Contains, List};
+ghost use Rattle.pep_version.specs.Version.{IsVersion, Version};
+ghost use Rattle.pep_marker.specs.Environment.{EnvironmentParts};
+ghost use Rattle.pep_table.specs.Answer.{IsAnswer};
+ghost use Rattle.pep_table.specs.Demand.{
+  ApplyingDemands,
+  Demand,
+  Listed,
+  RequirementDemands,
+  Together,
+};
+ghost use Rattle.pep_table.specs.Gathering.{TakesApplying, TakesRequirement};
+ghost use Rattle.pep_table.specs.Join.{IsJoin, IsUnion, JoinsAll, JoinsTables};
+ghost use Rattle.pep_table.specs.MergeTree.{MergesAlike};
+ghost use Rattle.pep_table.specs.Table.{
+  HasExactPoints,
+  IsTable,
+  IsValidTable,
+  TableDemands,
+  TableParts,
+};
 ghost use Rattle.pep_table.specs.TableText.{IsTableText};
-ghost use Rattle.pep_require.specs.Requirement.{IsAscending};
+ghost use Rattle.pep_table.specs.Verdict.{IsVerdict};
+ghost use Rattle.pep_require.specs.Requirement.{IsAscending, RequirementParts};
+
+use crate::join::Join;
+use crate::verdict::{Answer, Verdict};
 
 /// A table has one text.
 pub fn one_table_text()
@@ -14,4 +36,61 @@ pub fn one_table_text()
 /// The union of sorted lists of texts does not depend on order, grouping and repeats.
 pub fn union_is_join()
     ensures { IsJoin IsAscending IsUnion }
+{}
+
+/// Two merges of the same demands print the same bytes, whatever their order, grouping and repeats,
+/// and whether or not a table is printed and read back on the way.
+pub fn merges_alike()
+    ensures { MergesAlike }
+{}
+
+/// Equal starts, and items with the same members, are joined to one value, whatever the order of
+/// the items and their repeats.
+pub fn join_all_is_one<J: Join>()
+    ensures { (a b c : J) (xs ys : List J) → ((x : J) → Contains xs x ↔ Contains ys x)
+        → JoinsAll J.is_value J.joins a xs b → JoinsAll J.is_value J.joins a ys c → b ≡ c }
+{}
+
+/// The join of the tables of two sets of demands is the table of both sets, and where each has just
+/// the points that its demands have, so has the join.
+pub fn joined_is_table()
+    ensures table { (q w : List (List ℕ × Demand)) (s t r : TableParts) → IsTable (Listed q) s
+        → IsTable (Listed w) t → JoinsTables s t r → IsTable (Together (Listed q) (Listed w)) r }
+    ensures points { (q w : List (List ℕ × Demand)) (s t r : TableParts) → IsTable (Listed q) s
+        → HasExactPoints (Listed q) s → IsTable (Listed w) t → HasExactPoints (Listed w) t
+        → JoinsTables s t r → HasExactPoints (Together (Listed q) (Listed w)) r }
+{}
+
+/// A table of demands that takes a requirement is the table of these demands and those of the
+/// requirement, and keeps just the points that all of them have.
+pub fn taken_is_table()
+    ensures { (q : List (List ℕ × Demand)) (s t : TableParts) (r : RequirementParts)
+        → IsTable (Listed q) s → HasExactPoints (Listed q) s → TakesRequirement s r t
+        → IsTable (Together (Listed q) (RequirementDemands r)) t
+        × HasExactPoints (Together (Listed q) (RequirementDemands r)) t }
+{}
+
+/// .. and so is one that takes requirements which apply in an environment.
+pub fn applying_is_table()
+    ensures { (e : EnvironmentParts) (q : List (List ℕ × Demand)) (rs : List RequirementParts)
+        (s t : TableParts) → IsTable (Listed q) s → HasExactPoints (Listed q) s
+        → TakesApplying e s rs t → IsTable (Together (Listed q) (ApplyingDemands e rs)) t
+        × HasExactPoints (Together (Listed q) (ApplyingDemands e rs)) t }
+{}
+
+/// A table is the table of its own demands, with just their points.
+pub fn own_table()
+    ensures { (t : TableParts) → IsValidTable t
+        → IsTable (TableDemands t) t × HasExactPoints (TableDemands t) t }
+{}
+
+/// What a table says of a version of a package, and of the package, all demands say of which it is
+/// the table.
+pub fn table_answers()
+    ensures answers { (q : List (List ℕ × Demand)) (t : TableParts) (name : List ℕ) (v : Version)
+        (want_pre : Bool) (a : Answer) → IsTable (Listed q) t → IsVersion v
+        → IsAnswer (TableDemands t name) v want_pre a → IsAnswer (Listed q name) v want_pre a }
+    ensures verdicts { (q : List (List ℕ × Demand)) (t : TableParts) (name : List ℕ)
+        (verdict : Verdict) → IsTable (Listed q) t → IsVerdict (TableDemands t name) verdict
+        → IsVerdict (Listed q name) verdict }
 {}

@@ -1,0 +1,78 @@
+-- The requirements that are taken one by one, up to the first whose marker is undefined.
+use Rattle.std.proofs.Common.{◌≡◌, ◌≢◌, ℕ, suc, ◌+◌, ◌<◌, List, [], ◌∷◌, ◌++◌, length}
+use Rattle.std.proofs.Common.{take, drop, get_or, map, refl, sym, ap, subst, ◌∙◌, inl, inr, ◌⊎◌, arith}
+use Rattle.std.proofs.Common.{Result, Ok, Err, IfOk}
+use Rattle.std.proofs.lemmas.List.{length-take-le, map-append}
+use Rattle.std.proofs.lemmas.List.Elements.{All-from_recursion}
+use Rattle.std.specs.List.{All, AllByRecursion}
+use Rattle.pep_marker.specs.Environment.{EnvironmentParts}
+use Rattle.pep_marker.specs.declared.fault.MarkerFault.{MarkerFault}
+use Rattle.pep_marker.specs.declared.fault.MarkerFault.TheVariants as marker_fault
+use Rattle.pep_require.specs.Requirement.{HasDefinedMarker, HasUndefinedMarker, RequirementParts}
+use Rattle.pep_table.specs.Gathering.{IsFirstUndefined, TakesApplying}
+use Rattle.pep_table.specs.Table.{TableParts}
+use Rattle.pep_table.specs.declared.fault.TableFault.{TableFault}
+use Rattle.pep_table.specs.declared.fault.TableFault.TheVariants as table_fault
+use Rattle.pep_table.proofs.EntryPlaces.{whole}
+use Rattle.pep_table.proofs.KeptSets.{next_taken}
+
+-- where requirements are taken, the marker of each is defined
+defined : (e : EnvironmentParts) (s : TableParts) (rs : List RequirementParts) (t : TableParts) →
+    TakesApplying e s rs t → AllByRecursion (HasDefinedMarker e) rs
+defined e s [] t h = tt
+defined e s (r ∷ rs) t (mid, taken, says, takes, more) = ((taken, says), defined e mid rs t more)
+
+pub all_defined : (e : EnvironmentParts) (s : TableParts) (rs : List RequirementParts)
+    (t : TableParts) → TakesApplying e s rs t → All (HasDefinedMarker e) rs
+all_defined e s rs t taken =
+    All-from_recursion (HasDefinedMarker e) rs (defined e s rs t taken)
+
+pub map_length : {A B : Type 0} (f : A → B) (xs : List A) → length (map f xs) ≡ length xs
+map_length f [] = refl
+map_length f (x ∷ xs) = ap suc (map_length f xs)
+
+pub next_mapped : {A B : Type 0} (f : A → B) (xs : List A) (i : ℕ) (x : A) →
+    x ≡ get_or xs i x → i < length xs → map f (take (i + 1) xs) ≡ map f (take i xs) ++ f x ∷ []
+next_mapped f xs i x is lt =
+    ap (map f) (next_taken xs i x is lt) ∙ map-append f (take i xs) (x ∷ [])
+
+-- the requirement behind those that are taken is the first whose marker is undefined
+pub first_undefined : {A : Type 0} (parts : A → RequirementParts) (e : EnvironmentParts)
+    (s t : TableParts) (xs : List A) (i : ℕ) (x : A) (fault : MarkerFault) (given : TableFault) →
+    x ≡ get_or xs i x → i < length xs → TakesApplying e s (map parts (take i xs)) t →
+    (fault ≡ marker_fault.NoMemory) ⊎ ((fault ≡ marker_fault.Undefined)
+    × HasUndefinedMarker e (parts x)) →
+    (fault ≡ marker_fault.NoMemory → given ≡ table_fault.NoMemory) →
+    (fault ≢ marker_fault.NoMemory → given ≡ table_fault.Undefined (i + 1)) →
+    (given ≡ table_fault.NoMemory) ⊎ IsFirstUndefined e (map parts xs) given
+first_undefined parts e s t xs i x fault given is lt taken (inl no_memory) memory undefined =
+    inl (memory no_memory)
+first_undefined {A} parts e s t xs i x fault given is lt taken (inr why) memory undefined =
+    inr (record {
+      before = map parts (take i xs);
+      first = parts x;
+      behind = map parts (drop (suc i) xs);
+      whole = ap (map parts) (whole xs i x is lt)
+          ∙ map-append parts (take i xs) (x ∷ drop (suc i) xs);
+      defined = all_defined e s (map parts (take i xs)) t taken;
+      undefined = why.1;
+      is = undefined (λ same. apart (sym same ∙ why.0))
+          ∙ ap (λ n. table_fault.Undefined (n + 1)) (sym (map_length parts (take i xs)
+          ∙ taken_length));
+    })
+  where
+    apart : marker_fault.NoMemory ≡ marker_fault.Undefined → ⊥
+    apart same = cc same
+
+    taken_length : length (take i xs) ≡ i
+    taken_length = length-take-le i xs (omega (arith, lt))
+
+-- what is made of a gathering is its table
+pub table_made : {E : Type 0} (P : TableParts → Type 0) (r : Result TableParts E) (g : TableParts) →
+    P g → IfOk r (λ t. t ≡ g) → IfOk r P
+table_made P (Ok t) g h same = subst P (sym same) h
+table_made P (Err e) g h same = tt
+
+pub where_made : {E : Type 0} {X : Type 0} (r : Result TableParts E) → X → IfOk r (λ t. X)
+where_made (Ok t) x = x
+where_made (Err e) x = tt

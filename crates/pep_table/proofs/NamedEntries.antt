@@ -1,0 +1,226 @@
+-- A table after a change at one name, and the map of names that the code keeps.
+use Rattle.std.proofs.Common.{◌≡◌, ℕ, zero, suc, ◌<◌, Bool, true, false, List, [], ◌∷◌, length}
+use Rattle.std.proofs.Common.{Option, Some, None, refl, sym, ap, subst, ◌∙◌, arith, map}
+use Rattle.std.specs.Prelude.{bytes_eq, if◌then◌else◌, slice_index_or, unwrap_or}
+use Rattle.std.specs.Bool.{one_answer}
+use Rattle.std.specs.BTreeMap.{BTreeMap, IsOrdered, UpdatesBy, get, is_at}
+use Rattle.std.specs.List.{All}
+use Rattle.std.specs.Map.{lookup}
+use Rattle.std.proofs.lemmas.List.Elements.{All-contains, All-contains_itself}
+use Rattle.std.proofs.lemmas.Map.Text.{is_eq-slice_cmp}
+use Rattle.std.proofs.lemmas.Slice.Eq.{bytes_eq-Decides}
+use Rattle.pep_version.proofs.Connectives.{and_given_second}
+use Rattle.pep_clause.specs.VersionSet.{all_versions, is_point}
+use Rattle.pep_clause.proofs.LeastCut.{point-all_versions}
+use Rattle.pep_marker.specs.Name.{IsNormalName, name_cmp}
+use Rattle.pep_require.specs.Requirement.{IsAscending, RequirementParts}
+use Rattle.pep_require.proofs.Ascending.{Contains-from_IsIn, IsIn-from_Contains, rest_ascends}
+use Rattle.pep_table.specs.EntryLaws.{IsJoin-JoinsEntries}
+use Rattle.pep_table.specs.Gathering.{HasValidParts, TakesEntry, TakesRequirement, bare_entry}
+use Rattle.pep_table.specs.Join.{JoinsAt, JoinsEntries, JoinsTables}
+use Rattle.pep_table.specs.OneText.{entry_first, entry_other, entry_there, eq_false, eq_true}
+use Rattle.pep_table.specs.OneText.{first_apart, name_there, valid_at}
+use Rattle.pep_table.specs.JoinLaws.{IsJoin-IsUnion}
+use Rattle.pep_table.specs.Table.{EntryParts, IsValidEntry, IsValidTable, TableParts, entry_at, names}
+use Rattle.pep_table.proofs.KeptSets.{ascending_map, union_none}
+use Rattle.pep_table.proofs.ValidEntries.{bare_valid, joined_valid, taken_valid}
+
+-- ---- the map of names
+
+eq_turned : (x y : List ℕ) → bytes_eq x y ≡ bytes_eq y x
+eq_turned x y =
+    one_answer (bytes_eq x y) (bytes_eq y x) (bytes_eq-Decides x y)
+    ((λ e. sym ((bytes_eq-Decides y x).0 e)), λ e. (bytes_eq-Decides y x).1 (sym e))
+
+pub entry_at-map : (t : TableParts) (q : List ℕ) → entry_at t q ≡ lookup (is_at (name_cmp q)) t
+entry_at-map [] q = refl
+entry_at-map (p ∷ t) q = by (bytes_eq p.0 q) refl (entry_at-map t q)
+  where
+    at : is_at (name_cmp q) p.0 ≡ bytes_eq p.0 q
+    at = is_eq-slice_cmp q p.0 ∙ eq_turned q p.0
+
+    by : (b : Bool) → bytes_eq p.0 q ≡ b → entry_at t q ≡ lookup (is_at (name_cmp q)) t →
+        entry_at (p ∷ t) q ≡ lookup (is_at (name_cmp q)) (p ∷ t)
+    by true e rest = rw (e, at ∙ e) refl
+    by false e rest = rw (e, at ∙ e) rest
+
+-- the entry of a name, after the entry of one name has changed
+abbrev pub changed : TableParts → List ℕ → EntryParts → List ℕ → Option EntryParts
+changed old name e q = if bytes_eq name q then Some e else entry_at old q
+
+pub entry_at-changed : (old new : BTreeMap (List ℕ) EntryParts) (n : List ℕ) (w : EntryParts) →
+    UpdatesBy name_cmp (name_cmp n) old new (Some w) → (q : List ℕ) →
+    entry_at new.entries q ≡ changed old.entries n w q
+entry_at-changed old new n w h q =
+    entry_at-map new.entries q ∙ h.0 q
+    ∙ (λ i. if is_eq-slice_cmp n q i then Some w else sym (entry_at-map old.entries q) i)
+
+pub names_ascend : (m : BTreeMap (List ℕ) EntryParts) → IsOrdered name_cmp m →
+    IsAscending (names m.entries)
+names_ascend m o = subst IsAscending (ids (names m.entries))
+    (ascending_map name_cmp (λ n. n) (λ x y. refl) (names m.entries) o)
+  where
+    ids : (xs : List (List ℕ)) → map (λ n. n) xs ≡ xs
+    ids [] = refl
+    ids (x ∷ xs) = λ i. x ∷ ids xs i
+
+-- ---- what a change leaves valid
+
+all_valid : (t : TableParts) → IsAscending (names t) →
+    ((q : List ℕ) (e : EntryParts) → entry_at t q ≡ Some e → IsValidEntry e) →
+    All (λ p. IsValidEntry p.1) t
+all_valid [] up h = λ k d lt. absurd (omega (arith, lt))
+all_valid (p ∷ t) up h = λ k d lt. by k d lt
+    (all_valid t (rest_ascends p.0 (names t) up) (λ q e at. h q e (entry_other p t q (apart q e at)
+    ∙ at)))
+  where
+    apart : (q : List ℕ) (e : EntryParts) → entry_at t q ≡ Some e → p.0 ≡ q → ⊥
+    apart q e at same = first_apart p t q up same (name_there t q e at)
+
+    by : (k : ℕ) (d : List ℕ × EntryParts) → k < length (p ∷ t) →
+        All (λ (r : List ℕ × EntryParts). IsValidEntry r.1) t →
+        IsValidEntry (slice_index_or (p ∷ t) k d).1
+    by zero d lt rest = h p.0 p.1 (entry_first p t)
+    by (suc k) d lt rest = rest k d (omega (arith, lt))
+
+all_normal : (t : TableParts) →
+    ((q : List ℕ) (e : EntryParts) → entry_at t q ≡ Some e → IsNormalName q) →
+    All IsNormalName (names t)
+all_normal t h = λ k d lt.
+    let q = slice_index_or (names t) k d in
+    let found =
+    entry_there t q (IsIn-from_Contains (names t) q (All-contains_itself (names t) k d lt)) in
+    h q found.0 found.1
+
+pub changed_valid : (old new : TableParts) (n : List ℕ) (w : EntryParts) → IsValidTable old →
+    IsNormalName n → IsValidEntry w → IsAscending (names new) →
+    ((q : List ℕ) → entry_at new q ≡ changed old n w q) → IsValidTable new
+changed_valid old new n w v normal valid up is = record {
+  names = (up, all_normal new (λ q e at. name q e (bytes_eq n q) refl (sym (is q) ∙ at)));
+  entries = all_valid new up (λ q e at. entry q e (bytes_eq n q) refl (sym (is q) ∙ at));
+}
+  where
+    name : (q : List ℕ) (e : EntryParts) (b : Bool) → bytes_eq n q ≡ b →
+        changed old n w q ≡ Some e → IsNormalName q
+    name q e true same at = subst IsNormalName ((bytes_eq-Decides n q).0 same) normal
+    name q e false other at =
+        let there : entry_at old q ≡ Some e = rw other at at in
+        All-contains IsNormalName (names old) q v.names.1
+        (Contains-from_IsIn (names old) q (name_there old q e there))
+
+    entry : (q : List ℕ) (e : EntryParts) (b : Bool) → bytes_eq n q ≡ b →
+        changed old n w q ≡ Some e → IsValidEntry e
+    entry q e true same at =
+        let own : Some w ≡ Some e = rw same at at in
+        let one : w ≡ e = cc own in subst IsValidEntry one valid
+    entry q e false other at =
+        let there : entry_at old q ≡ Some e = rw other at at in
+        valid_at old q e v.entries there
+
+-- ---- what a change is
+
+pub changed_takes : (old new : TableParts) (r : RequirementParts) (w : EntryParts) →
+    HasValidParts r → IsValidTable new → ((q : List ℕ) → entry_at new q ≡ changed old r.name w q) →
+    TakesEntry (unwrap_or (entry_at old r.name) bare_entry) r w → TakesRequirement old r new
+changed_takes old new r w parts valid is takes = record {
+  parts = parts;
+  valid = valid;
+  others = λ q other. is q ∙ at_other q (eq_false r.name q (λ e. other (sym e)));
+  own = (w, is r.name ∙ at_own (eq_true r.name r.name refl), takes);
+}
+  where
+    at_other : (q : List ℕ) → bytes_eq r.name q ≡ false → changed old r.name w q ≡ entry_at old q
+    at_other q e = rw e refl
+
+    at_own : bytes_eq r.name r.name ≡ true → changed old r.name w r.name ≡ Some w
+    at_own e = rw e refl
+
+bare_joined : (e w : EntryParts) → IsValidEntry e → IsValidEntry w → JoinsEntries bare_entry e w →
+    w ≡ e
+bare_joined e w v u j = IsJoin-JoinsEntries.one bare_entry e w e u v j (record {
+  extras = IsJoin-IsUnion.commutative e.extras [] e.extras (union_none e.extras v.extras.0);
+  urls = IsJoin-IsUnion.commutative e.urls [] e.urls (union_none e.urls v.urls.0);
+  texts = IsJoin-IsUnion.commutative e.texts [] e.texts (union_none e.texts v.texts.0);
+  versions = record {
+    normal = v.versions;
+    points = λ cut is. and_given_second (is_point all_versions cut) (is_point e.versions cut)
+        (point-all_versions e.versions cut);
+  };
+})
+
+pub changed_joins : (old new : TableParts) (n : List ℕ) (e w : EntryParts) →
+    IsValidTable new → IsValidEntry e → IsValidEntry w →
+    ((q : List ℕ) → entry_at new q ≡ changed old n w q) →
+    JoinsEntries (unwrap_or (entry_at old n) bare_entry) e w →
+    JoinsTables old ((n, e) ∷ []) new
+changed_joins old new n e w valid ev wv is j = record {
+  valid = valid;
+  entries = λ q. subst (JoinsAt (entry_at old q) (entry_at ((n, e) ∷ []) q)) (sym (is q))
+      (at q (bytes_eq n q) refl);
+}
+  where
+    own : (o : Option EntryParts) → JoinsEntries (unwrap_or o bare_entry) e w →
+        JoinsAt o (Some e) (Some w)
+    own None h = ap Some (bare_joined e w ev wv h)
+    own (Some a) h = h
+
+    none : (o : Option EntryParts) → JoinsAt o None o
+    none None = refl
+    none (Some a) = refl
+
+    at : (q : List ℕ) (b : Bool) → bytes_eq n q ≡ b →
+        JoinsAt (entry_at old q) (entry_at ((n, e) ∷ []) q) (changed old n w q)
+    at q true same = rw same (own (entry_at old q)
+        (subst (λ x. JoinsEntries (unwrap_or (entry_at old x) bare_entry) e w)
+        ((bytes_eq-Decides n q).0 same) j))
+    at q false other = rw other (none (entry_at old q))
+
+-- ---- the map after a requirement, and after an entry
+
+abbrev pub Entries : Type 0
+Entries = BTreeMap (List ℕ) EntryParts
+
+-- what the map has at a name, as the entry there
+found_valid : (old : Entries) (n : List ℕ) (o : Option EntryParts) → IsValidTable old.entries →
+    get name_cmp old n ≡ o → IsValidEntry (unwrap_or o bare_entry)
+found_valid old n None v at = bare_valid
+found_valid old n (Some a) v at =
+    valid_at old.entries n a v.entries (entry_at-map old.entries n ∙ at)
+
+found_at : (old : Entries) (n : List ℕ) (o : Option EntryParts) → get name_cmp old n ≡ o →
+    entry_at old.entries n ≡ o
+found_at old n o at = entry_at-map old.entries n ∙ at
+
+pub map_takes : (old new : Entries) (n : List ℕ) (o : Option EntryParts) (r : RequirementParts)
+    (w : EntryParts) → n ≡ r.name → IsValidTable old.entries → HasValidParts r →
+    get name_cmp old n ≡ o → UpdatesBy name_cmp (name_cmp n) old new (Some w) →
+    IsOrdered name_cmp new → TakesEntry (unwrap_or o bare_entry) r w →
+    IsValidTable new.entries × TakesRequirement old.entries r new.entries
+map_takes old new n o r w same v h at updates ordered takes =
+    let is : (q : List ℕ) → entry_at new.entries q ≡ changed old.entries r.name w q =
+    λ q. entry_at-changed old new n w updates q ∙ (λ i. changed old.entries (same i) w q) in
+    let there : entry_at old.entries r.name ≡ o =
+    ap (entry_at old.entries) (sym same) ∙ found_at old n o at in
+    let valid = changed_valid old.entries new.entries r.name w v h.name
+    (taken_valid (unwrap_or o bare_entry) w r (found_valid old n o v at) h takes)
+    (names_ascend new ordered) is in (
+      valid,
+      changed_takes old.entries new.entries r w h valid is
+          (subst (λ a. TakesEntry (unwrap_or a bare_entry) r w) (sym there) takes),
+    )
+
+pub map_joins : (old new : Entries) (n : List ℕ) (o : Option EntryParts) (e w : EntryParts) →
+    IsValidTable old.entries → IsNormalName n → IsValidEntry e →
+    get name_cmp old n ≡ o → UpdatesBy name_cmp (name_cmp n) old new (Some w) →
+    IsOrdered name_cmp new → JoinsEntries (unwrap_or o bare_entry) e w →
+    IsValidTable new.entries × JoinsTables old.entries ((n, e) ∷ []) new.entries
+map_joins old new n o e w v normal ev at updates ordered joins =
+    let is : (q : List ℕ) → entry_at new.entries q ≡ changed old.entries n w q =
+    λ q. entry_at-changed old new n w updates q in
+    let wv = joined_valid (unwrap_or o bare_entry) e w (found_valid old n o v at) ev joins in
+    let valid = changed_valid old.entries new.entries n w v normal wv
+    (names_ascend new ordered) is in (
+      valid,
+      changed_joins old.entries new.entries n e w valid ev wv is
+          (subst (λ a. JoinsEntries (unwrap_or a bare_entry) e w) (sym (found_at old n o at)) joins),
+    )

@@ -1,0 +1,9 @@
+use Rattle.pep_table.proofs.JoinedDemands as laws
+use Rattle.pep_table.specs.Demand.{Listed}
+use Rattle.pep_table.proofs.laws.joined_is_table.Goals as goal
+
+pub returns-clause-table : goal.returns-clause-table
+returns-clause-table c = λ q w. laws.joined_table (Listed q) (Listed w)
+
+pub returns-clause-points : goal.returns-clause-points
+returns-clause-points c = λ q w. laws.joined_has_points (Listed q) (Listed w)

@@ -1,0 +1,138 @@
+//! What requirements and tables demand, gathered one by one.
+
+ghost use Rattle.std.specs.Prelude.{◌≡◌, ◌⊎◌, ◌∷◌, [], IfErr, IfOk};
+ghost use Rattle.pep_require.specs.Requirement.{HasUndefinedMarker};
+ghost use Rattle.pep_require.specs.View.{requirement_parts};
+ghost use Rattle.pep_table.specs.Gathering.{TakesApplying, TakesRequirement};
+ghost use Rattle.pep_table.specs.Join.{JoinsTables};
+ghost use Rattle.pep_table.specs.Table.{IsValidTable};
+
+use crate::entry::Entry;
+use crate::fault::TableFault;
+use crate::gathered::Gathered;
+use crate::sorted::Kept;
+use crate::table::Table;
+use pep_marker::{Environment, MarkerFault, Name};
+use pep_require::Requirement;
+use std::alloc::Global;
+use std::collections::BTreeMap;
+use std::marker::Model;
+
+/// What the requirements and tables so far demand. Clauses see the table of it.
+#[derive(Drop)]
+pub struct Gathering {
+    entries: BTreeMap<Name, Gathered>,
+}
+
+impl Model for Gathering {
+    ghost use Rattle.pep_table.specs.Table.{IsValidTable, TableParts};
+
+    ghost Value = { TableParts };
+
+    ghost view = { λ g. g.entries.entries };
+
+    ghost invariant = { λ g. IsValidTable g.entries.entries };
+}
+
+impl Gathering {
+    /// Nothing is demanded.
+    pub fn new(alloc: Global) -> Gathering
+        ensures { result ≡ [] }
+    {
+        Gathering {
+            entries: BTreeMap::new(alloc),
+        }
+    }
+
+    /// What is demanded so far and by the requirement, whatever its marker. The only fault is
+    /// `NoMemory`, 42.
+    pub fn take(mut self, alloc: Global, requirement: &Requirement) -> Result<Gathering, TableFault>
+        ensures taken { IfOk result (λ new.
+            TakesRequirement self (requirement_parts requirement.now) new) }
+        ensures faults { IfErr result (λ e. e ≡ TableFault.NoMemory) }
+    {
+        let name = requirement.name();
+        if let Some(entry) = self.entries.get_mut(name) {
+            entry.take(alloc, requirement)?;
+            return Ok(self);
+        }
+        let mut entry = Gathered::bare(alloc)?;
+        entry.take(alloc, requirement)?;
+        self.entries.insert(name.kept(alloc)?, entry)?;
+        Ok(self)
+    }
+
+    /// What is demanded so far and, if it applies in the environment, by the requirement. A marker
+    /// that is undefined there is `Undefined`, 28; any other fault is `NoMemory`, 29.
+    pub fn take_applying(
+        self,
+        alloc: Global,
+        requirement: &Requirement,
+        environment: &Environment,
+    ) -> Result<Gathering, MarkerFault>
+        ensures taken { IfOk result (λ new. TakesApplying environment.now self
+            (requirement_parts requirement.now ∷ []) new) }
+        ensures faults { IfErr result (λ e. (e ≡ MarkerFault.NoMemory)
+            ⊎ ((e ≡ MarkerFault.Undefined)
+            × HasUndefinedMarker environment.now (requirement_parts requirement.now))) }
+    {
+        if !requirement.applies(alloc, environment)? {
+            return Ok(self);
+        }
+        match self.take(alloc, requirement) {
+            Ok(new) => Ok(new),
+            Err(_) => Err(MarkerFault::NoMemory),
+        }
+    }
+
+    /// What is demanded so far and by the table. The only fault is `NoMemory`, 42.
+    pub fn take_table(self, alloc: Global, table: &Table) -> Result<Gathering, TableFault>
+        ensures joined { IfOk result (λ new. JoinsTables self table.now new) }
+        ensures valid { IsValidTable table.now }
+        ensures faults { IfErr result (λ e. e ≡ TableFault.NoMemory) }
+    {
+        // Where a field is read, the invariant is at hand.
+        let _ = self.entries.len();
+        let entries = table.entries();
+        let mut all = self;
+        for (name, entry) in entries {
+            all = all.take_entry(alloc, name, entry)?;
+        }
+        Ok(all)
+    }
+
+    // What is demanded so far, and of one package by its entry.
+    fn take_entry(
+        mut self,
+        alloc: Global,
+        name: &Name,
+        entry: &Entry,
+    ) -> Result<Gathering, TableFault>
+        ensures joined { IfOk result (λ new.
+            JoinsTables self ((name.now, entry.now) ∷ []) new) }
+        ensures faults { IfErr result (λ e. e ≡ TableFault.NoMemory) }
+    {
+        // Its clause tells that the name is in its normalized form.
+        let _ = name.text();
+        if let Some(kept) = self.entries.get_mut(name) {
+            kept.join(alloc, entry)?;
+            return Ok(self);
+        }
+        let mut kept = Gathered::bare(alloc)?;
+        kept.join(alloc, entry)?;
+        self.entries.insert(name.kept(alloc)?, kept)?;
+        Ok(self)
+    }
+
+    /// The table of what is demanded. The only fault is `NoMemory`, 42.
+    pub fn finish(self, alloc: Global) -> Result<Table, TableFault>
+        ensures same { IfOk result (λ table. table ≡ self) }
+        ensures faults { IfErr result (λ e. e ≡ TableFault.NoMemory) }
+    {
+        let mut entries = Vec::with_capacity(alloc, self.entries.len())?;
+        for (name, gathered) in self.entries {
+            entries.push((name, gathered.entry(alloc)?))?;
+        }
+        Ok(Table::of_entries(entries))
+    }
+}

@@ -1,0 +1,136 @@
+// The text of a table.
+
+ghost use Rattle.std.specs.Prelude.{◌≡◌, ◌++◌, codes, string_bytes, IfErr, IfOk, OnOk, map};
+ghost use Rattle.pep_clause.specs.Cut.{cut_text};
+ghost use Rattle.pep_table.specs.TableText.{
+  IsTableText,
+  entry_text,
+  kind_lines,
+  line,
+  range_text,
+};
+ghost use Rattle.pep_table.specs.Verdict.{verdict_word};
+
+use crate::entry::Entry;
+use crate::fault::TableFault;
+use crate::sorted::Kept;
+use crate::table::Table;
+use crate::verdict::Verdict;
+use pep_clause::{Cut, Range};
+use pep_marker::Name;
+use std::alloc::Global;
+
+fn verdict_word(verdict: Verdict) -> &'static str
+    ensures { result.now ≡ verdict_word verdict }
+{
+    match verdict {
+        Verdict::Possible => "open",
+        Verdict::Nothing => "none",
+        Verdict::Conflict => "conflict",
+    }
+}
+
+fn push_line(text: &mut String, kind: &str, value: &str) -> Result<(), TableFault>
+    ensures ok { OnOk result (string_bytes text.new ≡ string_bytes text.old
+        ++ line (codes "  " ++ kind.now ++ codes " " ++ value.now)) }
+    ensures faults { IfErr result (λ e. e ≡ TableFault.NoMemory) }
+{
+    text.push_str("  ")?;
+    text.push_str(kind)?;
+    text.push_str(" ")?;
+    text.push_str(value)?;
+    text.push_str("\n")?;
+    Ok(())
+}
+
+fn push_kind<T: Kept>(text: &mut String, kind: &str, values: &[T]) -> Result<(), TableFault>
+    ensures ok { OnOk result (string_bytes text.new ≡ string_bytes text.old
+        ++ kind_lines kind.now (map T.text values.now)) }
+    ensures faults { IfErr result (λ e. e ≡ TableFault.NoMemory) }
+{
+    for value in values {
+        push_line(text, kind, value.as_text())?;
+    }
+    Ok(())
+}
+
+fn push_cut(alloc: Global, text: &mut String, cut: &Cut) -> Result<(), TableFault>
+    ensures ok { OnOk result (string_bytes text.new ≡ string_bytes text.old ++ cut_text cut.now) }
+    ensures faults { IfErr result (λ e. e ≡ TableFault.NoMemory) }
+{
+    match cut.text(alloc) {
+        Ok(cut) => Ok(text.push_str(cut.as_str())?),
+        Err(_) => Err(TableFault::NoMemory),
+    }
+}
+
+fn push_range(alloc: Global, text: &mut String, range: &Range) -> Result<(), TableFault>
+    ensures ok { OnOk result (string_bytes text.new ≡ string_bytes text.old
+        ++ line (codes "  range " ++ range_text range.now)) }
+    ensures faults { IfErr result (λ e. e ≡ TableFault.NoMemory) }
+{
+    text.push_str("  range ")?;
+    push_cut(alloc, text, range.low())?;
+    text.push_str(" to ")?;
+    push_cut(alloc, text, range.high())?;
+    text.push_str("\n")?;
+    Ok(())
+}
+
+fn push_ranges(alloc: Global, text: &mut String, ranges: &[Range]) -> Result<(), TableFault>
+    ensures ok { OnOk result (string_bytes text.new ≡ string_bytes text.old
+        ++ kind_lines (codes "range") (map range_text ranges.now)) }
+    ensures faults { IfErr result (λ e. e ≡ TableFault.NoMemory) }
+{
+    for range in ranges {
+        push_range(alloc, text, range)?;
+    }
+    Ok(())
+}
+
+fn push_head(text: &mut String, name: &str, verdict: Verdict) -> Result<(), TableFault>
+    ensures ok { OnOk result (string_bytes text.new ≡ string_bytes text.old
+        ++ line (name.now ++ codes " " ++ verdict_word verdict)) }
+    ensures faults { IfErr result (λ e. e ≡ TableFault.NoMemory) }
+{
+    text.push_str(name)?;
+    text.push_str(" ")?;
+    text.push_str(verdict_word(verdict))?;
+    text.push_str("\n")?;
+    Ok(())
+}
+
+fn push_entry(
+    alloc: Global,
+    text: &mut String,
+    name: &Name,
+    verdict: Verdict,
+    entry: &Entry,
+) -> Result<(), TableFault>
+    ensures ok { OnOk result (string_bytes text.new ≡ string_bytes text.old
+        ++ entry_text name.now verdict entry.now) }
+    ensures faults { IfErr result (λ e. e ≡ TableFault.NoMemory) }
+{
+    push_head(text, name.text(), verdict)?;
+    push_kind(text, "extra", entry.extras().items())?;
+    push_kind(text, "url", entry.urls().items())?;
+    push_kind(text, "text", entry.texts().items())?;
+    push_ranges(alloc, text, entry.versions().ranges())
+}
+
+impl Table {
+    /// The text of the table: for each name in byte order a line with its verdict (`open`, `none`,
+    /// `conflict`), and below it, indented by two spaces, a line for each extra, URL, demanded text
+    /// and range of versions. The only fault is `NoMemory`, 42.
+    pub fn text(&self, alloc: Global) -> Result<String, TableFault>
+        ensures text { IfOk result (λ text. IsTableText self.now (string_bytes text)) }
+        ensures faults { IfErr result (λ e. e ≡ TableFault.NoMemory) }
+    {
+        let mut text = String::new(alloc);
+        for (name, entry) in self.entries() {
+            let verdict = entry.verdict(alloc)?;
+            push_entry(alloc, &mut text, name, verdict, entry)?;
+        }
+        Ok(text)
+    }
+}
