@@ -15,7 +15,8 @@ use Rattle.pep_tool.specs.Sets.{clauses_on, line_requirement, pair_requirement, 
 use Rattle.pep_tool.specs.declared.input.Input.{Input}
 use Rattle.pep_tool.specs.declared.input.Kind.{Kind}
 use Rattle.pep_tool.specs.declared.input.Kind.TheVariants as kind
-use Rattle.pep_tool.proofs.LineLemmas.{AllZip-one, one_line}
+use Rattle.pep_require.proofs.ExtrasLaws.{AllZip-one}
+use Rattle.pep_tool.proofs.LineLemmas.{one_line}
 use Rattle.pep_version.proofs.Connectives.{and_first, and_second}
 
 -- the pair is in the list

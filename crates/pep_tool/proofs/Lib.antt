@@ -13,3 +13,5 @@ pub mod BoundsLemmas
 pub mod RequirementLemmas
 pub mod LineTexts
 pub mod RequirementLists
+pub mod AcceptedInputs
+pub mod GatheredLists

@@ -14,7 +14,7 @@ use Rattle.std.proofs.lemmas.List.Splits.{slice_split-cons_yes}
 use Rattle.std.proofs.lemmas.Str.{IsUtf8-from_ascii}
 use Rattle.pep_clause.specs.Clause.{Clause, ClauseOf, demanded, demanded_text, is_clause_byte}
 use Rattle.pep_clause.specs.Clause.{operator_of, operator_text}
-use Rattle.pep_clause.proofs.OneAnswer.{clause_told, no-clause-of-nothing, one-answer}
+use Rattle.pep_clause.proofs.OneAnswer.{clause_told, one-answer}
 use Rattle.pep_clause.proofs.OperatorLemmas.{operator_shape}
 use Rattle.pep_clause.specs.declared.fault.ClauseFault.{ClauseFault}
 use Rattle.pep_clause.specs.declared.fault.ClauseFault.TheVariants as clause_fault
@@ -29,6 +29,10 @@ use Rattle.pep_require.specs.Reads.{line_limit}
 use Rattle.pep_require.specs.Requirement.{RequirementParts}
 use Rattle.pep_require.specs.declared.fault.RequireFault.{RequireFault}
 use Rattle.pep_require.specs.declared.fault.RequireFault.TheVariants as fault
+use Rattle.pep_require.proofs.BoundPieces.{begins_after, begins_run, blank_no_clause}
+use Rattle.pep_require.proofs.BoundPieces.{blank_no_equal, clause_no_blank, clause_no_equal}
+use Rattle.pep_require.proofs.BoundPieces.{found_operator, some_run}
+use Rattle.pep_require.proofs.ExtrasLaws.{AllZip-one}
 use Rattle.pep_tool.specs.Line.{IsOperand, ReadsBound, ReadsBounds, ReadsLine, RefusesBound}
 use Rattle.pep_tool.specs.Line.{RefusesBounds, RefusesFound, RefusesLine, RefusesLineAs}
 use Rattle.pep_tool.specs.Line.{RefusesOperand, RefusesPieces, after_operator, after_run}
@@ -42,12 +46,6 @@ use Rattle.pep_marker.proofs.RunLemmas.{run-span}
 pub clause_byte_small : (b : ℕ) → is_clause_byte b ≡ true → b < 128
 clause_byte_small b h = grind (arith, nat_tests)
 
-pub clause_no_blank : (b : ℕ) → is_clause_byte b ≡ true → is_blank_byte b ≡ false
-clause_no_blank b h = grind (arith, nat_tests)
-
-pub blank_no_clause : (b : ℕ) → is_blank_byte b ≡ true → is_clause_byte b ≡ false
-blank_no_clause b h = grind (arith, nat_tests)
-
 pub blank_no_name : (b : ℕ) → is_blank_byte b ≡ true → is_name_byte b ≡ false
 unfolding is_letter_or_digit
 blank_no_name b h = grind (arith, nat_tests)
@@ -59,12 +57,6 @@ letter_no_blank b h = grind (arith, nat_tests)
 pub letter_no_dash : (b : ℕ) → is_letter_or_digit b ≡ true → (b == 45) ≡ false
 unfolding is_letter_or_digit
 letter_no_dash b h = grind (arith, nat_tests)
-
-clause_no_equal : (b : ℕ) → is_clause_byte b ≡ true → (61 == b) ≡ false
-clause_no_equal b h = grind (arith, nat_tests)
-
-blank_no_equal : (b : ℕ) → is_blank_byte b ≡ true → (61 == b) ≡ false
-blank_no_equal b h = grind (arith, nat_tests)
 
 -- a text of bytes of a clause, or of a name, is UTF-8
 pub clause_text_utf8 : (x : List ℕ) → list_all is_clause_byte x ≡ true → IsUtf8 x
@@ -100,43 +92,11 @@ begins_part p byte (b ∷ x) part parts e some = by (b == byte) refl
 
 -- ---- what stands behind the operator
 
-some_run : (o : Op) (run : List ℕ) (c : Clause) → ClauseOf o run (Ok c) → run ≡ [] → ⊥
-some_run o run c s e = no-clause-of-nothing o c (subst (λ (x : List ℕ). ClauseOf o x (Ok c)) e s)
-
-begins_run : (p : ℕ → Bool) → ((b : ℕ) → is_clause_byte b ≡ true → p b ≡ false) →
-    (run rest : List ℕ) → (run ≡ [] → ⊥) → list_all is_clause_byte run ≡ true →
-    begins p (run ++ rest) ≡ false
-begins_run p off [] rest some h = absurd (some refl)
-begins_run p off (b ∷ run) rest some h =
-    off b (and_first (is_clause_byte b) (list_all is_clause_byte run) h)
-
 begins_blank : (p : ℕ → Bool) → ((b : ℕ) → is_blank_byte b ≡ true → p b ≡ false) → (rest : List ℕ) →
     list_all is_blank_byte rest ≡ true → begins p rest ≡ false
 begins_blank p off [] h = refl
 begins_blank p off (b ∷ rest) h =
     off b (and_first (is_blank_byte b) (list_all is_blank_byte rest) h)
-
-begins_after : (p : ℕ → Bool) → ((b : ℕ) → is_blank_byte b ≡ true → p b ≡ false) →
-    (space rest : List ℕ) → list_all is_blank_byte space ≡ true → begins p rest ≡ false →
-    begins p (space ++ rest) ≡ false
-begins_after p off [] rest h g = g
-begins_after p off (b ∷ space) rest h g =
-    off b (and_first (is_blank_byte b) (list_all is_blank_byte space) h)
-
--- an operator is found where no `=` follows it
-found_operator : (o : Op) (tail : List ℕ) → begins (λ b. 61 == b) tail ≡ false →
-    operator_of (operator_text o ++ tail) ≡ Some o
-found_operator op.Compatible tail h = refl
-found_operator op.NotEqual tail h = refl
-found_operator op.AtMost tail h = refl
-found_operator op.AtLeast tail h = refl
-found_operator op.Exact tail h = refl
-found_operator op.Equal [] h = refl
-found_operator op.Equal (b ∷ tail) h = rw h refl
-found_operator op.Less [] h = refl
-found_operator op.Less (b ∷ tail) h = rw h refl
-found_operator op.More [] h = refl
-found_operator op.More (b ∷ tail) h = rw h refl
 
 -- behind the operator and its white space a reader finds the run, and nothing behind it
 cut_behind : (run after : List ℕ) → list_all is_clause_byte run ≡ true →
@@ -319,17 +279,6 @@ one_bound x c d s t =
     subst (λ (l : List ℕ). ClauseOf t.operator l (Ok c)) runs
     (subst (λ (o : Op). ClauseOf o s.run (Ok c)) operators s.clause) in
     ok_told c d (one-answer t.operator t.run (Ok c) (Ok d) own t.clause (λ q. cc q) (λ q. cc q))
-
--- where at most one element belongs to each, at most one list belongs to a list
-pub AllZip-one : {A B : Type 0} (R : A → B → Type 0) → ((x : A) (r q : B) → R x r → R x q → r ≡ q) →
-    (xs : List A) (rs qs : List B) → AllZip R xs rs → AllZip R xs qs → rs ≡ qs
-AllZip-one R one [] [] [] z w = refl
-AllZip-one R one [] [] (q ∷ qs) z w = absurd w
-AllZip-one R one [] (r ∷ rs) qs z w = absurd z
-AllZip-one R one (x ∷ xs) [] qs z w = absurd z
-AllZip-one R one (x ∷ xs) (r ∷ rs) [] z w = absurd w
-AllZip-one R one (x ∷ xs) (r ∷ rs) (q ∷ qs) z w =
-    λ i. one x r q z.0 w.0 i ∷ AllZip-one R one xs rs qs z.1 w.1 i
 
 -- ---- what is found is read
 

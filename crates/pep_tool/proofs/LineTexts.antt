@@ -29,11 +29,8 @@ small_utf8 x h = IsUtf8-from_ascii x (ascii-class is_small small x h)
 
 small_append : (x y : List ℕ) → list_all is_small x ≡ true → list_all is_small y ≡ true →
     list_all is_small (x ++ y) ≡ true
-small_append [] y h g = g
-small_append (b ∷ x) y h g =
-    and_from (is_small b) (list_all is_small (x ++ y))
-    (and_first (is_small b) (list_all is_small x) h)
-    (small_append x y (and_second (is_small b) (list_all is_small x) h) g)
+small_append x y h g =
+    list_all-append is_small x y ∙ and_from (list_all is_small x) (list_all is_small y) h g
 
 blank_small : (x : List ℕ) → list_all is_blank_byte x ≡ true → list_all is_small x ≡ true
 blank_small [] h = refl

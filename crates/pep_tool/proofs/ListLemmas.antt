@@ -4,12 +4,13 @@ use Rattle.std.proofs.Common.{false, not, List, [], ◌∷◌, ◌++◌, length,
 use Rattle.std.proofs.Common.{sym, ap, subst, ◌∙◌, arith, inl, inr, append_assoc, append-nil}
 use Rattle.std.proofs.Common.{Option, Some, None}
 use Rattle.std.specs.Borrow.{Bor}
-use Rattle.std.specs.Prelude.{IfSome, IsSome, slice_index_or, filter, IsUtf8}
+use Rattle.std.specs.Prelude.{⊤, IfSome, IsSome, slice_index_or, filter, IsUtf8}
 use Rattle.std.specs.List.{All, AllByRecursion, AllZip, onto_first}
 use Rattle.std.proofs.lemmas.Bool.{cases_lt}
 use Rattle.std.proofs.lemmas.List.{map-append}
 use Rattle.std.proofs.lemmas.List.Elements.{filter-append}
-use Rattle.pep_require.specs.Reads.{line_limit}
+use Rattle.pep_require.specs.LineParts as requirement
+use Rattle.pep_require.specs.Reads.{Reads, line_limit}
 use Rattle.pep_require.specs.Requirement.{RequirementParts}
 use Rattle.pep_require.specs.declared.fault.RequireFault.{RequireFault}
 use Rattle.pep_require.specs.declared.fault.RequireFault.TheVariants as fault
@@ -17,13 +18,15 @@ use Rattle.pep_tool.specs.declared.fault.Cause.{Cause}
 use Rattle.pep_tool.specs.declared.fault.Cause.TheVariants as cause
 use Rattle.pep_tool.specs.declared.fault.LineFault.{LineFault}
 use Rattle.pep_tool.specs.declared.fault.LineFault.TheVariants as line_fault
-use Rattle.pep_tool.specs.Line.{ReadsLine}
-use Rattle.pep_tool.specs.Lists.{IsListOf, content, input_limit, is_skipped, lines_of}
-use Rattle.pep_tool.specs.Lists.{requirement_lines}
-use Rattle.pep_tool.specs.Refusal.{IsNumbered, IsRefusedLine, IsRefusedLineBy}
-use Rattle.pep_tool.specs.Refusal.{IsRefusedList}
+use Rattle.pep_require.proofs.LineLaws.{refused_is_not_read}
+use Rattle.pep_tool.specs.Line.{ReadsLine, RefusesLine}
+use Rattle.pep_tool.specs.Lists.{IsListBy, IsListOf, IsRequirementList, content, input_limit}
+use Rattle.pep_tool.specs.Lists.{is_skipped, lines_of, requirement_lines}
+use Rattle.pep_tool.specs.Refusal.{IsNumbered, IsOverflow, IsRefusedLineBy, IsRefusedList}
+use Rattle.pep_tool.specs.Refusal.{IsRefusedListBy, IsRefusedRequirementList}
 use Rattle.pep_tool.specs.Refusal.{by_content, by_encoding, by_length, by_line, by_size}
-use Rattle.pep_tool.specs.Sets.{Gathers, HasClause, IsGathered, IsGoodLine, IsReadOf, LineGives}
+use Rattle.pep_tool.specs.Sets.{Gathers, HasClause, IsGathered, IsGoodLine, IsGoodLineBy}
+use Rattle.pep_tool.specs.Sets.{IsReadOf, LineGives}
 use Rattle.pep_tool.specs.Sets.{LineParts, LinesGive, ListGives, MergesLine, MergesList, Pair}
 use Rattle.pep_tool.specs.Sets.{RefusesLineBytesBy, RefusesListBy, Sets, line_requirement, pairs_of}
 use Rattle.pep_version.specs.Split.{left_parts}
@@ -97,34 +100,37 @@ list_gives bytes ps size good gives =
 
 -- ---- a line of a list
 
+-- what a line is read as
+abbrev Reader : Type 1
+Reader = List ℕ → RequirementParts → Type 0
+
 at_seam : (xs : List (List ℕ)) (y : List ℕ) (ys : List (List ℕ)) (d : List ℕ) →
     slice_index_or (xs ++ y ∷ ys) (length xs) d ≡ y
 at_seam [] y ys d = refl
 at_seam (x ∷ xs) y ys d = at_seam xs y ys d
 
-zip_tail : (xs ys : List (List ℕ)) (rs : List RequirementParts) → AllZip ReadsLine (xs ++ ys) rs →
-    (more : List RequirementParts) × AllZip ReadsLine ys more
-zip_tail [] ys rs z = (rs, z)
-zip_tail (x ∷ xs) ys [] z = absurd z
-zip_tail (x ∷ xs) ys (r ∷ rs) z = zip_tail xs ys rs z.1
+zip_tail : (reads : Reader) (xs ys : List (List ℕ)) (rs : List RequirementParts) →
+    AllZip reads (xs ++ ys) rs → (more : List RequirementParts) × AllZip reads ys more
+zip_tail reads [] ys rs z = (rs, z)
+zip_tail reads (x ∷ xs) ys [] z = absurd z
+zip_tail reads (x ∷ xs) ys (r ∷ rs) z = zip_tail reads xs ys rs z.1
 
-zip_first : (x : List ℕ) (xs : List (List ℕ)) (rs : List RequirementParts) →
-    AllZip ReadsLine (x ∷ xs) rs → (r : RequirementParts) × ReadsLine x r
-zip_first x xs [] z = absurd z
-zip_first x xs (r ∷ rs) z = (r, z.0)
+zip_first : (reads : Reader) (x : List ℕ) (xs : List (List ℕ)) (rs : List RequirementParts) →
+    AllZip reads (x ∷ xs) rs → (r : RequirementParts) × reads x r
+zip_first reads x xs [] z = absurd z
+zip_first reads x xs (r ∷ rs) z = (r, z.0)
 
-kept_first : (line : List ℕ) (left : List (List ℕ)) (rs : List RequirementParts) →
-    is_skipped (content line) ≡ false →
-    AllZip ReadsLine (requirements_among (line ∷ left)) rs → (r : RequirementParts)
-    × ReadsLine (content line) r
-kept_first line left rs seen z =
-    zip_first (content line) (requirements_among left) rs (rw seen at z)
+kept_first : (reads : Reader) (line : List ℕ) (left : List (List ℕ)) (rs : List RequirementParts) →
+    is_skipped (content line) ≡ false → AllZip reads (requirements_among (line ∷ left)) rs →
+    (r : RequirementParts) × reads (content line) r
+kept_first reads line left rs seen z =
+    zip_first reads (content line) (requirements_among left) rs (rw seen at z)
 
 -- each line of a list is a good one
-pub line_of_list : (bytes : List ℕ) (done : List (List ℕ)) (line : List ℕ) (left : List (List ℕ))
-    (rs : List RequirementParts) →
-    lines_of bytes ≡ done ++ line ∷ left → IsListOf bytes rs → IsGoodLine line
-line_of_list bytes done line left rs e s =
+pub line_of_list : {reads : Reader} (bytes : List ℕ) (done : List (List ℕ)) (line : List ℕ)
+    (left : List (List ℕ)) (rs : List RequirementParts) → lines_of bytes ≡ done ++ line ∷ left →
+    IsListBy reads bytes rs → IsGoodLineBy reads line
+line_of_list {reads} bytes done line left rs e s =
     let place : length done < length (lines_of bytes) =
     rw (e, length-append done (line ∷ left)) (omega arith) in
     let here : slice_index_or (lines_of bytes) (length done) line ≡ line =
@@ -136,29 +142,58 @@ line_of_list bytes done line left rs e s =
     (map-append content done (line ∷ left))
     ∙ filter-append (λ x. not (is_skipped x)) (map content done) (map content (line ∷ left)) in
     let tail =
-    zip_tail (requirements_among done) (requirements_among (line ∷ left)) rs
-    (subst (λ (l : List (List ℕ)). AllZip ReadsLine l rs) split s.requirements) in
+    zip_tail reads (requirements_among done) (requirements_among (line ∷ left)) rs
+    (subst (λ (l : List (List ℕ)). AllZip reads l rs) split s.requirements) in
     record {
       short = subst (λ (l : List ℕ). length l ≤ line_limit) here (s.short (length done) line place);
       text = subst IsUtf8 here (s.texts (length done) line place);
-      requirement = λ seen. kept_first line left tail.0 seen tail.1;
+      requirement = λ seen. kept_first reads line left tail.0 seen tail.1;
     }
 
 -- ---- refusals
 
+-- what is refused with a fault of which this is known, is not read
+abbrev Excludes : (List ℕ → RequireFault → Type 0) → Reader → (RequireFault → Type 0) → Type 0
+Excludes refuses reads known =
+    (x : List ℕ) (r : RequirementParts) (f : RequireFault) → f ≢ fault.NoMemory → known f →
+    refuses x f → reads x r → ⊥
+
 -- a line that is refused is none that a list may have
-spoiled : (line : List ℕ) (f : LineFault) → IsRefusedLine line f → ¬ IsGoodLine line
-spoiled line f (by_length long e) good = absurd (omega (arith, long, good.short))
-spoiled line f (by_encoding short other e) good = other good.text
-spoiled line f (by_content g short text seen known refuses e) good =
-    let r = good.requirement seen in line_refused (content line) g r.0 known refuses r.1
+spoiled : {refuses : List ℕ → RequireFault → Type 0} {reads : Reader}
+    {known : RequireFault → Type 0} → Excludes refuses reads known → (line : List ℕ)
+    (f : LineFault) → ((g : RequireFault) → f ≡ line_fault.Requirement g → known g) →
+    IsRefusedLineBy refuses line f → ¬ IsGoodLineBy reads line
+spoiled out line f told (by_length long e) good = absurd (omega (arith, long, good.short))
+spoiled out line f told (by_encoding short other e) good = other good.text
+spoiled out line f told (by_content g short text seen memory refuses e) good =
+    let r = good.requirement seen in out (content line) r.0 g memory (told g e) refuses r.1
 
 -- bytes that are refused as a list are none
+refused_list_by : {refuses : List ℕ → RequireFault → Type 0} {reads : Reader}
+    {known : RequireFault → Type 0} → Excludes refuses reads known → (bytes : List ℕ) (c : Cause) →
+    ((number : ℕ) (g : RequireFault) → c ≡ cause.Line number (line_fault.Requirement g) →
+    known g) →
+    IsRefusedListBy refuses bytes c → (rs : List RequirementParts) → ¬ IsListBy reads bytes rs
+refused_list_by out bytes c told (by_size large e) rs s = absurd (omega (arith, large, s.size))
+refused_list_by out bytes c told (by_line number line f at refused e) rs s =
+    spoiled out line f (λ g same. told number g (e ∙ ap (cause.Line number) same)) refused
+    (line_of_list bytes at.before line at.behind rs at.whole s)
+
+-- .. of the lines that are merged today
 pub refused_list : (bytes : List ℕ) (c : Cause) → IsRefusedList bytes c →
     (rs : List RequirementParts) → ¬ IsListOf bytes rs
-refused_list bytes c (by_size large e) rs s = absurd (omega (arith, large, s.size))
-refused_list bytes c (by_line number line f at refused e) rs s =
-    spoiled line f refused (line_of_list bytes at.before line at.behind rs at.whole s)
+refused_list bytes c =
+    refused_list_by {refuses = RefusesLine} {reads = ReadsLine} {known = λ f. ⊤}
+    (λ x r f memory known h s. line_refused x f r memory h s) bytes c (λ number g e. tt)
+
+-- .. of whole requirement lines
+pub refused_requirement_list : (bytes : List ℕ) (c : Cause) (rs : List RequirementParts) →
+    ¬ IsOverflow c → IsRefusedRequirementList bytes c → ¬ IsRequirementList bytes rs
+refused_requirement_list bytes c rs told h =
+    refused_list_by {refuses = requirement.RefusesLine} {reads = Reads}
+    {known = λ f. f ≢ fault.UrlOverflow}
+    refused_is_not_read bytes c (λ number g e over. told
+    (number, subst (λ t. c ≡ cause.Line number (line_fault.Requirement t)) over e)) h rs
 
 known : (f : RequireFault) → (f ≡ fault.NoMemory) ⊎ (f ≢ fault.NoMemory)
 known fault.NoMemory = inl refl
@@ -172,8 +207,7 @@ known fault.OptionLine = inr (λ e. cc e)
 known fault.LineTooLong = inr (λ e. cc e)
 known fault.UrlOverflow = inr (λ e. cc e)
 
--- a fault of a line is no want of memory
--- the code's facts on lines stand for whatever a line is refused for
+-- a fault of a line is no want of memory, whatever a line is refused for
 line_known : {R : List ℕ → RequireFault → Type 0} (line : List ℕ) (f : LineFault) →
     IsRefusedLineBy R line f → f ≢ line_fault.Requirement fault.NoMemory
 line_known line f (by_length long e) memory = cc (e, memory)
@@ -202,8 +236,9 @@ line_refuses bytes line number f c at (inr refused) none told =
 
 -- the cause of a list that goes on behind its largest size
 cut_refuses : {R : List ℕ → RequireFault → Type 0} (bytes line : List ℕ) (number : ℕ) (c : Cause) →
-    input_limit < length bytes → ((longer : List ℕ) × IsNumbered (lines_of bytes) number longer × (length line ≤ length longer))
-    →
+    input_limit < length bytes →
+    ((longer : List ℕ) × IsNumbered (lines_of bytes) number longer
+    × (length line ≤ length longer)) →
     (line_limit < length line → c ≡ cause.Line number (line_fault.Requirement fault.LineTooLong)) →
     (length line ≤ line_limit → c ≡ cause.TooLarge) → RefusesListBy R bytes c
 cut_refuses {R} bytes line number c large at long fits = by (cases_lt line_limit (length line))

@@ -25,8 +25,8 @@ use Rattle.pep_tool.proofs.ListLemmas.{refused_list}
 use Rattle.pep_tool.specs.Sets.{InputsGive, ListGives, MergesInputs, MergesList, Pair, RefusesList}
 use Rattle.pep_tool.specs.Sets.{Sets, line_requirement, table_of}
 use Rattle.pep_tool.proofs.DemandLemmas.{PairsDemand, gathered_pairs}
-use Rattle.pep_tool.proofs.TableLemmas.{points_of_pairs, same_exact_points, same_table}
-use Rattle.pep_tool.proofs.TableLemmas.{table_of_pairs}
+use Rattle.pep_table.proofs.SameDemands.{same_exact_points, same_table}
+use Rattle.pep_tool.proofs.TableLemmas.{points_of_pairs, table_of_pairs}
 use Rattle.pep_tool.proofs.VerdictLemmas.{same_verdicts, shows_verdicts}
 
 -- ---- one input more
@@ -77,7 +77,8 @@ known bytes c (by_size large e) memory = cc (e, memory)
 known bytes c (by_line number line f at refused e) memory = cc (e, memory)
 
 -- the element at an index is numbered by the index and one
-numbered : (inputs : List Input) (k : ℕ) (i : Input) → k < length inputs → i ≡ get_or inputs k i →
+pub numbered : (inputs : List Input) (k : ℕ) (i : Input) → k < length inputs →
+    i ≡ get_or inputs k i →
     inputs ≡ take k inputs ++ i ∷ drop (k + 1) inputs
 numbered inputs k i lt is =
     sym (take-append-drop (k + 1) inputs)

@@ -1,6 +1,6 @@
 -- What the matches of the command line say of the plan.
 use Rattle.std.proofs.Common.{◌≡◌, ◌≢◌, ◌⊎◌, ℕ, ◌<◌, ◌==◌, map, List, [], ◌∷◌, length, Option, Some}
-use Rattle.std.proofs.Common.{None, Result, Ok, Err, IfErr, codes, true, ap, sym, refl, ◌∙◌, inl}
+use Rattle.std.proofs.Common.{None, Result, Ok, Err, IfErr, true, ap, sym, refl, ◌∙◌, inl}
 use Rattle.std.proofs.Common.{inr, arith, option_map, option_and_then, Bool, false, not}
 use Rattle.std.specs.Borrow.{Bor}
 use Rattle.std.specs.Box.{box_value}
@@ -9,7 +9,7 @@ use Rattle.std.specs.Prelude.{Box}
 use Rattle.clap.proofs.OnLiterals.{clap_on_literals}
 use Rattle.clap.proofs.WalkLemmas.{first_value-rows}
 use Rattle.clap.specs.Simple.{subcommand_rows}
-use Rattle.clap.specs.Words.{App, HasKind, HasMatchesOf, Kinds, Row, Text, fault_of, first_of}
+use Rattle.clap.specs.Words.{App, HasKind, HasMatchesOf, Kinds, Row, Text, fault_of}
 use Rattle.clap.specs.Words.{first_value, is_simple, is_simple_and_free, kind_of, rows_of}
 use Rattle.clap.specs.Words.{subcommand_name_of, subcommand_of, subcommand_rows_of}
 use Rattle.clap.specs.declared.error.Error.{Error}
@@ -21,7 +21,7 @@ use Rattle.clap.specs.declared.parser.matches.SubCommand.{SubCommand}
 use Rattle.pep_tool.specs.declared.fault.Fault.{Fault}
 use Rattle.pep_tool.specs.Run.{no_memory}
 use Rattle.pep_tool.specs.Plan.{AskNothing, Asks, IsBadWords, Request, program, request_of}
-use Rattle.pep_tool.specs.Plan.{show_version}
+use Rattle.pep_tool.specs.Plan.{text_met}
 
 -- ---- the command
 
@@ -54,22 +54,16 @@ name_of_rows : (m : ArgMatches) → subcommand_name_of m
     ≡ option_map (λ p. p.0) (subcommand_rows_of m)
 name_of_rows m = name_of_subcommand (out-ArgMatches m).subcommand
 
-shown_by : (o : Option (Bor (List ℕ))) (first : Option Text) → option_map (λ s. s.now) o ≡ first
-    → option_map (λ t. show_version t.now) o ≡ option_map show_version first
-shown_by None first e = rw (← e) refl
-shown_by (Some t) first e = rw (← e) refl
-
--- `version` was met, and this is its text
-pub request-version : (m : ArgMatches) (name : Text) (f : Found) (text : Option (Bor (List ℕ)))
-    → Some name ≡ subcommand_name_of m → Some (rows_of f)
+-- the command with this name was met, and this is its text
+pub text_of_met : (m : ArgMatches) (name met argument : Text) (f : Found)
+    (text : Option (Bor (List ℕ)))
+    → Some met ≡ subcommand_name_of m → Some (rows_of f)
     ≡ option_map (λ p. p.1) (subcommand_rows_of m)
-    → bytes_eq name (codes "version") ≡ true → option_map (λ s. s.now) text
-    ≡ first_value f (codes "TEXT")
-    → option_map (λ t. show_version t.now) text ≡ option_and_then request_of (subcommand_rows_of m)
-request-version m name f text named rows is first =
-    rw (pair_of (subcommand_rows_of m) name (rows_of f) (named ∙ name_of_rows m) rows, is)
-    (shown_by text (first_of (codes "TEXT") (rows_of f)) (first
-    ∙ first_value-rows f (codes "TEXT")))
+    → bytes_eq met name ≡ true → option_map (λ s. s.now) text ≡ first_value f argument →
+    option_map (λ s. s.now) text ≡ option_and_then (text_met name argument) (subcommand_rows_of m)
+text_of_met m name met argument f text named rows is first =
+    rw (pair_of (subcommand_rows_of m) met (rows_of f) (named ∙ name_of_rows m) rows, is)
+    (first ∙ first_value-rows f argument)
 
 -- ---- what clap answers
 

@@ -9,7 +9,7 @@ use Rattle.std.proofs.lemmas.List.Elements.{All-from_recursion, filter-append}
 use Rattle.pep_require.specs.Reads.{Reads, line_limit}
 use Rattle.pep_require.specs.Requirement.{RequirementParts}
 use Rattle.pep_tool.specs.Lists.{IsRequirementList, content, input_limit, is_skipped, lines_of}
-use Rattle.pep_tool.specs.RequirementLines.{TakesLine}
+use Rattle.pep_tool.specs.RequirementLines.{Adds, TakesLine}
 use Rattle.pep_require.specs.LineParts.{RefusesLine}
 use Rattle.pep_require.specs.declared.fault.RequireFault.{RequireFault}
 use Rattle.pep_tool.specs.declared.fault.LineFault.TheVariants as line_fault
@@ -108,6 +108,22 @@ all_read read number rs size s =
 
 -- ---- one line, as the code reads it
 
+-- what a line adds to nothing, it adds to others
+added_behind : (line : List ℕ) (rs more : List RequirementParts) → Adds line [] more →
+    Adds line rs (rs ++ more)
+added_behind line rs more (inl h) =
+    inl (h.0, ap (λ (l : List RequirementParts). rs ++ l) h.1 ∙ append-nil rs)
+added_behind line rs more (inr (kept, (r, reads, e))) =
+    inr (kept, (r, reads, ap (λ (l : List RequirementParts). rs ++ l) e))
+
+pub taken_behind : (line : List ℕ) (rs more : List RequirementParts) → TakesLine line [] more →
+    TakesLine line rs (rs ++ more)
+taken_behind line rs more t = record {
+  short = t.short;
+  text = t.text;
+  adds = added_behind line rs more t.adds;
+}
+
 pub skipped_line : (line content_now : List ℕ) (rs : List RequirementParts) →
     length line ≤ line_limit → content_now ≡ content line → IsUtf8 content_now →
     is_skipped content_now ≡ true → TakesLine line rs rs
@@ -146,7 +162,7 @@ no_text line now short e none =
 
 -- ---- the fault of a list
 
-known_cause : (bytes : List ℕ) (c : Cause) → IsRefusedListBy RefusesLine bytes c →
+pub known_cause : (bytes : List ℕ) (c : Cause) → IsRefusedListBy RefusesLine bytes c →
     c ≢ cause.NoMemory
 known_cause bytes c (by_size large e) memory = cc (e, memory)
 known_cause bytes c (by_line number line f at refused e) memory = cc (e, memory)

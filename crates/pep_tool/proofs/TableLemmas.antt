@@ -23,10 +23,10 @@ use Rattle.pep_clause.specs.OperatorTable.{set_of}
 use Rattle.pep_clause.specs.VersionSet.{IsNormal, IsPoint, Range, all_versions, is_point}
 use Rattle.pep_marker.specs.Name.{IsNormalName}
 use Rattle.pep_require.specs.Requirement.{IsAscending}
-use Rattle.pep_table.specs.Demand.{AdmitsBesideTexts, Demand, Demands, HaveSameDemands}
+use Rattle.pep_table.specs.Demand.{AdmitsBesideTexts, Demand}
 use Rattle.pep_table.specs.Demand.{RequirementDemands, presence, extra, url, clause, ranges}
 use Rattle.pep_table.specs.Table.{AdmitsPoint, EntryParts, HasExactPoints, IsEntry, IsTable}
-use Rattle.pep_table.specs.Table.{IsValidEntry, IsValidTable, TableParts, entry_at, names}
+use Rattle.pep_table.specs.Table.{IsValidEntry, IsValidTable, entry_at, names}
 use Rattle.pep_tool.specs.Sets.{HoldsClauses, IsGathered, IsPlainPair, KeepsClauses, Pair, Sets}
 use Rattle.pep_tool.specs.Sets.{clauses_on, named_entry, pair_requirement, plain_entry, set_at}
 use Rattle.pep_tool.specs.Sets.{table_of}
@@ -298,55 +298,3 @@ points_of_pairs ps sets g = λ name.
       λ m. (point-all_versions s cut m, point_demand name ps cut (sym (kept.0.points cut) ∙ m)),
       λ q. kept.0.points cut ∙ demands_point name ps cut q.1,
     )))
-
--- ---- the same for demands that are the same
-
-pub same_table : (Q W : Demands) (t : TableParts) → HaveSameDemands Q W → IsTable Q t → IsTable W t
-same_table Q W t same h = record {
-  valid = h.valid;
-  names = λ name. (
-    λ s. let q = (h.names name).0 s in (q.0, (same name q.0).0 q.1),
-    λ q. (h.names name).1 (q.0, (same name q.0).1 q.1),
-  );
-  entries = λ name. entry name (entry_at t name) (h.entries name);
-}
-  where
-    entry : (name : List ℕ) (o : Option EntryParts) → IfSome o (IsEntry (Q name)) →
-        IfSome o (IsEntry (W name))
-    entry name None e = tt
-    entry name (Some p) e = record {
-      extras =
-          λ x. (
-            (λ m. (same name (extra x)).0 ((e.extras x).0 m)),
-            λ q. (e.extras x).1 ((same name (extra x)).1 q),
-          );
-      urls = λ u. (
-        (λ m. (same name (url u)).0 ((e.urls u).0 m)),
-        λ q. (e.urls u).1 ((same name (url u)).1 q),
-      );
-      texts =
-          λ x. (
-            (λ m. (same name (clause (demanded x))).0 ((e.texts x).0 m)),
-            λ q. (e.texts x).1 ((same name (clause (demanded x))).1 q),
-          );
-      versions =
-          λ v is. (
-            (λ m d q. (e.versions v is).0 m d ((same name d).1 q)),
-            λ f. (e.versions v is).1 (λ d q. f d ((same name d).0 q)),
-          );
-    }
-
-pub same_exact_points : (Q W : Demands) (t : TableParts) → HaveSameDemands Q W →
-    HasExactPoints Q t → HasExactPoints W t
-same_exact_points Q W t same h = λ name. entry name (entry_at t name) (h name)
-  where
-    entry : (name : List ℕ) (o : Option EntryParts) →
-        IfSome o (λ e. (cut : Cut) → IsCut cut → IsPoint e.versions cut
-        ↔ (IsPoint all_versions cut × ((d : Demand) → Q name d → AdmitsPoint d cut))) →
-        IfSome o (λ e. (cut : Cut) → IsCut cut → IsPoint e.versions cut
-        ↔ (IsPoint all_versions cut × ((d : Demand) → W name d → AdmitsPoint d cut)))
-    entry name None e = tt
-    entry name (Some p) e = λ cut is. (
-      λ m. let both = (e cut is).0 m in (both.0, λ d q. both.1 d ((same name d).1 q)),
-      λ f. (e cut is).1 (f.0, λ d q. f.1 d ((same name d).0 q)),
-    )

@@ -6,17 +6,19 @@ use Rattle.pep_tool.specs.declared.fault.Cause.{Cause}
 use Rattle.pep_tool.specs.declared.fault.Cause.TheVariants.{TooLarge, Line, ReadFault, NoMemory}
 use Rattle.pep_tool.specs.declared.fault.Cause.TheVariants.{BadWords, BadArgument, WriteFault}
 use Rattle.pep_tool.specs.declared.fault.LineFault.{LineFault}
-use Rattle.pep_tool.specs.declared.fault.LineFault.TheVariants.{Requirement, NotUtf8}
+use Rattle.pep_tool.specs.declared.fault.LineFault.TheVariants.{Requirement, NotUtf8, Undefined}
 
 -- the code of a fault of a line
 abbrev pub line_code : LineFault → ℕ
 line_code (Requirement f) = require_code f
 line_code NotUtf8 = 51
+line_code Undefined = 28
 
 -- the code of the fault inside it, if there is one
 abbrev pub line_inner_code : LineFault → Option ℕ
 line_inner_code (Requirement f) = require_inner_code f
 line_inner_code NotUtf8 = None
+line_inner_code Undefined = None
 
 -- the code of a cause
 abbrev pub cause_code : Cause → ℕ

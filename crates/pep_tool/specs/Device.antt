@@ -1,16 +1,18 @@
 -- Devices that give or take bytes.
-use Rattle.std.specs.Prelude.{◌≡◌, ℕ, ◌+◌, ◌-◌, ◌^◌, ◌<◌, ⊤, Bool, false, List, take, Option}
-use Rattle.std.specs.Prelude.{Result, is_err, MatchResult}
+use Rattle.std.specs.Prelude.{◌≡◌, ℕ, ◌+◌, ◌-◌, ◌^◌, ◌<◌, ⊤, Bool, false, List, take}
+use Rattle.std.specs.Prelude.{Option, None, Result, is_err, MatchResult}
 use Rattle.std.specs.Io.KnownBytes.{Appends}
 
--- how many calls a device has had, and whether one has failed
+-- how many calls a device has had, whether one has failed, and, where that is told, which device it
+-- is
 pub record Device : Type 0 where
   pub calls : ℕ
   pub failed : Bool
+  pub identity : Option (List ℕ)
 
--- a device with no call
+-- a device with no call, which doesn't tell which it is
 abbrev pub fresh_device : Device
-fresh_device = record { calls = 0; failed = false }
+fresh_device = record { calls = 0; failed = false; identity = None }
 
 -- a reader or a writer whose calls are counted
 pub record Counting (D : Type 0) : Type 0 where
@@ -30,9 +32,10 @@ IsReady d = (d.failed ≡ false) × (d.calls < 2 ^ 64 - 1)
 abbrev pub IsFresh : Device → Type 0
 IsFresh d = (d.calls ≡ 0) × (d.failed ≡ false)
 
--- a call counts, and the device has failed exactly where the call did
+-- a call counts, the device has failed exactly where the call did, and it stays the same device
 abbrev pub CountsCall : {A E : Type 0} → Device → Device → Result A E → Type 0
 CountsCall old new result = (new.calls ≡ old.calls + 1) × (new.failed ≡ is_err result)
+    × (new.identity ≡ old.identity)
 
 -- Of a sink that tells its bytes: at Ok the text was written, and at a fault a part from its front
 abbrev pub WritesText : {E : Type 0} → List ℕ → Option (List ℕ) → Option (List ℕ) → Result ⊤ E →

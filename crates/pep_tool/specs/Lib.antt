@@ -7,7 +7,11 @@ pub mod Code
 pub mod InnerFault
 pub mod FaultLine
 pub mod Device
+pub mod Folder
 pub mod Plan
 pub mod Run
 pub mod Sets
 pub mod RequirementLines
+pub mod Gatherings
+pub mod GatheredLines
+pub mod ListedText

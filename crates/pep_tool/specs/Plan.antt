@@ -16,13 +16,13 @@ use Rattle.pep_tool.specs.declared.plan.Plan.TheVariants as plan
 
 -- ---- the command
 
--- the text of a version, which has to be there
-abbrev pub version_text : Rule
-version_text = record (new_rule (codes "TEXT")) { required = true; action = Some Set }
+-- a text that has to be there
+abbrev pub text_argument : Text → Rule
+text_argument argument = record (new_rule argument) { required = true; action = Some Set }
 
--- `version TEXT`
-abbrev pub version_command : App
-version_command = with_rule (new_app (codes "version")) version_text
+-- a command with one such text: `version TEXT`, `lines FILE`
+abbrev pub text_command : Text → Text → App
+text_command name argument = with_rule (new_app name) (text_argument argument)
 
 -- the program: one of its commands is wanted, and its own name is not among the words
 abbrev pub bare_program : App
@@ -33,26 +33,40 @@ bare_program =
           true;
     }) (new_app (codes "tubrambutan"))
 
+abbrev pub version_command : App
+version_command = text_command (codes "version") (codes "TEXT")
+
+abbrev pub lines_command : App
+lines_command = text_command (codes "lines") (codes "FILE")
+
 abbrev pub program : App
-program = with_subcommand bare_program version_command.top
+program =
+    with_subcommand (with_subcommand bare_program version_command.top) lines_command.top
 
 -- ---- what words ask for
 
--- what the program is asked to do: the table of its input, or the normal text of a version
+-- what the program is asked to do: the table of its input, the normal text of a version, or the
+-- requirements of the file with a path
 pub data Request : Type 0 where
   standard : Request
   show_version : Text → Request
+  show_lines : Text → Request
 
 -- what a plan says
 abbrev pub request : Plan → Request
 request plan.Standard = standard
 request (plan.ShowVersion text) = show_version (string_bytes text)
+request (plan.ShowLines file) = show_lines (string_bytes file)
+
+-- the text that a command with this name was given for its argument, where it was met
+abbrev pub text_met : Text → Text → Text × List Row → Option Text
+text_met name argument met = if bytes_eq met.0 name then first_of argument met.1 else None
 
 -- what a command that was met asks for, by the values of its arguments
 abbrev pub request_of : Text × List Row → Option Request
 request_of met =
     if bytes_eq met.0 (codes "version") then option_map show_version (first_of (codes "TEXT") met.1)
-    else None
+    else option_map show_lines (text_met (codes "lines") (codes "FILE") met)
 
 -- No words ask for the table of the input. Else clap finds no fault in the words, and the command
 -- that it meets in them says what they ask for.

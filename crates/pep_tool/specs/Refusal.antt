@@ -64,6 +64,11 @@ IsRefusedList bytes c = IsRefusedListBy RefusesLine bytes c
 abbrev pub IsRefusedRequirementList : List ℕ → Cause → Type 0
 IsRefusedRequirementList bytes c = IsRefusedListBy requirement.RefusesLine bytes c
 
+-- the reader of URLs answered its own overflow, of which nothing is known
+abbrev pub IsOverflow : Cause → Type 0
+IsOverflow c =
+    (number : ℕ) × (c ≡ cause.Line number (line_fault.Requirement require.UrlOverflow))
+
 -- why bytes are refused as an input of this kind
 abbrev pub IsRefused : Kind → List ℕ → Cause → Type 0
 IsRefused kind.List bytes c = IsRefusedList bytes c

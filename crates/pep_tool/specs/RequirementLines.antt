@@ -1,7 +1,10 @@
 -- What a line adds to the requirements of the lines before it: the code's way.
+use Rattle.std.specs.Prelude.{Option, Some, None}
 use Rattle.std.specs.Prelude.{◌≡◌, ℕ, ◌≤◌, ◌⊎◌, true, false, List, [], ◌∷◌, ◌++◌, length, IsUtf8}
 use Rattle.pep_require.specs.Reads.{Reads, line_limit}
 use Rattle.pep_require.specs.Requirement.{RequirementParts}
+use Rattle.pep_require.specs.View.{requirement_parts}
+use Rattle.pep_require.specs.declared.requirement.Requirement.{Requirement}
 use Rattle.pep_tool.specs.Lists.{content, is_skipped}
 
 -- the line is skipped, and adds nothing; or it adds the requirement that its content is read as
@@ -16,3 +19,8 @@ pub record TakesLine (line : List ℕ) (old new : List RequirementParts) : Type 
   pub short : length line ≤ line_limit
   pub text : IsUtf8 line
   pub adds : Adds line old new
+
+-- the requirements that a line has: one, or none
+abbrev pub some_parts : Option Requirement → List RequirementParts
+some_parts None = []
+some_parts (Some r) = requirement_parts r ∷ []

@@ -144,12 +144,16 @@ abbrev pub MeansLine : List ℕ → List ℕ → List Range → Type 0
 MeansLine x name s =
     (cs : List Clause) × ReadsLine x (plain_requirement name cs) × ArePlain cs × HoldsClauses cs s
 
--- a line that a list may have
-pub record IsGoodLine (line : List ℕ) : Type 0 where
+-- a line that a list may have, by what a line is read as
+pub record IsGoodLineBy (reads : List ℕ → RequirementParts → Type 0) (line : List ℕ) : Type 0 where
   pub short : length line ≤ line_limit
   pub text : IsUtf8 line
   pub requirement : is_skipped (content line) ≡ false → (r : RequirementParts)
-      × ReadsLine (content line) r
+      × reads (content line) r
+
+-- .. by the lines that are merged today
+abbrev pub IsGoodLine : List ℕ → Type 0
+IsGoodLine line = IsGoodLineBy ReadsLine line
 
 -- the line is one that a list may have, and the second map keeps what it gives
 abbrev pub MergesLine : List ℕ → Sets → Sets → Type 0

@@ -28,6 +28,7 @@ pub struct Counted<D> {
 }
 
 impl<D> Model for Counted<D> {
+    ghost use Rattle.std.specs.Prelude.{None};
     ghost use Rattle.pep_tool.specs.Device.{Counting};
 
     ghost Value = { Counting D };
@@ -35,7 +36,7 @@ impl<D> Model for Counted<D> {
     ghost view = { λ s. record {
       inner = s.inner;
       device =
-          record { calls = s.calls; failed = s.failed };
+          record { calls = s.calls; failed = s.failed; identity = None };
     } };
 }
 

@@ -38,16 +38,20 @@ pub enum LineFault {
     /// 51: the line isn't UTF-8.
     #[error("not UTF-8")]
     NotUtf8,
+    /// 28: the requirement has a marker that is undefined in the environment.
+    #[error("a marker is undefined in the environment")]
+    Undefined,
 }
 
 impl LineFault {
-    /// The code of the fault: 31 to 40, see [`RequireFault::code`], or 51.
+    /// The code of the fault: 31 to 40, see [`RequireFault::code`], 51 or 28.
     pub fn code(self) -> u64
         ensures { result ≡ line_code self }
     {
         match self {
             LineFault::Requirement(fault) => fault.code(),
             LineFault::NotUtf8 => 51,
+            LineFault::Undefined => 28,
         }
     }
 
@@ -58,7 +62,7 @@ impl LineFault {
     {
         match self {
             LineFault::Requirement(fault) => fault.inner_code(),
-            LineFault::NotUtf8 => None,
+            LineFault::NotUtf8 | LineFault::Undefined => None,
         }
     }
 }
@@ -105,7 +109,7 @@ pub enum Cause {
     /// 57: a line is refused. Lines are counted from 1.
     #[error("line {0}: {1}")]
     Line(u64, LineFault),
-    /// 58: a read failed.
+    /// 58: a read failed, or a file can't be opened.
     #[error("a read failed")]
     ReadFault,
     /// 60: a growth was refused.

@@ -3,6 +3,8 @@
 
 mod device;
 mod fault;
+mod folder;
+mod gathering;
 mod input;
 pub mod laws;
 mod line;
@@ -17,9 +19,11 @@ mod write;
 
 pub use crate::device::{Bytes, Counted, Failed, Sink, Source};
 pub use crate::fault::{Cause, Fault, LineFault, Place};
+pub use crate::folder::{Disk, Folder, OpenFault};
+pub use crate::gathering::gather;
 pub use crate::input::{Input, Kind};
 pub use crate::lines::list_of;
 pub use crate::merge::merge_bytes;
 pub use crate::plan::{Plan, plan_of};
-pub use crate::program::run;
+pub use crate::program::{run, run_in};
 pub use crate::write::write_text;

@@ -1,23 +1,29 @@
-//! A list as requirements, one on each line.
+//! A list as requirements, one on each line, and their texts.
 
 ghost use Rattle.std.specs.Prelude.{
   ◌≡◌,
   ◌⊎◌,
   ◌≤◌,
+  ◌++◌,
+  [],
   List,
   ℕ,
   IfErr,
   IfOk,
   IsTrue,
   OnOk,
+  codes,
   length,
   map,
+  string_bytes,
 };
 ghost use Rattle.pep_require.specs.LineParts.{RefusesLine};
+ghost use Rattle.pep_require.specs.RequirementText.{requirement_text};
 ghost use Rattle.pep_require.specs.View.{requirement_parts};
+ghost use Rattle.pep_tool.specs.ListedText.{listed_text};
 ghost use Rattle.pep_tool.specs.Lists.{IsRequirementList, input_limit};
 ghost use Rattle.pep_tool.specs.Refusal.{IsRefusedRequirementList};
-ghost use Rattle.pep_tool.specs.RequirementLines.{TakesLine};
+ghost use Rattle.pep_tool.specs.RequirementLines.{TakesLine, some_parts};
 ghost use Rattle.pep_tool.specs.Run.{no_memory};
 ghost use Rattle.pep_tool.specs.Sets.{IsReadOf, RefusesLineBytesBy, RefusesListBy};
 
@@ -90,14 +96,9 @@ fn requirements_read(alloc: Global, read: &[u8], fits: bool) -> Result<Vec<Requi
     Ok(requirements)
 }
 
-// Takes the requirement on a line behind these, if the line isn't skipped.
-fn take_line(
-    alloc: Global,
-    requirements: &mut Vec<Requirement>,
-    line: &[u8],
-) -> Result<(), LineFault>
-    ensures ok { OnOk result (TakesLine line.now (map requirement_parts requirements.old.items)
-        (map requirement_parts requirements.new.items)) }
+/// The requirement on a line, or none if the line is skipped.
+pub(crate) fn requirement_on(alloc: Global, line: &[u8]) -> Result<Option<Requirement>, LineFault>
+    ensures ok { IfOk result (λ found. TakesLine line.now [] (some_parts found)) }
     ensures refused { IfErr result (RefusesLineBytesBy RefusesLine line.now) }
 {
     if line.len() > LINE_LIMIT {
@@ -108,14 +109,64 @@ fn take_line(
         return Err(LineFault::NotUtf8);
     };
     if is_skipped(content) {
-        return Ok(());
+        return Ok(None);
     }
-    let requirement = match Requirement::read(alloc, text) {
-        Ok(requirement) => requirement,
-        Err(fault) => return Err(LineFault::Requirement(fault)),
+    match Requirement::read(alloc, text) {
+        Ok(requirement) => Ok(Some(requirement)),
+        Err(fault) => Err(LineFault::Requirement(fault)),
+    }
+}
+
+// Takes the requirement on a line behind these, if the line isn't skipped.
+fn take_line(
+    alloc: Global,
+    requirements: &mut Vec<Requirement>,
+    line: &[u8],
+) -> Result<(), LineFault>
+    ensures ok { OnOk result (TakesLine line.now (map requirement_parts requirements.old.items)
+        (map requirement_parts requirements.new.items)) }
+    ensures refused { IfErr result (RefusesLineBytesBy RefusesLine line.now) }
+{
+    let requirement = match requirement_on(alloc, line) {
+        Ok(Some(requirement)) => requirement,
+        Ok(None) => return Ok(()),
+        Err(fault) => return Err(fault),
     };
     match requirements.push(requirement) {
         Ok(()) => Ok(()),
         Err(_) => Err(LineFault::Requirement(RequireFault::NoMemory)),
     }
+}
+
+// Appends the text of a requirement and a line feed.
+fn push_requirement(
+    alloc: Global,
+    text: &mut String,
+    requirement: &Requirement,
+) -> Result<(), Fault>
+    ensures text { OnOk result (string_bytes text.new ≡ string_bytes text.old
+        ++ (requirement_text (requirement_parts requirement.now) ++ codes "\n")) }
+    ensures faults { IfErr result (λ fault. fault ≡ no_memory) }
+{
+    match requirement.text(alloc) {
+        Ok(written) => {
+            text.push_str(written.as_str())?;
+            text.push_str("\n")?;
+            Ok(())
+        }
+        Err(_) => Err(Fault::no_memory()),
+    }
+}
+
+/// The text of each requirement and a line feed. The only fault is want of memory.
+pub(crate) fn lines_text(alloc: Global, requirements: &[Requirement]) -> Result<String, Fault>
+    ensures text { IfOk result (λ text.
+        string_bytes text ≡ listed_text (map requirement_parts requirements.now)) }
+    ensures faults { IfErr result (λ fault. fault ≡ no_memory) }
+{
+    let mut text = String::new(alloc);
+    for requirement in requirements {
+        push_requirement(alloc, &mut text, requirement)?;
+    }
+    Ok(text)
 }

@@ -8,12 +8,14 @@ ghost use Rattle.std.specs.Prelude.{
   IfOk,
   None,
   Some,
+  false,
   map,
   option_and_then,
   option_map,
   string_bytes,
 };
 ghost use Rattle.clap.specs.Words.{app_of, kind_of, subcommand_rows_of};
+ghost use Rattle.clap.specs.declared.builder.command.Command.TheViews.{out-Command};
 ghost use Rattle.pep_tool.specs.Plan.{
   AskNothing,
   Asks,
@@ -21,7 +23,8 @@ ghost use Rattle.pep_tool.specs.Plan.{
   program,
   request,
   request_of,
-  show_version,
+  text_command,
+  text_met,
 };
 ghost use Rattle.pep_tool.specs.Run.{no_memory};
 
@@ -37,25 +40,53 @@ pub enum Plan {
     Standard,
     /// `version TEXT`: the normal text of a version.
     ShowVersion { text: String },
+    /// `lines FILE`: the requirements of a list, which is the file with this path.
+    ShowLines { file: String },
+}
+
+// A command that wants one text.
+fn text_command<'a>(
+    alloc: Global,
+    name: &'a str,
+    about: &'a str,
+    argument: &'a str,
+    help: &'a str,
+) -> Result<Command<'a>, AllocError>
+    ensures shape { IfOk result (λ c. app_of c ≡ text_command name.now argument.now) }
+    ensures local { IfOk result (λ c. (out-Command c).has_globals ≡ false) }
+{
+    let text = Arg::new(alloc, argument)
+        .required(true)
+        .action(ArgAction::Set)
+        .help(help);
+    Command::new(alloc, name).about(about).arg(text)
 }
 
 // The command line. Its texts of help and usage are for people, and no clause speaks of them.
 fn program<'a>(alloc: Global) -> Result<Command<'a>, AllocError>
     ensures { IfOk result (λ c. app_of c ≡ program) }
 {
-    let text = Arg::new(alloc, "TEXT")
-        .required(true)
-        .action(ArgAction::Set)
-        .help("A version, in any spelling of PEP 440");
-    let version = Command::new(alloc, "version")
-        .about("Prints the normal text of a version")
-        .arg(text)?;
-    Command::new(alloc, "tubrambutan")
+    let version = text_command(
+        alloc,
+        "version",
+        "Prints the normal text of a version",
+        "TEXT",
+        "A version, in any spelling of PEP 440",
+    )?;
+    let lines = text_command(
+        alloc,
+        "lines",
+        "Prints the requirements of a list, one on each line",
+        "FILE",
+        "The path of the list",
+    )?;
+    let with_version = Command::new(alloc, "tubrambutan")
         .about("Merges Python requirements; without words, the list on standard input")
         .bin_name("tubrambutan")?
         .no_binary_name(true)
         .subcommand_required(true)
-        .subcommand(version)
+        .subcommand(version)?;
+    with_version.subcommand(lines)
 }
 
 // The fault of words that clap refuses, with its text.
@@ -75,16 +106,16 @@ fn words_fault(alloc: Global, error: &Error) -> Fault
     }
 }
 
-// The text of `version TEXT`, where that command was met.
-fn version_text<'a>(matches: &ArgMatches<'a>) -> Option<&'a str>
-    ensures { option_map (λ text. show_version text.now) result
-        ≡ option_and_then request_of (subcommand_rows_of matches.now) }
+// The text that the command with this name was given, where it was met.
+fn text_met<'a>(matches: &ArgMatches<'a>, name: &str, argument: &str) -> Option<&'a str>
+    ensures { option_map (λ text. text.now) result
+        ≡ option_and_then (text_met name.now argument.now) (subcommand_rows_of matches.now) }
 {
-    let (name, found) = matches.subcommand()?;
-    if name != "version" {
+    let (met, found) = matches.subcommand()?;
+    if met != name {
         return None;
     }
-    found.get_str("TEXT")
+    found.get_str(argument)
 }
 
 // The plan of the command that was met.
@@ -95,14 +126,19 @@ fn plan_met(alloc: Global, matches: &ArgMatches<'_>) -> Result<Plan, Fault>
         ⊎ (IsBadWords fault
         × (option_and_then request_of (subcommand_rows_of matches.now) ≡ None))) }
 {
-    let Some(text) = version_text(matches) else {
-        return Err(Fault {
-            place: Place::Nowhere,
-            cause: Cause::BadWords(String::new(alloc)),
+    if let Some(text) = text_met(matches, "version", "TEXT") {
+        return Ok(Plan::ShowVersion {
+            text: String::from_str(alloc, text)?,
         });
-    };
-    Ok(Plan::ShowVersion {
-        text: String::from_str(alloc, text)?,
+    }
+    if let Some(file) = text_met(matches, "lines", "FILE") {
+        return Ok(Plan::ShowLines {
+            file: String::from_str(alloc, file)?,
+        });
+    }
+    Err(Fault {
+        place: Place::Nowhere,
+        cause: Cause::BadWords(String::new(alloc)),
     })
 }
 

@@ -1,6 +1,6 @@
 //! The text of the table that the sets stand for.
 
-ghost use Rattle.std.specs.Prelude.{◌≡◌, ◌++◌, codes, string_bytes, IfErr, IfOk, OnOk};
+ghost use Rattle.std.specs.Prelude.{◌≡◌, ◌++◌, string_bytes, IfErr, IfOk, OnOk};
 ghost use Rattle.std.specs.BTreeMap.{IsOrdered};
 ghost use Rattle.pep_clause.specs.Cut.{cut_text};
 ghost use Rattle.pep_table.specs.TableText.{IsTableText};

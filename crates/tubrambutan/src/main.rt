@@ -1,7 +1,6 @@
 //! The program. Without words it merges the list of requirements on standard input and prints its
-//! table;
-//! `version TEXT` prints the normal text of a version. A refusal is told on standard error, with
-//! status 2.
+//! table; `version TEXT` prints the normal text of a version, `lines FILE` the requirements of a
+//! list. A refusal is told on standard error, with status 2.
 #![tactic(auto)]
 
 use pep_tool::{Counted, run};

@@ -33,11 +33,11 @@ impl<'a> Bytes<'a> {
 }
 
 impl<'a> Source for Bytes<'a> {
-    ghost use Rattle.std.specs.Prelude.{Some, false};
+    ghost use Rattle.std.specs.Prelude.{None, Some, false};
 
     ghost left = { λ s. Some s.left };
 
-    ghost device = { λ s. record { calls = s.calls; failed = false } };
+    ghost device = { λ s. record { calls = s.calls; failed = false; identity = None } };
 
     fn pull(&mut self, buf: &mut [u8]) -> Result<usize, Failed> {
         self.calls += 1;

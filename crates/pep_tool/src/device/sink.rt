@@ -13,7 +13,7 @@ pub trait Sink {
     /// The bytes written, where the device tells them.
     ghost written: { Self → Option (List ℕ) } = { λ _. None };
 
-    /// Its calls, and whether one failed.
+    /// Its calls, whether one failed, and which device it is, where that is told.
     ghost device: { Self → Device };
 
     /// Writes some bytes of the front of `buf`, and answers how many. A call that takes no byte of

@@ -13,7 +13,7 @@ pub trait Source {
     /// The bytes left, where the device tells them.
     ghost left: { Self → Option (List ℕ) } = { λ _. None };
 
-    /// Its calls, and whether one failed.
+    /// Its calls, whether one failed, and which device it is, where that is told.
     ghost device: { Self → Device };
 
     /// Reads some bytes to the front of `buf`, and answers how many. None into a slice that isn't

@@ -1,38 +1,25 @@
-use Rattle.std.proofs.Common.{◌∷◌, ◌∙◌, [], ap, map, sym}
+use Rattle.std.proofs.Common.{◌∷◌, ◌∙◌, [], ap, map, sym, subst, Option}
 use Rattle.std.proofs.lemmas.List.{map-append}
 use Rattle.pep_require.specs.View.{requirement_parts}
-use Rattle.pep_tool.proofs.RequirementLists.{no_text, read_line, refused_line, skipped_line}
+use Rattle.pep_require.specs.declared.requirement.Requirement.{Requirement}
+use Rattle.pep_tool.specs.RequirementLines.{TakesLine, some_parts}
+use Rattle.pep_tool.proofs.RequirementLists.{taken_behind}
 use Rattle.pep_tool.proofs.lines.take_line.Goals as goal
-use Rattle.pep_tool.proofs.lines.take_line.Goals.{in-Err-push, in-Ok-push}
-
-pub returns-in_default-clause-refused : goal.returns-in_default-clause-refused
-returns-in_default-clause-refused c =
-    no_text c.args.line.now c.content-content.result.now c.if-line-gt-LINE_LIMIT.false
-    c.content-content.ensures c.in_default.ensures.cases.0
-
-pub returns-then-is_skipped-clause-ok : goal.returns-then-is_skipped-clause-ok
-returns-then-is_skipped-clause-ok c =
-    skipped_line c.args.line.now c.content-content.result.now _ c.if-line-gt-LINE_LIMIT.false
-    c.content-content.ensures c.in-Ok.ensures.cases.1
-    (sym c.is_skipped.ensures ∙ c.if-is_skipped.true)
-
-pub returns-in-Err-clause-refused : goal.returns-in-Err-clause-refused
-returns-in-Err-clause-refused c =
-    refused_line c.args.line.now c.content-content.result.now c.in-Ok.text.now c.in-Err.fault
-    c.if-line-gt-LINE_LIMIT.false c.content-content.ensures c.in-Ok.ensures.cases.0
-    c.in-Ok.ensures.cases.1 (sym c.is_skipped.ensures ∙ c.if-is_skipped.false)
-    c.in-Err.ensures.refused
+use Rattle.pep_tool.proofs.lines.take_line.Goals.{in-Err-push, in-Ok}
 
 pub returns-clause-ok : goal.returns-clause-ok
 returns-clause-ok c =
+    let old = map requirement_parts c.args.requirements.now.items in
+    let one = requirement_parts c.in-Ok-Some.requirement ∷ [] in
+    let own : TakesLine c.args.line.now [] one =
+    subst (λ (o : Option Requirement). TakesLine c.args.line.now [] (some_parts o))
+    c.in-Ok-Some.field-0-is c.in-Ok-Some.ensures.ok in
     elim c.match-push.branch [
-      | in-Ok-push w ↦ rw w.result-is
-          (read_line c.args.line.now c.content-content.result.now c.in-Ok.text.now
-          (requirement_parts c.in-Ok-read.requirement) _ _ c.if-line-gt-LINE_LIMIT.false
-          c.content-content.ensures c.in-Ok.ensures.cases.0 c.in-Ok.ensures.cases.1
-          (sym c.is_skipped.ensures ∙ c.if-is_skipped.false) c.in-Ok-read.ensures.ok
-          (ap (map requirement_parts) w.in-Ok-push.ensures.items
+      | in-Ok w ↦ rw w.result-is
+          (subst (TakesLine c.args.line.now old)
+          (sym (ap (map requirement_parts) w.in-Ok.ensures.items
           ∙ map-append requirement_parts c.args.requirements.now.items
-          (c.in-Ok-read.requirement ∷ [])))
+          (c.in-Ok-Some.requirement ∷ [])))
+          (taken_behind c.args.line.now old one own))
       | in-Err-push w ↦ rw w.result-is tt
     ]

@@ -10,6 +10,6 @@ returns-in_err-text-clause-refused g c =
 
 pub returns-clause-refused : goal.returns-clause-refused
 returns-clause-refused g c =
-    Refuses-from_write c.write_text.result (map string_bytes c.args.words.now) _ _ _ _ _
+    Refuses-from_write c.write_text.result _ _ _ (map string_bytes c.args.words.now) _ _ _ _ _
     c.in_ok-text.ensures.answers c.in_ok-text.ensures.no_failure c.write_text.ensures.failed
     c.write_text.ensures.faults

@@ -1,6 +1,7 @@
-use Rattle.pep_tool.proofs.Refusals.{TellsRefusal-from_tells}
 use Rattle.pep_tool.proofs.program.run.Goals as goal
 
-pub returns-in-Err-clause-told : goal.returns-in-Err-clause-told
-returns-in-Err-clause-told g c =
-    λ _. TellsRefusal-from_tells _ _ _ _ _ _ _ _ _ c.in-Err.ensures.refused c.tell.ensures
+pub returns-clause-printed : goal.returns-clause-printed
+returns-clause-printed g c = c.run_in.ensures.printed
+
+pub returns-clause-told : goal.returns-clause-told
+returns-clause-told g c = c.run_in.ensures.told
