@@ -104,6 +104,14 @@ fn words_that_are_refused(rt: HostRuntime) -> Result<(), Fail> {
             ["version", "1", "2"].as_slice(),
             "refused code 61\nerror: unexpected argument '2' found\n\nUsage: tubrambutan version <TEXT>\n\nFor more information, try '--help'.\n",
         ),
+        (
+            ["lines"].as_slice(),
+            "refused code 61\nerror: the following required arguments were not provided:\n  <FILE>\n\nUsage: tubrambutan lines <FILE>\n\nFor more information, try '--help'.\n",
+        ),
+        (
+            ["lines", "a", "b"].as_slice(),
+            "refused code 61\nerror: unexpected argument 'b' found\n\nUsage: tubrambutan lines <FILE>\n\nFor more information, try '--help'.\n",
+        ),
     ] {
         let it = ran(&rt, words)?;
         assert_eq!(rt; it.told.as_str(), told);
@@ -135,8 +143,14 @@ fn plans(rt: HostRuntime) -> Result<(), Fail> {
     let words = owned(rt.alloc(), &["version", "1.0"])?;
     let text = match plan_of(rt.alloc(), words.as_slice()).expect(&rt, "a plan") {
         Plan::ShowVersion { text } => text,
-        Plan::Standard => String::new(rt.alloc()),
+        _ => String::new(rt.alloc()),
     };
     assert_eq!(rt; text.as_str(), "1.0");
+    let words = owned(rt.alloc(), &["lines", "--", "-f"])?;
+    let file = match plan_of(rt.alloc(), words.as_slice()).expect(&rt, "a plan") {
+        Plan::ShowLines { file } => file,
+        _ => String::new(rt.alloc()),
+    };
+    assert_eq!(rt; file.as_str(), "-f");
     Ok(())
 }

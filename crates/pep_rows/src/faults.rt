@@ -2,7 +2,7 @@
 
 use pep_clause::ClauseFault;
 use pep_require::RequireFault;
-use pep_tool::{Cause, Failed, Fault, LineFault, Place};
+use pep_tool::{Cause, Failed, Fault, LineFault, OpenFault, Place};
 use pep_vectors::faults::{REQUIRE_FAULTS, VERSION_FAULTS};
 use pep_version::VersionFault;
 use std::alloc::AllocGlobal;
@@ -26,7 +26,14 @@ fn codes(rt: HostRuntime) -> Result<(), Fail> {
     }
     assert_eq!(rt; LineFault::NotUtf8.code(), 51);
     assert!(rt; LineFault::NotUtf8.inner_code().is_none());
-    is_told(&rt, &LineFault::NotUtf8, "not UTF-8")
+    is_told(&rt, &LineFault::NotUtf8, "not UTF-8")?;
+    assert_eq!(rt; LineFault::Undefined.code(), 28);
+    assert!(rt; LineFault::Undefined.inner_code().is_none());
+    is_told(
+        &rt,
+        &LineFault::Undefined,
+        "a marker is undefined in the environment",
+    )
 }
 
 #[test]
@@ -80,5 +87,7 @@ fn texts_of_faults(rt: HostRuntime) -> Result<(), Fail> {
     ] {
         is_told(&rt, &Fault::from(fault), want)?;
     }
-    is_told(&rt, &Failed, "a read or a write failed")
+    is_told(&rt, &Failed, "a read or a write failed")?;
+    is_told(&rt, &OpenFault::CannotOpen, "a file can't be opened")?;
+    is_told(&rt, &OpenFault::NoMemory, "out of memory")
 }

@@ -12,4 +12,5 @@ fn states_laws() {
     laws::one_line();
     laws::one_list();
     laws::refused_is_not_accepted();
+    laws::refused_list_is_not_read();
 }

@@ -9,6 +9,10 @@ mod example;
 #[cfg(test)]
 mod faults;
 #[cfg(test)]
+mod files;
+#[cfg(test)]
+mod gathered;
+#[cfg(test)]
 mod large;
 #[cfg(test)]
 mod laws;
@@ -20,6 +24,8 @@ mod lines;
 mod lists;
 #[cfg(test)]
 mod operators;
+#[cfg(test)]
+mod published;
 #[cfg(test)]
 mod requirements;
 #[cfg(test)]

@@ -4,26 +4,30 @@ use pep_tool::{Fault, Input, Kind, merge_bytes};
 use std::alloc::Global;
 use std::test::Fail;
 
-// The table of the list of these pieces, each so many times, or the line of the fault.
-fn told(alloc: Global, pieces: &[(&[u8], u32)]) -> Result<String, Fault> {
+// A list: pieces, and how often each stands.
+pub(crate) type Pieces<'a> = &'a [(&'a [u8], u32)];
+
+pub(crate) fn list(alloc: Global, pieces: Pieces) -> Result<Vec<u8>, Fault> {
     let mut bytes = Vec::new(alloc);
     for (piece, times) in pieces {
         for _ in 0..*times {
             bytes.extend_from_slice(piece)?;
         }
     }
+    Ok(bytes)
+}
+
+// The table of the list of these pieces, or the line of the fault.
+fn told(alloc: Global, pieces: Pieces) -> Result<String, Fault> {
     let inputs = [Input {
         kind: Kind::List,
-        bytes,
+        bytes: list(alloc, pieces)?,
     }];
     match merge_bytes(alloc, &inputs) {
         Ok(text) => Ok(text),
         Err(fault) => fault.text(alloc),
     }
 }
-
-// A list: pieces, and how often each stands.
-type Pieces<'a> = &'a [(&'a [u8], u32)];
 
 const TOO_LONG: &str = "refused input 1 line 1 code 57 38\n";
 
@@ -59,7 +63,7 @@ const TOO_LARGE: &str = "refused input 1 code 56\n";
 
 #[test]
 fn inputs(rt: HostRuntime) -> Result<(), Fail> {
-    let rows: [(Pieces, &str); 6] = [
+    let rows: [(Pieces, &str); 7] = [
         (&[(b"\n", 16777216)], ""),
         (&[(b"\n", 16777217)], TOO_LARGE),
         // Where a line's fault and the limit fall on one byte, the limit is told.
@@ -73,6 +77,10 @@ fn inputs(rt: HostRuntime) -> Result<(), Fail> {
         (
             &[(b"-\n", 1), (b"\n", 16777217)],
             "refused input 1 line 1 code 57 37\n",
+        ),
+        (
+            &[(b"\n", 16711679), (b"#", 65538)],
+            "refused input 1 line 16711680 code 57 38\n",
         ),
     ];
     for &(pieces, want) in &rows {

@@ -15,11 +15,12 @@ const TABLE: &str = "flask open\n  range before 2 to before 3.dev0\n";
 const PIECE: usize = 7;
 
 // A call with a number that no run reaches.
-const NEVER: u64 = u64::MAX;
+pub(crate) const NEVER: u64 = u64::MAX;
 
-// A reader that gives a few bytes at a time, and whose call of this number fails.
+// A reader with a name that gives a few bytes at a time, and whose call of this number fails.
 #[derive(Drop)]
-struct Reader<'a> {
+pub(crate) struct Reader<'a> {
+    name: &'a str,
     rest: &'a [u8],
     calls: u64,
     failed: bool,
@@ -33,7 +34,16 @@ impl<'a> Reader<'a> {
         ensures calls { result.calls ≡ 0 }
         ensures failed { result.failed ≡ false }
     {
+        Reader::named("", rest, fails_at)
+    }
+
+    pub(crate) fn named(name: &'a str, rest: &'a [u8], fails_at: u64) -> Self
+        ensures name { result.name.now ≡ name.now }
+        ensures calls { result.calls ≡ 0 }
+        ensures failed { result.failed ≡ false }
+    {
         Reader {
+            name,
             rest,
             calls: 0,
             failed: false,
@@ -43,7 +53,13 @@ impl<'a> Reader<'a> {
 }
 
 impl Source for Reader<'_> {
-    ghost device = { λ s. record { calls = s.calls; failed = s.failed } };
+    ghost use Rattle.std.specs.Prelude.{Some};
+
+    ghost device = { λ s. record {
+      calls = s.calls;
+      failed = s.failed;
+      identity = Some s.name.now;
+    } };
 
     fn pull(&mut self, buf: &mut [u8]) -> Result<usize, Failed> {
         self.calls += 1;
@@ -85,9 +101,9 @@ impl Endless {
 }
 
 impl Source for Endless {
-    ghost use Rattle.std.specs.Prelude.{false};
+    ghost use Rattle.std.specs.Prelude.{None, false};
 
-    ghost device = { λ s. record { calls = s.calls; failed = false } };
+    ghost device = { λ s. record { calls = s.calls; failed = false; identity = None } };
 
     fn pull(&mut self, buf: &mut [u8]) -> Result<usize, Failed> {
         self.calls += 1;
@@ -133,7 +149,9 @@ impl Writer {
 }
 
 impl Sink for Writer {
-    ghost device = { λ s. record { calls = s.calls; failed = s.failed } };
+    ghost use Rattle.std.specs.Prelude.{None};
+
+    ghost device = { λ s. record { calls = s.calls; failed = s.failed; identity = None } };
 
     fn push(&mut self, buf: &[u8]) -> Result<usize, Failed> {
         self.calls += 1;

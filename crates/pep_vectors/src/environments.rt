@@ -1,24 +1,10 @@
 //! Environments of markers: which pairs make one, what is wrong with others, and the normal form of
 //! texts beside `extra`.
 
+use crate::machine::MACHINE;
 use pep_marker::{Environment, MarkerFault, Variable, norm_of};
 use std::alloc::{AllocError, Global};
 use std::test::Fail;
-
-// In the order of the variables.
-pub(crate) const MACHINE: [(&str, &str); 11] = [
-    ("os_name", "posix"),
-    ("sys_platform", "linux"),
-    ("platform_machine", "x86_64"),
-    ("platform_python_implementation", "CPython"),
-    ("platform_release", "6.1.0-18-amd64"),
-    ("platform_system", "Linux"),
-    ("platform_version", "#1 SMP"),
-    ("python_version", "3.9"),
-    ("python_full_version", "3.9.18"),
-    ("implementation_name", "cpython"),
-    ("implementation_version", "3.9.18"),
-];
 
 const VARIABLES: [Variable; 11] = [
     Variable::OsName,
@@ -154,5 +140,18 @@ fn normal_texts(rt: HostRuntime) -> Result<(), Fail> {
     for (text, want) in rows {
         assert_eq!(rt; norm_of(rt.alloc(), text)?.as_str(), want, "at {text}");
     }
+    Ok(())
+}
+
+#[test]
+fn long_normal_text(rt: HostRuntime) -> Result<(), Fail> {
+    let mut text = String::new(rt.alloc());
+    let mut wanted = String::new(rt.alloc());
+    for _ in 0..20_000 {
+        text.push_str("\u{c9}A_.")?;
+        wanted.push_str("\u{c9}a-")?;
+    }
+    let found = norm_of(rt.alloc(), text.as_str())?;
+    assert!(rt; found.as_str() == wanted.as_str());
     Ok(())
 }

@@ -13,6 +13,7 @@ mod environments;
 pub mod faults;
 #[cfg(test)]
 mod large;
+pub mod machine;
 #[cfg(test)]
 mod markers;
 #[cfg(test)]
@@ -23,5 +24,7 @@ mod ordered;
 mod requirements;
 #[cfg(test)]
 mod sets;
+#[cfg(test)]
+mod tables;
 #[cfg(test)]
 mod versions;

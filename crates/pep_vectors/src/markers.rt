@@ -1,6 +1,6 @@
 //! Markers: which texts are read, how they are written, and what they say in an environment.
 
-use crate::environments::MACHINE;
+use crate::machine::MACHINE;
 use pep_marker::{Environment, Marker, MarkerFault};
 use std::alloc::Global;
 use std::test::Fail;
@@ -357,6 +357,17 @@ fn comparisons_and_faults(rt: HostRuntime) -> Result<(), Fail> {
         let text = repeated(rt.alloc(), front, "'a'=='a' or ", 1024, "'a'=='a'")?;
         let fault = fault_of(rt.alloc(), text.as_str());
         assert_eq!(rt; fault, Some(MarkerFault::BadMarker), "behind {front}");
+    }
+    Ok(())
+}
+
+#[test]
+fn truth_of_many_comparisons(rt: HostRuntime) -> Result<(), Fail> {
+    let machine = Environment::of(rt.alloc(), &MACHINE)?;
+    for (behind, truth) in [("os_name=='posix'", true), ("os_name=='nt'", false)] {
+        let text = repeated(rt.alloc(), "", "python_version>='3' and ", 1023, behind)?;
+        let found = truth_of(rt.alloc(), &machine, text.as_str());
+        assert!(rt; found == Ok(truth), "at {behind}");
     }
     Ok(())
 }

@@ -1,6 +1,6 @@
 //! Requirement lines by PEP 508: what they are read as, their texts, and what is wrong with others.
 
-use crate::environments::MACHINE;
+use crate::machine::MACHINE;
 use pep_clause::ClauseFault;
 use pep_marker::{Environment, MarkerFault};
 use pep_require::{RequireFault, Requirement, Target, UrlText, laws};
