@@ -1,22 +1,11 @@
 -- Joining all items of a list to a start: the result is the least value that the start and the
 -- items are below, so the order of the items, their grouping and their repeats do not count.
-use Rattle.std.proofs.Common.{◌≡◌, ℕ, zero, suc, ◌<◌, List, [], ◌∷◌, length, refl, subst, sym, ◌∙◌}
-use Rattle.std.proofs.Common.{arith}
+use Rattle.std.proofs.Common.{◌≡◌, List, [], ◌∷◌, refl, subst, sym, ◌∙◌}
+use Rattle.std.proofs.lemmas.List.Elements.{All-cons, All-contains, All-head, All-nil, All-tail}
 use Rattle.std.specs.List.{All, Contains}
-use Rattle.std.specs.Prelude.{◌↔◌, slice_index_or}
+use Rattle.std.specs.Prelude.{◌↔◌}
+use Rattle.pep_table.proofs.Members.{in_first, in_none, in_rest}
 use Rattle.pep_table.specs.Join.{IsJoin, JoinsAll}
-
-first_in : {X : Type 0} (x : X) (xs : List X) → Contains (x ∷ xs) x
-first_in x xs = (0, omega arith, refl)
-
-later_in : {X : Type 0} (x y : X) (xs : List X) → Contains xs y → Contains (x ∷ xs) y
-later_in x y xs h = (suc h.0, omega (arith, h.1), h.2)
-
-none_in : {X : Type 0} {x : X} → Contains [] x → ⊥
-none_in m = omega (arith, m.1)
-
-rest_of : {X : Type 0} (P : X → Type 0) (x : X) (xs : List X) → All P (x ∷ xs) → All P xs
-rest_of P x xs h = λ k d below. h (suc k) d (omega (arith, below))
 
 module _ {X : Type 0} {IsValue : X → Type 0} {Joins : X → X → X → Type 0}
     (laws : IsJoin IsValue Joins) where
@@ -62,28 +51,23 @@ module _ {X : Type 0} {IsValue : X → Type 0} {Joins : X → X → X → Type 0
 
   items_below : (a : X) (xs : List X) (b : X) → IsValue a → All IsValue xs →
       JoinsAll IsValue Joins a xs b → All (λ x. Below x b) xs
-  items_below a [] b v vs h = λ k d below. absurd (omega (arith, below))
-  items_below a (x ∷ xs) b v vs h =
-      λ k d below. by k d below (items_below h.0 xs b h.1 (rest_of IsValue x xs vs) h.3)
-    where
-      by : (k : ℕ) (d : X) → k < length (x ∷ xs) → All (λ x. Below x b) xs →
-          Below (slice_index_or (x ∷ xs) k d) b
-      by zero d below rest =
-          below_trans x h.0 b h.1 (result_value h.0 xs b h.1 h.3)
-          (second_below a x h.0 (vs 0 d below) h.1 h.2) (start_below h.0 xs b h.1 h.3)
-      by (suc k) d below rest = rest k d (omega (arith, below))
+  items_below a [] b v vs h = All-nil (λ x. Below x b)
+  items_below a (x ∷ xs) b v vs h = All-cons (λ x. Below x b) x xs
+      (below_trans x h.0 b h.1 (result_value h.0 xs b h.1 h.3)
+      (second_below a x h.0 (All-head IsValue x xs vs) h.1 h.2) (start_below h.0 xs b h.1 h.3))
+      (items_below h.0 xs b h.1 (All-tail IsValue x xs vs) h.3)
 
   item_below : (a : X) (xs : List X) (b x : X) → IsValue a → All IsValue xs →
       JoinsAll IsValue Joins a xs b → Contains xs x → Below x b
   item_below a xs b x v vs h m =
-      subst (λ y. Below y b) m.2 (items_below a xs b v vs h m.0 x m.1)
+      All-contains (λ y. Below y b) xs x (items_below a xs b v vs h) m
 
   least_of_all : (a : X) (xs : List X) (b d : X) → IsValue d → JoinsAll IsValue Joins a xs b →
       Below a d → ((x : X) → Contains xs x → Below x d) → Below b d
   least_of_all a [] b d w h f g = subst (λ y. Below y d) h f
   least_of_all a (x ∷ xs) b d w h f g =
-      least_of_all h.0 xs b d w h.3 (join_least a x h.0 d h.1 w h.2 f (g x (first_in x xs)))
-      (λ y m. g y (later_in x y xs m))
+      least_of_all h.0 xs b d w h.3 (join_least a x h.0 d h.1 w h.2 f (g x (in_first x xs x refl)))
+      (λ y m. g y (in_rest x xs y m))
 
   -- lists of values with the same members, joined to one start, give one value
   values_alike : (a : X) (xs ys : List X) (b c : X) → IsValue a → All IsValue xs →
@@ -100,20 +84,15 @@ module _ {X : Type 0} {IsValue : X → Type 0} {Joins : X → X → X → Type 0
 
   -- the items that are joined are values
   items_values : (a : X) (xs : List X) (b : X) → JoinsAll IsValue Joins a xs b → All IsValue xs
-  items_values a [] b h = λ k d below. absurd (omega (arith, below))
-  items_values a (x ∷ xs) b h = λ k d below. by k d below (items_values h.0 xs b h.3)
-    where
-      by : (k : ℕ) (d : X) → k < length (x ∷ xs) → All IsValue xs →
-          IsValue (slice_index_or (x ∷ xs) k d)
-      by zero d below rest = h.5
-      by (suc k) d below rest = rest k d (omega (arith, below))
+  items_values a [] b h = All-nil IsValue
+  items_values a (x ∷ xs) b h = All-cons IsValue x xs h.5 (items_values h.0 xs b h.3)
 
   -- lists with the same members, joined to one start, give one value
   pub joined_alike : (a : X) (xs ys : List X) (b c : X) →
       ((x : X) → Contains xs x ↔ Contains ys x) → JoinsAll IsValue Joins a xs b →
       JoinsAll IsValue Joins a ys c → b ≡ c
   joined_alike a [] [] b c same h g = sym h ∙ g
-  joined_alike a [] (y ∷ ys) b c same h g = absurd (none_in ((same y).1 (first_in y ys)))
+  joined_alike a [] (y ∷ ys) b c same h g = absurd (in_none y ((same y).1 (in_first y ys y refl)))
   joined_alike a (x ∷ xs) ys b c same h g =
       values_alike a (x ∷ xs) ys b c h.4 (items_values a (x ∷ xs) b h) (items_values a ys c g) same
       h g

@@ -1,7 +1,7 @@
 -- The entries of a table by their places.
 use Rattle.std.proofs.Common.{◌≡◌, ℕ, zero, suc, ◌+◌, ◌<◌, ◌≤◌, Bool, true, false, List, [], ◌∷◌}
-use Rattle.std.proofs.Common.{◌++◌, length, take, drop, get_or, Option, Some, None, refl, sym, ap, subst}
-use Rattle.std.proofs.Common.{◌∙◌, inl, inr, arith}
+use Rattle.std.proofs.Common.{◌++◌, length, take, drop, get_or, Option, Some, None, refl, sym, ap}
+use Rattle.std.proofs.Common.{subst, ◌∙◌, inl, inr, arith}
 use Rattle.std.specs.Prelude.{bytes_eq, nat_lt, slice_index_or}
 use Rattle.std.specs.List.Sorted.{IsNonDecreasingBy, IsPartitionPoint}
 use Rattle.std.specs.Cmp.Lexicographic.{nat_list_cmp_total}
@@ -18,7 +18,7 @@ use Rattle.pep_require.proofs.Ascending.{IsIn, first_below, irreflexive, rest_as
 use Rattle.pep_table.specs.Join.{JoinsAt, JoinsTables}
 use Rattle.pep_table.specs.OneText.{absent, entry_first, entry_other, eq_true, name_there}
 use Rattle.pep_table.specs.Table.{EntryParts, IsValidTable, TableParts, entry_at, names}
-use Rattle.pep_table.specs.TableLaws.{left_kept}
+use Rattle.pep_table.specs.TableLaws.{alone, left_kept}
 use Rattle.pep_table.proofs.KeptSets.{above, same_text, text_cmp}
 
 abbrev Named : Type 0
@@ -58,11 +58,7 @@ other_entry (q ∷ t) p n other = by (bytes_eq q.0 n) refl (other_entry t p n ot
 
 -- joined with nothing
 pub joins_none : (a : TableParts) → IsValidTable a → JoinsTables a [] a
-joins_none a v = record { valid = v; entries = λ q. none (entry_at a q) }
-  where
-    none : (o : Option EntryParts) → JoinsAt o None o
-    none None = refl
-    none (Some e) = refl
+joins_none a v = record { valid = v; entries = λ q. alone (entry_at a q) }
 
 -- joined with one entry more
 pub joins_next : (a b c t more rest : TableParts) (p : Named) → JoinsTables a t b →

@@ -1,9 +1,10 @@
 -- Which versions have the demanded texts of an entry.
-use Rattle.std.proofs.Common.{◌≡◌, ◌≢◌, ℕ, ◌<◌, ◌≤◌, List, [], ◌∷◌, length, refl, sym, ap, subst, ◌∙◌}
-use Rattle.std.proofs.Common.{arith, Result, Ok, Err, IfOk, false, Bool}
+use Rattle.std.proofs.Common.{◌≡◌, ◌≢◌, ℕ, ◌<◌, ◌≤◌, List, [], ◌∷◌, length, refl, sym, ap, subst}
+use Rattle.std.proofs.Common.{◌∙◌, arith, Result, Ok, Err, IfOk, false, Bool}
 use Rattle.std.specs.Prelude.{◌↔◌, IsTrue, slice_index_or}
 use Rattle.std.specs.List.{All}
-use Rattle.std.proofs.lemmas.List.Elements.{All-push}
+use Rattle.std.proofs.lemmas.List.Elements.{All-cons, All-nil}
+use Rattle.std.proofs.lemmas.Result.{IfOk-weaker}
 use Rattle.std.specs.declared.cmp.Ordering.TheVariants.{Less}
 use Rattle.pep_version.specs.Spelling.{Reads, Spells}
 use Rattle.pep_version.specs.Text.{normal_text}
@@ -23,12 +24,12 @@ use Rattle.pep_table.proofs.KeptSets.{text_cmp}
 -- ---- by the number of texts
 
 all_one : (v : Version) (t : List ℕ) → normal_text v ≡ t → All (λ x. normal_text v ≡ x) (t ∷ [])
-all_one v t e = All-push (λ x. normal_text v ≡ x) [] t (λ k d lt. absurd (omega (arith, lt))) e
+all_one v t e = All-cons (λ x. normal_text v ≡ x) t [] e (All-nil (λ x. normal_text v ≡ x))
 
 pub fits_none : (e : EntryParts) (v : Version) → e.texts ≡ [] → FitsEntry e v ↔ In e.versions v
 fits_none e v none = (
   λ fits. fits.0,
-  λ m. (m, subst (All (λ t. normal_text v ≡ t)) (sym none) (λ k d lt. absurd (omega (arith, lt)))),
+  λ m. (m, subst (All (λ t. normal_text v ≡ t)) (sym none) (All-nil (λ t. normal_text v ≡ t))),
 )
 
 pub fits_one : (e : EntryParts) (v : Version) (t : List ℕ) → e.texts ≡ t ∷ [] →
@@ -96,13 +97,8 @@ refused_has text NoMemory ranges r f reads memory none =
 
 pub same_answer : {E : Type 0} (P Q : Type 0) (r : Result Bool E) → P ↔ Q →
     IfOk r (λ b. IsTrue b ↔ P) → IfOk r (λ b. IsTrue b ↔ Q)
-same_answer P Q (Ok b) both h = ((λ t. both.0 (h.0 t)), λ q. h.1 (both.1 q))
-same_answer P Q (Err e) both h = tt
-
-pub if_ok : {A E : Type 0} (P Q : A → Type 0) (r : Result A E) → ((a : A) → P a → Q a) →
-    IfOk r P → IfOk r Q
-if_ok P Q (Ok a) f h = f a h
-if_ok P Q (Err e) f h = tt
+same_answer P Q r both h = IfOk-weaker r (λ b. IsTrue b ↔ P) (λ b. IsTrue b ↔ Q)
+    (λ b g. ((λ t. both.0 (g.0 t)), λ q. g.1 (both.1 q))) h
 
 -- a list of one
 pub single : {A : Type 0} (xs : List A) (x : A) → 1 ≤ length xs → length xs < 2 →

@@ -1,9 +1,10 @@
 -- The requirements that are taken one by one, up to the first whose marker is undefined.
 use Rattle.std.proofs.Common.{◌≡◌, ◌≢◌, ℕ, suc, ◌+◌, ◌<◌, List, [], ◌∷◌, ◌++◌, length}
-use Rattle.std.proofs.Common.{take, drop, get_or, map, refl, sym, ap, subst, ◌∙◌, inl, inr, ◌⊎◌, arith}
-use Rattle.std.proofs.Common.{Result, Ok, Err, IfOk}
-use Rattle.std.proofs.lemmas.List.{length-take-le, map-append}
+use Rattle.std.proofs.Common.{take, drop, get_or, map, sym, ap, subst, ◌∙◌, inl, inr, ◌⊎◌, arith}
+use Rattle.std.proofs.Common.{Result, IfOk}
+use Rattle.std.proofs.lemmas.List.{length-map, length-take-le, map-append, map_more}
 use Rattle.std.proofs.lemmas.List.Elements.{All-from_recursion}
+use Rattle.std.proofs.lemmas.Result.{IfOk-weaker}
 use Rattle.std.specs.List.{All, AllByRecursion}
 use Rattle.pep_marker.specs.Environment.{EnvironmentParts}
 use Rattle.pep_marker.specs.declared.fault.MarkerFault.{MarkerFault}
@@ -14,7 +15,6 @@ use Rattle.pep_table.specs.Table.{TableParts}
 use Rattle.pep_table.specs.declared.fault.TableFault.{TableFault}
 use Rattle.pep_table.specs.declared.fault.TableFault.TheVariants as table_fault
 use Rattle.pep_table.proofs.EntryPlaces.{whole}
-use Rattle.pep_table.proofs.KeptSets.{next_taken}
 
 -- where requirements are taken, the marker of each is defined
 defined : (e : EnvironmentParts) (s : TableParts) (rs : List RequirementParts) (t : TableParts) →
@@ -27,14 +27,10 @@ pub all_defined : (e : EnvironmentParts) (s : TableParts) (rs : List Requirement
 all_defined e s rs t taken =
     All-from_recursion (HasDefinedMarker e) rs (defined e s rs t taken)
 
-pub map_length : {A B : Type 0} (f : A → B) (xs : List A) → length (map f xs) ≡ length xs
-map_length f [] = refl
-map_length f (x ∷ xs) = ap suc (map_length f xs)
-
 pub next_mapped : {A B : Type 0} (f : A → B) (xs : List A) (i : ℕ) (x : A) →
     x ≡ get_or xs i x → i < length xs → map f (take (i + 1) xs) ≡ map f (take i xs) ++ f x ∷ []
 next_mapped f xs i x is lt =
-    ap (map f) (next_taken xs i x is lt) ∙ map-append f (take i xs) (x ∷ [])
+    map_more f xs i x lt ∙ ap (λ y. map f (take i xs) ++ f y ∷ []) (sym is)
 
 -- the requirement behind those that are taken is the first whose marker is undefined
 pub first_undefined : {A : Type 0} (parts : A → RequirementParts) (e : EnvironmentParts)
@@ -57,22 +53,16 @@ first_undefined {A} parts e s t xs i x fault given is lt taken (inr why) memory 
       defined = all_defined e s (map parts (take i xs)) t taken;
       undefined = why.1;
       is = undefined (λ same. apart (sym same ∙ why.0))
-          ∙ ap (λ n. table_fault.Undefined (n + 1)) (sym (map_length parts (take i xs)
-          ∙ taken_length));
+          ∙ ap (λ n. table_fault.Undefined (n + 1)) (sym taken_length);
     })
   where
     apart : marker_fault.NoMemory ≡ marker_fault.Undefined → ⊥
     apart same = cc same
 
-    taken_length : length (take i xs) ≡ i
-    taken_length = length-take-le i xs (omega (arith, lt))
+    taken_length : length (map parts (take i xs)) ≡ i
+    taken_length = length-map (take i xs) parts ∙ length-take-le i xs (omega (arith, lt))
 
 -- what is made of a gathering is its table
 pub table_made : {E : Type 0} (P : TableParts → Type 0) (r : Result TableParts E) (g : TableParts) →
     P g → IfOk r (λ t. t ≡ g) → IfOk r P
-table_made P (Ok t) g h same = subst P (sym same) h
-table_made P (Err e) g h same = tt
-
-pub where_made : {E : Type 0} {X : Type 0} (r : Result TableParts E) → X → IfOk r (λ t. X)
-where_made (Ok t) x = x
-where_made (Err e) x = tt
+table_made P r g h same = IfOk-weaker r (λ t. t ≡ g) P (λ t e. subst P (sym e) h) same

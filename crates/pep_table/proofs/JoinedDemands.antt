@@ -2,6 +2,8 @@
 -- the table of its own demands.
 use Rattle.std.proofs.Common.{◌≡◌, ℕ, ◌&&◌, List, refl, sym, subst, ◌∙◌, inl, inr, ◌⊎◌}
 use Rattle.std.proofs.Common.{Option, Some, None}
+use Rattle.std.proofs.Math.Logic.{⊎_map}
+use Rattle.std.proofs.lemmas.Option.{IfSome_then}
 use Rattle.std.specs.Prelude.{◌↔◌, IfSome, IsSome}
 use Rattle.pep_version.proofs.Connectives.{and_from, and_parts}
 use Rattle.pep_version.proofs.PlaceLemmas.{place-of-place, place-version}
@@ -57,11 +59,6 @@ same_exact Q W e same h = λ cut is. (
   λ f. (h cut is).1 (f.0, λ d q. f.1 d ((same d).0 q)),
 )
 
-pub if_some : (P R : EntryParts → Type 0) (o : Option EntryParts) → ((e : EntryParts) → P e → R e) →
-    IfSome o P → IfSome o R
-if_some P R None f h = tt
-if_some P R (Some e) f h = f e h
-
 same_named : (Q W : Demand → Type 0) (o : Option EntryParts) → ((d : Demand) → Q d ↔ W d) →
     (IsSome o ↔ ((d : Demand) × Q d)) → IsSome o ↔ ((d : Demand) × W d)
 same_named Q W o same h = (
@@ -73,22 +70,14 @@ pub same_at : (Q W : Demand → Type 0) (o : Option EntryParts) → ((d : Demand
     HasEntry Q o → HasEntry W o
 same_at Q W o same h = record {
   named = same_named Q W o same h.named;
-  entry = if_some (IsEntry Q) (IsEntry W) o (λ e. same_entry Q W e same) h.entry;
-  points = if_some (ExactEntry Q) (ExactEntry W) o (λ e. same_exact Q W e same) h.points;
+  entry = IfSome_then o h.entry (λ e. same_entry Q W e same);
+  points = IfSome_then o h.points (λ e. same_exact Q W e same);
 }
 
 -- ---- joined entries
 
 pub either : {A B C D E : Type 0} → E ↔ (A ⊎ B) → A ↔ C → B ↔ D → E ↔ (C ⊎ D)
-either {A} {B} {C} {D} {E} h f g = ((λ e. there (h.0 e)), λ s. h.1 (back s))
-  where
-    there : A ⊎ B → C ⊎ D
-    there (inl a) = inl (f.0 a)
-    there (inr b) = inr (g.0 b)
-
-    back : C ⊎ D → A ⊎ B
-    back (inl c) = inl (f.1 c)
-    back (inr d) = inr (g.1 d)
+either h f g = ((λ e. ⊎_map f.0 g.0 (h.0 e)), λ s. h.1 (⊎_map f.1 g.1 s))
 
 -- what all demands of both give
 pub from_both : (Q W P : Demand → Type 0) → ((d : Demand) → Q d → P d) →
@@ -183,8 +172,7 @@ joined_at : (P : (Demand → Type 0) → EntryParts → Type 0) → IsJoined P �
     IfSome o (P Q) → IfSome p (P W) → JoinsAt o p r → IfSome r (P (λ d. Q d ⊎ W d))
 joined_at P k Q W None p r n m h g j =
     subst (λ (o : Option EntryParts). IfSome o (P (λ d. Q d ⊎ W d))) (sym (right_kept p r j))
-    (if_some (P W) (P (λ d. Q d ⊎ W d)) p
-    (λ e. k.same W (λ d. Q d ⊎ W d) e (right_same Q W n)) g)
+    (IfSome_then p g (λ e. k.same W (λ d. Q d ⊎ W d) e (right_same Q W n)))
 joined_at P k Q W (Some a) None r n m h g j =
     subst (λ (o : Option EntryParts). IfSome o (P (λ d. Q d ⊎ W d))) (sym j)
     (k.same Q (λ d. Q d ⊎ W d) a (left_same Q W m) h)

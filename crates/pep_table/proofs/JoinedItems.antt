@@ -1,5 +1,6 @@
 -- The value joined with each item in turn, item by item.
-use Rattle.std.proofs.Common.{◌≡◌, List, [], ◌∷◌, ◌++◌, map, refl, subst, sym, ap}
+use Rattle.std.proofs.Common.{List, [], ◌∷◌, ◌++◌, map, refl, subst, sym}
+use Rattle.std.proofs.lemmas.List.{map_push}
 use Rattle.std.specs.Borrow.{Bor}
 use Rattle.pep_table.specs.Join.{JoinsAll}
 
@@ -17,10 +18,6 @@ pub joined_last : {X : Type 0} (IsValue : X → Type 0) (Joins : X → X → X �
     IsValue b → IsValue x.now → IsValue c → Joins b x.now c →
     JoinsAll IsValue Joins a (map (λ (y : Bor X). y.now) (xs ++ x ∷ [])) c
 joined_last {X} IsValue Joins a b c xs x all left right is h =
-    subst (λ (l : List X). JoinsAll IsValue Joins a l c) (sym (mapped xs))
+    subst (λ (l : List X). JoinsAll IsValue Joins a l c)
+    (sym (map_push (λ (y : Bor X). y.now) xs x))
     (last IsValue Joins a b c (map (λ (y : Bor X). y.now) xs) x.now all left right is h)
-  where
-    mapped : (ys : List (Bor X)) → map (λ (y : Bor X). y.now) (ys ++ x ∷ [])
-        ≡ map (λ (y : Bor X). y.now) ys ++ x.now ∷ []
-    mapped [] = refl
-    mapped (y ∷ ys) = ap (λ (l : List X). y.now ∷ l) (mapped ys)

@@ -1,9 +1,9 @@
 -- What is in a list, and tests that pass for each item.
 use Rattle.std.proofs.Common.{◌≡◌, ℕ, zero, suc, ◌<◌, ◌⊎◌, Bool, true, List, [], ◌∷◌, length}
-use Rattle.std.proofs.Common.{subst, arith, inl, inr}
+use Rattle.std.proofs.Common.{arith, inl, inr}
 use Rattle.std.specs.Prelude.{Contains, slice_index_or}
-use Rattle.std.specs.List.{All, list_all}
-use Rattle.std.proofs.lemmas.List.Elements.{All-contains_itself}
+use Rattle.std.specs.List.{list_all}
+use Rattle.std.proofs.lemmas.List.Elements.{All-contains, All-contains_itself}
 use Rattle.std.proofs.lemmas.List.Sums.{AllPass-from_list_all, list_all-from_AllPass}
 
 pub in_none : {X : Type 0} (x : X) → Contains [] x → ⊥
@@ -24,23 +24,10 @@ in_either {X} y ys x h = at h.0 h.1 h.2
     at zero lt e = inl e
     at (suc k) lt e = inr (k, omega (arith, lt), e)
 
--- what holds of each item holds of one that is in the list
-pub holds_of : {X : Type 0} (P : X → Type 0) (xs : List X) (x : X) → All P xs → Contains xs x → P x
-holds_of P xs x h m = subst P m.2 (h m.0 x m.1)
-
-pub all_rest : {X : Type 0} (P : X → Type 0) (x : X) (xs : List X) → All P (x ∷ xs) → All P xs
-all_rest P x xs h = λ k d lt. h (suc k) d (omega (arith, lt))
-
-pub all_first : {X : Type 0} (P : X → Type 0) (x : X) (xs : List X) → All P (x ∷ xs) → P x
-all_first P x xs h = h 0 x (omega arith)
-
-pub all_none : {X : Type 0} (P : X → Type 0) → All P []
-all_none P = λ k d lt. absurd (omega (arith, lt))
-
 -- a test passes for all items exactly if it passes for each that is in the list
 pub passes_of : {X : Type 0} (p : X → Bool) (xs : List X) (x : X) → list_all p xs ≡ true →
     Contains xs x → p x ≡ true
-passes_of p xs x h m = holds_of (λ y. p y ≡ true) xs x (AllPass-from_list_all p xs h) m
+passes_of p xs x h m = All-contains (λ y. p y ≡ true) xs x (AllPass-from_list_all p xs h) m
 
 pub passes_from : {X : Type 0} (p : X → Bool) (xs : List X) →
     ((x : X) → Contains xs x → p x ≡ true) → list_all p xs ≡ true

@@ -1,17 +1,15 @@
 -- A table after a change at one name, and the map of names that the code keeps.
-use Rattle.std.proofs.Common.{◌≡◌, ℕ, zero, suc, ◌<◌, Bool, true, false, List, [], ◌∷◌, length}
-use Rattle.std.proofs.Common.{Option, Some, None, refl, sym, ap, subst, ◌∙◌, arith, map}
+use Rattle.std.proofs.Common.{◌≡◌, ℕ, Bool, true, false, List, [], ◌∷◌, Option, Some, None}
+use Rattle.std.proofs.Common.{refl, sym, ap, subst, ◌∙◌}
 use Rattle.std.specs.Prelude.{bytes_eq, if◌then◌else◌, slice_index_or, unwrap_or}
 use Rattle.std.specs.Bool.{one_answer}
 use Rattle.std.specs.BTreeMap.{BTreeMap, IsOrdered, UpdatesBy, get, is_at}
 use Rattle.std.specs.List.{All}
 use Rattle.std.specs.Map.{lookup}
-use Rattle.std.proofs.lemmas.List.Elements.{All-contains, All-contains_itself}
+use Rattle.std.proofs.lemmas.List.{map-id}
+use Rattle.std.proofs.lemmas.List.Elements.{All-cons, All-contains, All-contains_itself, All-nil}
 use Rattle.std.proofs.lemmas.Map.Text.{is_eq-slice_cmp}
 use Rattle.std.proofs.lemmas.Slice.Eq.{bytes_eq-Decides}
-use Rattle.pep_version.proofs.Connectives.{and_given_second}
-use Rattle.pep_clause.specs.VersionSet.{all_versions, is_point}
-use Rattle.pep_clause.proofs.LeastCut.{point-all_versions}
 use Rattle.pep_marker.specs.Name.{IsNormalName, name_cmp}
 use Rattle.pep_require.specs.Requirement.{IsAscending, RequirementParts}
 use Rattle.pep_require.proofs.Ascending.{Contains-from_IsIn, IsIn-from_Contains, rest_ascends}
@@ -21,8 +19,11 @@ use Rattle.pep_table.specs.Join.{JoinsAt, JoinsEntries, JoinsTables}
 use Rattle.pep_table.specs.OneText.{entry_first, entry_other, entry_there, eq_false, eq_true}
 use Rattle.pep_table.specs.OneText.{first_apart, name_there, valid_at}
 use Rattle.pep_table.specs.JoinLaws.{IsJoin-IsUnion}
-use Rattle.pep_table.specs.Table.{EntryParts, IsValidEntry, IsValidTable, TableParts, entry_at, names}
+use Rattle.pep_table.specs.Table.{EntryParts, IsValidEntry, IsValidTable, TableParts, entry_at}
+use Rattle.pep_table.specs.Table.{names}
+use Rattle.pep_table.specs.TableLaws.{alone}
 use Rattle.pep_table.proofs.KeptSets.{ascending_map, union_none}
+use Rattle.pep_table.proofs.TakenClauses.{all_meets}
 use Rattle.pep_table.proofs.ValidEntries.{bare_valid, joined_valid, taken_valid}
 
 -- ---- the map of names
@@ -57,31 +58,21 @@ entry_at-changed old new n w h q =
 
 pub names_ascend : (m : BTreeMap (List ℕ) EntryParts) → IsOrdered name_cmp m →
     IsAscending (names m.entries)
-names_ascend m o = subst IsAscending (ids (names m.entries))
+names_ascend m o = subst IsAscending (map-id (names m.entries))
     (ascending_map name_cmp (λ n. n) (λ x y. refl) (names m.entries) o)
-  where
-    ids : (xs : List (List ℕ)) → map (λ n. n) xs ≡ xs
-    ids [] = refl
-    ids (x ∷ xs) = λ i. x ∷ ids xs i
 
 -- ---- what a change leaves valid
 
 all_valid : (t : TableParts) → IsAscending (names t) →
     ((q : List ℕ) (e : EntryParts) → entry_at t q ≡ Some e → IsValidEntry e) →
     All (λ p. IsValidEntry p.1) t
-all_valid [] up h = λ k d lt. absurd (omega (arith, lt))
-all_valid (p ∷ t) up h = λ k d lt. by k d lt
+all_valid [] up h = All-nil (λ p. IsValidEntry p.1)
+all_valid (p ∷ t) up h = All-cons (λ r. IsValidEntry r.1) p t (h p.0 p.1 (entry_first p t))
     (all_valid t (rest_ascends p.0 (names t) up) (λ q e at. h q e (entry_other p t q (apart q e at)
     ∙ at)))
   where
     apart : (q : List ℕ) (e : EntryParts) → entry_at t q ≡ Some e → p.0 ≡ q → ⊥
     apart q e at same = first_apart p t q up same (name_there t q e at)
-
-    by : (k : ℕ) (d : List ℕ × EntryParts) → k < length (p ∷ t) →
-        All (λ (r : List ℕ × EntryParts). IsValidEntry r.1) t →
-        IsValidEntry (slice_index_or (p ∷ t) k d).1
-    by zero d lt rest = h p.0 p.1 (entry_first p t)
-    by (suc k) d lt rest = rest k d (omega (arith, lt))
 
 all_normal : (t : TableParts) →
     ((q : List ℕ) (e : EntryParts) → entry_at t q ≡ Some e → IsNormalName q) →
@@ -141,11 +132,7 @@ bare_joined e w v u j = IsJoin-JoinsEntries.one bare_entry e w e u v j (record {
   extras = IsJoin-IsUnion.commutative e.extras [] e.extras (union_none e.extras v.extras.0);
   urls = IsJoin-IsUnion.commutative e.urls [] e.urls (union_none e.urls v.urls.0);
   texts = IsJoin-IsUnion.commutative e.texts [] e.texts (union_none e.texts v.texts.0);
-  versions = record {
-    normal = v.versions;
-    points = λ cut is. and_given_second (is_point all_versions cut) (is_point e.versions cut)
-        (point-all_versions e.versions cut);
-  };
+  versions = all_meets e.versions v.versions;
 })
 
 pub changed_joins : (old new : TableParts) (n : List ℕ) (e w : EntryParts) →
@@ -164,16 +151,12 @@ changed_joins old new n e w valid ev wv is j = record {
     own None h = ap Some (bare_joined e w ev wv h)
     own (Some a) h = h
 
-    none : (o : Option EntryParts) → JoinsAt o None o
-    none None = refl
-    none (Some a) = refl
-
     at : (q : List ℕ) (b : Bool) → bytes_eq n q ≡ b →
         JoinsAt (entry_at old q) (entry_at ((n, e) ∷ []) q) (changed old n w q)
     at q true same = rw same (own (entry_at old q)
         (subst (λ x. JoinsEntries (unwrap_or (entry_at old x) bare_entry) e w)
         ((bytes_eq-Decides n q).0 same) j))
-    at q false other = rw other (none (entry_at old q))
+    at q false other = rw other (alone (entry_at old q))
 
 -- ---- the map after a requirement, and after an entry
 
@@ -222,5 +205,6 @@ map_joins old new n o e w v normal ev at updates ordered joins =
     (names_ascend new ordered) is in (
       valid,
       changed_joins old.entries new.entries n e w valid ev wv is
-          (subst (λ a. JoinsEntries (unwrap_or a bare_entry) e w) (sym (found_at old n o at)) joins),
+          (subst (λ a. JoinsEntries (unwrap_or a bare_entry) e w) (sym (found_at old n o at))
+          joins),
     )

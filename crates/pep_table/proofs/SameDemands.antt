@@ -1,8 +1,9 @@
 -- Demands that are the same have the same tables.
 use Rattle.std.proofs.Common.{ℕ, List}
-use Rattle.pep_table.proofs.JoinedDemands.{ExactEntry, HasEntry, if_some, same_entry, same_exact}
+use Rattle.std.proofs.lemmas.Option.{IfSome_then}
+use Rattle.pep_table.proofs.JoinedDemands.{HasEntry, same_entry, same_exact}
 use Rattle.pep_table.specs.Demand.{Demands, HaveSameDemands}
-use Rattle.pep_table.specs.Table.{HasExactPoints, IsEntry, IsTable, IsValidTable, TableParts}
+use Rattle.pep_table.specs.Table.{HasExactPoints, IsTable, IsValidTable, TableParts}
 use Rattle.pep_table.specs.Table.{entry_at}
 
 -- the table of one is the table of the other
@@ -13,16 +14,15 @@ same_table Q W t same h = record {
     λ s. let q = (h.names name).0 s in (q.0, (same name q.0).0 q.1),
     λ q. (h.names name).1 (q.0, (same name q.0).1 q.1),
   );
-  entries = λ name. if_some (IsEntry (Q name)) (IsEntry (W name)) (entry_at t name)
-      (λ e. same_entry (Q name) (W name) e (same name)) (h.entries name);
+  entries = λ name. IfSome_then (entry_at t name) (h.entries name)
+      (λ e. same_entry (Q name) (W name) e (same name));
 }
 
 -- and has the same points
 pub same_exact_points : (Q W : Demands) (t : TableParts) → HaveSameDemands Q W →
     HasExactPoints Q t → HasExactPoints W t
 same_exact_points Q W t same h = λ name.
-    if_some (ExactEntry (Q name)) (ExactEntry (W name)) (entry_at t name)
-    (λ e. same_exact (Q name) (W name) e (same name)) (h name)
+    IfSome_then (entry_at t name) (h name) (λ e. same_exact (Q name) (W name) e (same name))
 
 pub same_demands : (Q W : Demands) (t : TableParts) → HaveSameDemands Q W → IsTable Q t →
     HasExactPoints Q t → IsTable W t × HasExactPoints W t

@@ -1,7 +1,8 @@
 -- What `==` says of sorted values, of entries and of tables.
-use Rattle.std.proofs.Common.{◌≡◌, ℕ, suc, ◌&&◌, ◌↔◌, Bool, true, List, [], ◌∷◌, map, refl, sym, ap}
-use Rattle.std.proofs.Common.{subst, ◌∙◌, arith, Option, Some, None}
+use Rattle.std.proofs.Common.{◌≡◌, ℕ, ◌&&◌, ◌↔◌, Bool, true, List, [], ◌∷◌, map, refl, sym, ap}
+use Rattle.std.proofs.Common.{subst, ◌∙◌, Option, Some, None}
 use Rattle.std.proofs.lemmas.Bool.{and_parts}
+use Rattle.std.proofs.lemmas.List.Elements.{All-head, All-tail}
 use Rattle.std.proofs.lemmas.Map.Text.{is_eq-slice_cmp}
 use Rattle.std.proofs.lemmas.Slice.Eq.{bytes_eq-Decides, slice_eq-Decides}
 use Rattle.std.specs.Cmp.Lexicographic.{pointwise}
@@ -100,10 +101,12 @@ table_told (p ∷ t) (q ∷ s) h g is =
     let both = and_parts (same_named p q) (same_table t s) is in
     let first = and_parts (bytes_eq p.0 q.0) (same_entry p.1 q.1) both.0 in
     let name = (bytes_eq-Decides p.0 q.0).0 first.0 in
-    let entry = entry_told p.1 q.1 (h 0 p (omega arith)) (g 0 q (omega arith)) first.1 in
+    let entry =
+    entry_told p.1 q.1 (All-head (λ r. IsValidEntry r.1) p t h)
+    (All-head (λ r. IsValidEntry r.1) q s g) first.1 in
     let rest =
-    table_told t s (λ k d lt. h (suc k) d (omega (arith, lt)))
-    (λ k d lt. g (suc k) d (omega (arith, lt))) both.1 in
+    table_told t s (All-tail (λ r. IsValidEntry r.1) p t h)
+    (All-tail (λ r. IsValidEntry r.1) q s g) both.1 in
     λ i. (name i, entry i) ∷ rest i
 
 pub table-exactly : (t s : TableParts) (b : Bool) → IsValidTable t → IsValidTable s →

@@ -5,6 +5,7 @@ use Rattle.std.specs.Prelude.{IsTrue, nat_lt, slice_index, ◌-◌}
 use Rattle.std.specs.Char.{is_ascii_uppercase}
 use Rattle.std.specs.List.{All, AllByRecursion, concat, list_all}
 use Rattle.std.proofs.lemmas.Bool.Decides.{nat_tests}
+use Rattle.std.proofs.lemmas.List.Elements.{All-head, All-tail}
 use Rattle.pep_version.proofs.Connectives.{and_first, and_second}
 use Rattle.pep_version.proofs.NormalTexts.{list_all-weaker}
 use Rattle.pep_version.specs.Version.{is_empty}
@@ -13,7 +14,6 @@ use Rattle.pep_marker.specs.Name.{IsNormalName, is_letter_or_digit, is_name_byte
 use Rattle.pep_require.specs.Reads.{is_url_byte}
 use Rattle.pep_table.proofs.CutTexts.{HasCuts, HasNoFeed, have_cuts, is_not_feed, is_not_space}
 use Rattle.pep_table.proofs.CutTexts.{is_plain, range_feed, without_feed, without_space}
-use Rattle.pep_table.proofs.Members.{all_first, all_rest}
 use Rattle.pep_table.proofs.Runs.{Stops, all_append, each_append, each_map, run_one}
 use Rattle.pep_table.specs.declared.verdict.Verdict.{Verdict}
 use Rattle.pep_table.specs.declared.verdict.Verdict.TheVariants.{Possible, Nothing, Conflict}
@@ -158,15 +158,15 @@ pub text_entries : (t : TableParts) → All IsNormalName (names t) →
     All (λ (p : List ℕ × EntryParts). IsValidEntry p.1) t → AllByRecursion IsTextEntry t
 text_entries [] h g = tt
 text_entries (p ∷ t) h g = (
-  (all_first IsNormalName p.0 (names t) h, all_first (λ q. IsValidEntry q.1) p t g),
-  text_entries t (all_rest IsNormalName p.0 (names t) h) (all_rest (λ q. IsValidEntry q.1) p t g),
+  (All-head IsNormalName p.0 (names t) h, All-head (λ q. IsValidEntry q.1) p t g),
+  text_entries t (All-tail IsNormalName p.0 (names t) h) (All-tail (λ q. IsValidEntry q.1) p t g),
 )
 
 texts_feed : (P : List ℕ → Type 0) → ((x : List ℕ) → P x → list_all is_plain x ≡ true) →
     (xs : List (List ℕ)) → All P xs → AllByRecursion HasNoFeed xs
 texts_feed P f [] h = tt
 texts_feed P f (x ∷ xs) h =
-    (without_feed x (f x (all_first P x xs h)), texts_feed P f xs (all_rest P x xs h))
+    (without_feed x (f x (All-head P x xs h)), texts_feed P f xs (All-tail P x xs h))
 
 word_feed : (verdict : Verdict) → HasNoFeed (verdict_word verdict)
 word_feed Possible = refl

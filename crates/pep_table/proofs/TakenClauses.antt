@@ -1,12 +1,13 @@
 -- What is demanded by one clause more.
 use Rattle.std.proofs.Common.{◌≡◌, ℕ, ◌&&◌, List, [], ◌∷◌, ◌++◌, Option, Some, None, refl, sym, ap}
-use Rattle.std.proofs.Common.{Result, Ok, Err, OnOk, arith, subst, ◌∙◌}
+use Rattle.std.proofs.Common.{Result, Ok, Err, OnOk, subst, ◌∙◌}
 use Rattle.std.proofs.Math.Bool.{and_assoc}
-use Rattle.std.proofs.lemmas.List.Elements.{All-append, All-push, filter_map-append}
+use Rattle.std.proofs.lemmas.List.Elements.{All-cons, All-nil, filter_map-append}
 use Rattle.std.proofs.lemmas.List.Folds.{list_all-append}
 use Rattle.std.specs.List.{All, AllByRecursion, list_all}
-use Rattle.std.specs.Prelude.{IsTrue}
-use Rattle.pep_version.proofs.Connectives.{and-true, and_given}
+use Rattle.std.specs.Borrow.{Bor}
+use Rattle.std.specs.Prelude.{IsTrue, false, is_some, option_map}
+use Rattle.pep_version.proofs.Connectives.{and-true, and_given, and_given_second}
 use Rattle.pep_clause.specs.Clause.{Clause, demanded_text, is_demanded_text, demanded, compatible}
 use Rattle.pep_clause.specs.Clause.{matching, matching_prefix, excluding, excluding_prefix, at_most}
 use Rattle.pep_clause.specs.Clause.{at_least, less_than, greater_than}
@@ -58,6 +59,14 @@ meets_text a c t normal e = record {
       ∙ (λ j. is_point a cut && sym (and-true (is_point (set_of c) cut)) j);
 }
 
+-- what is kept of all versions
+pub all_meets : (a : List Range) → IsNormal a → IsIntersection all_versions a a
+all_meets a normal = record {
+  normal = normal;
+  points = λ cut is. and_given_second (is_point all_versions cut) (is_point a cut)
+      (point-all_versions a cut);
+}
+
 meets_append : (a b d : List Range) (cs ds : List Clause) → MeetsClauses a cs b →
     MeetsClauses b ds d → MeetsClauses a (cs ++ ds) d
 meets_append a b d cs ds h g = record {
@@ -78,13 +87,19 @@ meets_more a b d done more c h g e =
 
 -- ---- texts
 
+-- a clause that answers no text
+pub no_text : (o : Option (Bor (List ℕ))) (c : Clause) → option_map (λ t. t.now) o ≡ demanded_text c →
+    is_some o ≡ false → demanded_text c ≡ None
+no_text None c e none = sym e
+no_text (Some t) c e none = cc none
+
 pub text_of_one : (c : Clause) (t : List ℕ) → demanded_text c ≡ Some t → texts_of (c ∷ []) ≡ t ∷ []
 text_of_one c t e = rw e refl
 
 pub text_of_none : (c : Clause) → demanded_text c ≡ None → texts_of (c ∷ []) ≡ []
 text_of_none c e = rw e refl
 
-texts_append : (done more : List Clause) (c : Clause) → more ≡ done ++ c ∷ [] →
+pub texts_append : (done more : List Clause) (c : Clause) → more ≡ done ++ c ∷ [] →
     texts_of more ≡ texts_of done ++ texts_of (c ∷ [])
 texts_append done more c e = ap texts_of e ∙ filter_map-append demanded_text done (c ∷ [])
 
@@ -112,22 +127,17 @@ valid_one (greater_than v) t is e = cc e
 
 pub valid_texts : (cs : List Clause) → AllByRecursion IsValidClause cs →
     All (λ t. IsTrue (is_demanded_text t)) (texts_of cs)
-valid_texts [] h = λ k d lt. absurd (omega (arith, lt))
+valid_texts [] h = All-nil (λ t. IsTrue (is_demanded_text t))
 valid_texts (c ∷ cs) h = by (demanded_text c) refl (valid_texts cs h.1)
   where
     by : (o : Option (List ℕ)) → demanded_text c ≡ o →
         All (λ t. IsTrue (is_demanded_text t)) (texts_of cs) →
         All (λ t. IsTrue (is_demanded_text t)) (texts_of (c ∷ cs))
     by None e rest = rw e rest
-    by (Some t) e rest = rw e (All-append (λ x. IsTrue (is_demanded_text x)) (t ∷ [])
-        (texts_of cs) (All-push (λ x. IsTrue (is_demanded_text x)) [] t
-        (λ k d lt. absurd (omega (arith, lt))) (valid_one c t h.0 e)) rest)
+    by (Some t) e rest = rw e (All-cons (λ x. IsTrue (is_demanded_text x)) t (texts_of cs)
+        (valid_one c t h.0 e) rest)
 
--- what a call keeps, where it ends well
-pub on_ok : {A E P Q : Type 0} (r : Result A E) → (P → Q) → OnOk r P → OnOk r Q
-on_ok (Ok a) f h = f h
-on_ok (Err e) f h = tt
-
+-- what is so however a call ends, is so where it ends well
 pub always : {A E Q : Type 0} (r : Result A E) → Q → OnOk r Q
 always (Ok a) h = h
 always (Err e) h = tt

@@ -3,6 +3,7 @@ use Rattle.std.proofs.Common.{◌≡◌, ◌≢◌, ℕ, ◌&&◌, ◌⊎◌, Bo
 use Rattle.std.proofs.Common.{sym, ap, subst, ◌∙◌, inl, inr, Option, Some, None}
 use Rattle.std.specs.Prelude.{Contains, bytes_eq, slice_index_or, ◌↔◌, unwrap_or}
 use Rattle.std.specs.List.{All, list_all}
+use Rattle.std.proofs.lemmas.List.Elements.{All-contains, All-nil}
 use Rattle.std.proofs.lemmas.Slice.Eq.{bytes_eq-Decides}
 use Rattle.pep_version.proofs.Connectives.{and_from, and_parts}
 use Rattle.pep_version.proofs.PlaceLemmas.{place-of-place, place-version}
@@ -23,8 +24,7 @@ use Rattle.pep_require.specs.Requirement.{Applies, MarkerSays, RequirementParts,
 use Rattle.pep_require.specs.Requirement.{bounds, direct}
 use Rattle.pep_table.proofs.JoinedDemands.{ExactEntry, HasEntry, at_place, either, from_both}
 use Rattle.pep_table.proofs.JoinedDemands.{same_at, table_at, undemanded}
-use Rattle.pep_table.proofs.Members.{all_none, holds_of, in_either, in_first}
-use Rattle.pep_table.proofs.Members.{in_none, in_rest, passes_from, passes_of}
+use Rattle.pep_table.proofs.Members.{in_either, in_first, in_none, in_rest, passes_from, passes_of}
 use Rattle.pep_table.proofs.SameDemands.{same_demands, table_from_entries}
 use Rattle.pep_table.specs.Demand.{AdmitsBesideTexts, ApplyingDemands, Demand, Demands}
 use Rattle.pep_table.specs.Demand.{RequirementDemands, TargetDemands, Together, presence, extra}
@@ -166,7 +166,7 @@ own_admits r v told is h (url u) q = tt
 own_admits r v told is h (ranges l) q = absurd (no_ranges r.target l q.1)
 own_admits r v told is h (clause c) q =
     let there = clause_there r.target c q.1 in
-    in_beside c v (holds_of HasToldSet (target_clauses r.target) c told there) is
+    in_beside c v (All-contains HasToldSet (target_clauses r.target) c told there) is
     (at_place (set_of c) v ∙ passes_of (λ k. is_point (set_of k) (before (place_of v)))
     (target_clauses r.target) c h there)
 
@@ -176,7 +176,7 @@ own_meets : (r : RequirementParts) (v : Version) → HasToldSets r → IsVersion
 own_meets r v told is f =
     passes_from (λ k. is_point (set_of k) (before (place_of v))) (target_clauses r.target) (λ c m.
     sym (at_place (set_of c) v)
-    ∙ beside_in c v (holds_of HasToldSet (target_clauses r.target) c told m) is
+    ∙ beside_in c v (All-contains HasToldSet (target_clauses r.target) c told m) is
     (f (clause c) (refl, clause_demanded r.target c m)))
 
 own_points : (r : RequirementParts) (cut : Cut) →
@@ -421,7 +421,7 @@ applying_is_table e Q s (r ∷ rs) t h g (mid, false, says, takes, more) =
 pub no_demands : IsTable (λ name d. ⊥) [] × HasExactPoints (λ name d. ⊥) []
 no_demands = (
   record {
-    valid = record { names = (tt, all_none _); entries = all_none _ };
+    valid = record { names = (tt, All-nil _); entries = All-nil _ };
     names = λ name. ((λ s. cc s), λ q. absurd q.1);
     entries = λ name. tt;
   },

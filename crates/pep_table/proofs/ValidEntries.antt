@@ -1,8 +1,9 @@
 -- What is joined of valid entries is valid.
-use Rattle.std.proofs.Common.{ℕ, ◌⊎◌, inl, inr, List, arith}
+use Rattle.std.proofs.Common.{ℕ, ◌⊎◌, inl, inr, List}
 use Rattle.std.specs.Prelude.{Contains, IsTrue, slice_index_or}
 use Rattle.std.specs.List.{All}
-use Rattle.std.proofs.lemmas.List.Elements.{All-contains, All-contains_itself, recursion_from_All}
+use Rattle.std.proofs.lemmas.List.Elements.{All-contains, All-contains_itself, All-nil}
+use Rattle.std.proofs.lemmas.List.Elements.{recursion_from_All}
 use Rattle.pep_clause.specs.Clause.{is_demanded_text}
 use Rattle.pep_clause.specs.Valid.{IsValidClause}
 use Rattle.pep_marker.specs.Name.{IsNormalName}
@@ -32,17 +33,25 @@ joined_valid a b c v w j = record {
     union_holds IsNormalName a.extras b.extras c.extras j.extras v.extras.1
         w.extras.1,
   );
-  urls = (j.urls.ascending, union_holds (λ x. IsTrue (is_url_text x)) a.urls b.urls c.urls j.urls v.urls.1 w.urls.1);
-  texts = (j.texts.ascending, union_holds (λ x. IsTrue (is_demanded_text x)) a.texts b.texts c.texts j.texts v.texts.1 w.texts.1);
+  urls = (
+    j.urls.ascending,
+    union_holds (λ x. IsTrue (is_url_text x)) a.urls b.urls c.urls j.urls v.urls.1
+        w.urls.1,
+  );
+  texts = (
+    j.texts.ascending,
+    union_holds (λ x. IsTrue (is_demanded_text x)) a.texts b.texts c.texts j.texts
+        v.texts.1 w.texts.1,
+  );
   versions = j.versions.normal;
 }
 
 -- the entry of a name of which nothing more is demanded is valid, and stays so by valid demands
 pub bare_valid : IsValidEntry bare_entry
 bare_valid = record {
-  extras = (tt, λ k d lt. absurd (omega (arith, lt)));
-  urls = (tt, λ k d lt. absurd (omega (arith, lt)));
-  texts = (tt, λ k d lt. absurd (omega (arith, lt)));
+  extras = (tt, All-nil _);
+  urls = (tt, All-nil _);
+  texts = (tt, All-nil _);
   versions = IsNormal-all_versions;
 }
 
@@ -63,8 +72,8 @@ taken_valid a w r v h t = record {
     t.texts.ascending,
     union_holds (λ x. IsTrue (is_demanded_text x)) a.texts
         (texts_of (target_clauses r.target)) w.texts t.texts v.texts.1
-        (valid_texts (target_clauses r.target) (recursion_from_All IsValidClause (target_clauses r.target)
-        h.clauses)),
+        (valid_texts (target_clauses r.target)
+        (recursion_from_All IsValidClause (target_clauses r.target) h.clauses)),
   );
   versions = t.versions.normal;
 }

@@ -1,7 +1,8 @@
 -- The verdict that an entry shows is the verdict on the demands of its name, and there is one.
-use Rattle.std.proofs.Common.{◌≡◌, ℕ, List, [], sym, subst, arith, inl, inr, refl}
+use Rattle.std.proofs.Common.{◌≡◌, ℕ, List, [], sym, subst, inl, inr, refl}
 use Rattle.std.specs.Prelude.{◌≢◌}
 use Rattle.std.specs.List.{All}
+use Rattle.std.proofs.lemmas.List.Elements.{All-nil}
 use Rattle.pep_version.specs.Text.{normal_text}
 use Rattle.pep_version.specs.Version.{IsVersion, Version}
 use Rattle.pep_clause.proofs.Density.{normal-has_version}
@@ -24,7 +25,7 @@ fits_without_text e valid some none =
       (
         found.2,
         subst (λ (l : List (List ℕ)). All (λ t. normal_text found.0 ≡ t) l) (sym none)
-            (λ k d below. absurd (omega (arith, below))),
+            (All-nil (λ t. normal_text found.0 ≡ t)),
       ),
     )
 

@@ -1,22 +1,9 @@
 -- The laws of joining normal lists of ranges.
-use Rattle.std.proofs.Common.{◌≡◌, ◌&&◌, Bool, true, false, refl, sym, ◌∙◌}
+use Rattle.std.proofs.Common.{◌&&◌, sym, ◌∙◌}
+use Rattle.std.proofs.Math.Bool.{and_assoc, and_comm, and_self}
 use Rattle.pep_clause.proofs.OneList.{same_points}
 use Rattle.pep_clause.specs.VersionSet.{IsNormal, is_point}
 use Rattle.pep_table.specs.Join.{IsIntersection, IsJoin}
-
-and_turned : (p q : Bool) → (p && q) ≡ (q && p)
-and_turned true true = refl
-and_turned true false = refl
-and_turned false true = refl
-and_turned false false = refl
-
-and_regrouped : (p q r : Bool) → ((p && q) && r) ≡ (p && (q && r))
-and_regrouped true q r = refl
-and_regrouped false q r = refl
-
-and_itself : (p : Bool) → p ≡ (p && p)
-and_itself true = refl
-and_itself false = refl
 
 -- the intersection of normal lists is a join
 pub IsJoin-IsIntersection : IsJoin IsNormal IsIntersection
@@ -25,17 +12,17 @@ IsJoin-IsIntersection = record {
       same_points c d normal more (λ cut is. h.points cut is ∙ sym (g.points cut is));
   commutative = λ a b c h. record {
     normal = h.normal;
-    points = λ cut is. h.points cut is ∙ and_turned (is_point a cut) (is_point b cut);
+    points = λ cut is. h.points cut is ∙ and_comm (is_point a cut) (is_point b cut);
   };
   associative = λ a b c ab bc abc v w u h g k. record {
     normal = k.normal;
     points = λ cut is. k.points cut is
         ∙ (λ i. h.points cut is i && is_point c cut)
-        ∙ and_regrouped (is_point a cut) (is_point b cut) (is_point c cut)
+        ∙ and_assoc (is_point a cut) (is_point b cut) (is_point c cut)
         ∙ (λ i. is_point a cut && sym (g.points cut is) i);
   };
   idempotent = λ a normal. record {
     normal = normal;
-    points = λ cut is. and_itself (is_point a cut);
+    points = λ cut is. sym (and_self (is_point a cut));
   };
 }

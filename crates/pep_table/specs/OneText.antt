@@ -1,12 +1,15 @@
 -- One text for one set of demands: two tables of the same demands, with the points that all the
 -- demands have, are one table, and a table has one text.
-use Rattle.std.proofs.Common.{◌≡◌, ℕ, suc, ◌<◌, ◌≤◌, Bool, true, false, List, [], ◌∷◌, ◌++◌, length}
+use Rattle.std.proofs.Common.{◌≡◌, ℕ, ◌<◌, ◌≤◌, Bool, true, false, List, [], ◌∷◌, ◌++◌, length}
 use Rattle.std.proofs.Common.{refl, sym, ap, subst, ◌∙◌, arith, inl, inr, Option, Some, None}
-use Rattle.std.specs.Prelude.{Contains, IfSome, IsSome, bytes_eq, is_some, ◌↔◌}
+use Rattle.std.specs.Prelude.{⊤, Contains, IsSome, bytes_eq, is_some, ◌↔◌}
 use Rattle.std.specs.Cmp.Lexicographic.{slice_cmp}
 use Rattle.std.specs.List.{All}
 use Rattle.std.specs.Ordering.{nat_cmp}
 use Rattle.std.specs.declared.cmp.Ordering.TheVariants.{Less}
+use Rattle.std.proofs.lemmas.Bool.{false_from_ne_true}
+use Rattle.std.proofs.lemmas.List.Elements.{All-head, All-tail}
+use Rattle.std.proofs.lemmas.Option.{MatchOption-at_some}
 use Rattle.std.proofs.lemmas.Slice.Eq.{bytes_eq-Decides}
 use Rattle.pep_clause.specs.Cut.{Cut, IsCut}
 use Rattle.pep_clause.proofs.OneList.{same_points}
@@ -108,11 +111,8 @@ pub eq_true : (x y : List ℕ) → x ≡ y → bytes_eq x y ≡ true
 eq_true x y e = (bytes_eq-Decides x y).1 e
 
 pub eq_false : (x y : List ℕ) → (x ≡ y → ⊥) → bytes_eq x y ≡ false
-eq_false x y differ = by (bytes_eq x y) refl
-  where
-    by : (b : Bool) → bytes_eq x y ≡ b → b ≡ false
-    by true e = absurd (differ ((bytes_eq-Decides x y).0 e))
-    by false e = refl
+eq_false x y differ =
+    false_from_ne_true (bytes_eq x y) (λ e. differ ((bytes_eq-Decides x y).0 e))
 
 -- the entry of the first name
 pub entry_first : (p : Named) (t : TableParts) → entry_at (p ∷ t) p.0 ≡ Some p.1
@@ -205,22 +205,17 @@ pub valid_at : (t : TableParts) (name : List ℕ) (e : EntryParts) →
     All (λ (p : Named). IsValidEntry p.1) t → entry_at t name ≡ Some e → IsValidEntry e
 valid_at [] name e h at = cc at
 valid_at (p ∷ t) name e h at =
-    by (bytes_eq p.0 name) refl (valid_at t name e (λ k d lt. h (suc k) d (omega (arith, lt))))
+    by (bytes_eq p.0 name) refl (valid_at t name e (All-tail (λ q. IsValidEntry q.1) p t h))
   where
     by : (b : Bool) → bytes_eq p.0 name ≡ b → (entry_at t name ≡ Some e → IsValidEntry e) →
         IsValidEntry e
     by true is rest =
         let same : Some p.1 ≡ Some e = rw is at at in let one : p.1 ≡ e = cc same in
-        subst IsValidEntry one (h 0 p (omega arith))
+        subst IsValidEntry one (All-head (λ q. IsValidEntry q.1) p t h)
     by false is rest = rest (rw is at at)
 
 is_some_of : (o : Option EntryParts) (e : EntryParts) → o ≡ Some e → IsSome o
 is_some_of o e h = ap is_some h
-
-if_some_at : (o : Option EntryParts) (P : EntryParts → Type 0) (e : EntryParts) → IfSome o P →
-    o ≡ Some e → P e
-if_some_at None P e h at = cc at
-if_some_at (Some f) P e h at = let same : f ≡ e = cc at in subst P same h
 
 same_entry_at : (Q W : Demands) (t s : TableParts) → HaveSameDemands Q W → IsTable Q t →
     HasExactPoints Q t → IsTable W s → HasExactPoints W s →
@@ -240,10 +235,10 @@ same_entry_at Q W t s same h hp g gp name = by (entry_at t name) (entry_at s nam
     by (Some a) (Some b) e f =
         ap Some (one_entry (Q name) (W name) a b (same name) (valid_at t name a h.valid.entries e)
         (valid_at s name b g.valid.entries f)
-        (if_some_at (entry_at t name) (IsEntry (Q name)) a (h.entries name) e)
-        (if_some_at (entry_at s name) (IsEntry (W name)) b (g.entries name) f)
-        (if_some_at (entry_at t name) (ExactEntry (Q name)) a (hp name) e)
-        (if_some_at (entry_at s name) (ExactEntry (W name)) b (gp name) f))
+        (MatchOption-at_some ⊤ (IsEntry (Q name)) a e (h.entries name))
+        (MatchOption-at_some ⊤ (IsEntry (W name)) b f (g.entries name))
+        (MatchOption-at_some ⊤ (ExactEntry (Q name)) a e (hp name))
+        (MatchOption-at_some ⊤ (ExactEntry (W name)) b f (gp name)))
 
 -- the tables of the same demands, with their points, are one table, and print one text
 pub same_table_of : (Q W : Demands) (t s : TableParts) → HaveSameDemands Q W → IsTable Q t →

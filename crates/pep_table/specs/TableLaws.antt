@@ -1,6 +1,7 @@
 -- The laws of joining tables.
-use Rattle.std.proofs.Common.{◌≡◌, ℕ, suc, Bool, true, false, List, [], ◌∷◌, refl, sym, ap}
-use Rattle.std.proofs.Common.{subst, ◌∙◌, arith, Option, Some, None}
+use Rattle.std.proofs.Common.{◌≡◌, ℕ, Bool, true, false, List, [], ◌∷◌, refl, sym, ap}
+use Rattle.std.proofs.Common.{subst, ◌∙◌, Option, Some, None}
+use Rattle.std.proofs.lemmas.List.Elements.{All-head, All-tail}
 use Rattle.std.specs.List.{All}
 use Rattle.std.specs.Prelude.{bytes_eq, IfSome}
 use Rattle.pep_table.specs.EntryLaws.{IsJoin-JoinsEntries}
@@ -14,11 +15,11 @@ valid_of : (t : TableParts) (name : List ℕ) →
     All (λ (p : List ℕ × EntryParts). IsValidEntry p.1) t → IfSome (entry_at t name) IsValidEntry
 valid_of [] name h = tt
 valid_of (p ∷ t) name h =
-    by (bytes_eq p.0 name) refl (valid_of t name (λ k d below. h (suc k) d (omega (arith, below))))
+    by (bytes_eq p.0 name) refl (valid_of t name (All-tail (λ q. IsValidEntry q.1) p t h))
   where
     by : (b : Bool) → bytes_eq p.0 name ≡ b → IfSome (entry_at t name) IsValidEntry →
         IfSome (entry_at (p ∷ t) name) IsValidEntry
-    by true is rest = rw is (h 0 p (omega arith))
+    by true is rest = rw is (All-head (λ q. IsValidEntry q.1) p t h)
     by false is rest = rw is rest
 
 -- the entry of a name, if there is one, is valid
@@ -50,9 +51,9 @@ itself_at None v = refl
 itself_at (Some a) v = IsJoin-JoinsEntries.idempotent a v
 
 -- where one of the two has no entry, the other's stays
-with_none : (a : Option EntryParts) → JoinsAt None a a
-with_none None = refl
-with_none (Some a) = refl
+pub alone : (a : Option EntryParts) → JoinsAt a None a
+alone None = refl
+alone (Some a) = refl
 
 pub left_kept : (a b : Option EntryParts) → JoinsAt a None b → b ≡ a
 left_kept None b h = h
@@ -78,7 +79,7 @@ regrouped_at None b c ab bc abc v w u h g k =
     let again : JoinsAt b c abc =
     subst (λ (o : Option EntryParts). JoinsAt o c abc) (right_kept b ab h) k in
     subst (λ (o : Option EntryParts). JoinsAt None bc o) (one_at b c bc abc w u g again)
-    (with_none bc)
+    (turned_at bc None bc (alone bc))
 regrouped_at (Some a) None c ab bc abc v w u h g k =
     subst (λ (o : Option EntryParts). JoinsAt (Some a) o abc) (sym (right_kept c bc g))
     (subst (λ (o : Option EntryParts). JoinsAt o c abc) h k)

@@ -1,6 +1,6 @@
 //! What is demanded of one package.
 
-ghost use Rattle.std.specs.Prelude.{◌≡◌, IfErr, IfOk};
+ghost use Rattle.std.specs.Prelude.{◌≡◌, [], IfErr, IfOk, false};
 ghost use Rattle.pep_table.specs.Table.{IsValidEntry};
 
 use crate::fault::TableFault;
@@ -101,6 +101,16 @@ impl Entry {
         ensures valid { IsValidEntry self.now }
     {
         &self.versions
+    }
+
+    /// Whether more may be demanded than versions.
+    pub(crate) fn has_others(&self) -> bool
+        ensures { result ≡ false → (self.now.extras ≡ []) × (self.now.urls ≡ [])
+            × (self.now.texts ≡ []) }
+    {
+        !(self.extras.items().is_empty()
+            && self.urls.items().is_empty()
+            && self.texts.items().is_empty())
     }
 
     /// An equal entry in storage of its own. The only fault is `NoMemory`, 42.

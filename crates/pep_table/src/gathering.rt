@@ -1,17 +1,19 @@
 //! What requirements and tables demand, gathered one by one.
 
-ghost use Rattle.std.specs.Prelude.{◌≡◌, ◌⊎◌, ◌∷◌, [], IfErr, IfOk};
+ghost use Rattle.std.specs.Prelude.{◌≡◌, ◌⊎◌, ◌∷◌, [], IfErr, IfOk, string_bytes};
 ghost use Rattle.pep_require.specs.Requirement.{HasUndefinedMarker};
 ghost use Rattle.pep_require.specs.View.{requirement_parts};
 ghost use Rattle.pep_table.specs.Gathering.{TakesApplying, TakesRequirement};
 ghost use Rattle.pep_table.specs.Join.{JoinsTables};
 ghost use Rattle.pep_table.specs.Table.{IsValidTable};
+ghost use Rattle.pep_table.specs.TableText.{IsTableText};
 
 use crate::entry::Entry;
 use crate::fault::TableFault;
 use crate::gathered::Gathered;
 use crate::sorted::Kept;
 use crate::table::Table;
+use crate::text::push_entry;
 use pep_marker::{Environment, MarkerFault, Name};
 use pep_require::Requirement;
 use std::alloc::Global;
@@ -56,7 +58,7 @@ impl Gathering {
             entry.take(alloc, requirement)?;
             return Ok(self);
         }
-        let mut entry = Gathered::bare(alloc)?;
+        let mut entry = Gathered::bare();
         entry.take(alloc, requirement)?;
         self.entries.insert(name.kept(alloc)?, entry)?;
         Ok(self)
@@ -118,7 +120,7 @@ impl Gathering {
             kept.join(alloc, entry)?;
             return Ok(self);
         }
-        let mut kept = Gathered::bare(alloc)?;
+        let mut kept = Gathered::bare();
         kept.join(alloc, entry)?;
         self.entries.insert(name.kept(alloc)?, kept)?;
         Ok(self)
@@ -134,5 +136,20 @@ impl Gathering {
             entries.push((name, gathered.entry(alloc)?))?;
         }
         Ok(Table::of_entries(entries))
+    }
+
+    /// The text of the table of what is demanded: that of [`Table::text`], without the memory that
+    /// the table takes. The only fault is `NoMemory`, 42.
+    pub fn text(self, alloc: Global) -> Result<String, TableFault>
+        ensures text { IfOk result (λ text. IsTableText self (string_bytes text)) }
+        ensures faults { IfErr result (λ e. e ≡ TableFault.NoMemory) }
+    {
+        let mut text = String::new(alloc);
+        for (name, gathered) in self.entries {
+            let entry = gathered.entry(alloc)?;
+            let verdict = entry.verdict(alloc)?;
+            push_entry(alloc, &mut text, &name, verdict, &entry)?;
+        }
+        Ok(text)
     }
 }

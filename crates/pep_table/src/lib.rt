@@ -7,6 +7,7 @@ mod gathered;
 mod gathering;
 mod join;
 pub mod laws;
+mod others;
 mod same;
 mod sorted;
 mod table;

@@ -100,7 +100,7 @@ fn push_head(text: &mut String, name: &str, verdict: Verdict) -> Result<(), Tabl
     Ok(())
 }
 
-fn push_entry(
+pub(crate) fn push_entry(
     alloc: Global,
     text: &mut String,
     name: &Name,

@@ -1,7 +1,7 @@
 use Rattle.std.proofs.Common.{◌≡◌, ◌∙◌, ◌≤◌, ap, arith, inr, length, map, subst, sym}
+use Rattle.std.proofs.lemmas.List.{length-map}
 use Rattle.std.specs.Prelude.{string_bytes}
 use Rattle.pep_table.proofs.EntryTexts.{fits_more}
-use Rattle.pep_table.proofs.FirstFault.{map_length}
 use Rattle.pep_table.proofs.entry.Entry.text_verdict.Goals as goal
 
 pub returns-in_default-clause-entry : goal.returns-in_default-clause-entry
@@ -10,7 +10,7 @@ returns-in_default-clause-entry c =
     let same : map (λ x. string_bytes x) c.items.result.now ≡ e.texts =
     c.items.ensures.texts ∙ c.texts.ensures.texts in
     let more : 2 ≤ length e.texts = subst (λ n. 2 ≤ n)
-    (sym (map_length (λ x. string_bytes x) c.items.result.now) ∙ ap length same)
+    (sym (length-map c.items.result.now (λ x. string_bytes x)) ∙ ap length same)
     c.in_default.len_at_least in (
       c.requires.few,
       inr (

@@ -1,8 +1,8 @@
 use Rattle.std.proofs.Common.{rules}
+use Rattle.std.proofs.lemmas.Result.{IfOk-weaker}
 use Rattle.pep_table.specs.Table.{EntryDemands}
 use Rattle.pep_table.specs.Verdict.{IsEntryVerdict, IsVerdict}
 use Rattle.pep_table.specs.declared.verdict.Verdict.TheVariants.{Conflict, Nothing}
-use Rattle.pep_table.proofs.EntryTexts.{if_ok}
 use Rattle.pep_table.proofs.Verdicts.{verdict_of_entry}
 use Rattle.pep_table.proofs.entry.Entry.verdict.Goals as goal
 
@@ -16,6 +16,7 @@ returns-then-is_empty-clause-demands c =
 
 pub returns-clause-demands : goal.returns-clause-demands
 returns-clause-demands c =
-    if_ok (IsEntryVerdict c.args.self.now) (IsVerdict (EntryDemands c.args.self.now))
-    c.text_verdict.result (λ w shows. verdict_of_entry c.args.self.now w c.has_conflict.ensures.valid
-    shows) c.text_verdict.ensures.entry
+    IfOk-weaker c.text_verdict.result (IsEntryVerdict c.args.self.now)
+    (IsVerdict (EntryDemands c.args.self.now))
+    (λ w shows. verdict_of_entry c.args.self.now w c.has_conflict.ensures.valid shows)
+    c.text_verdict.ensures.entry

@@ -24,7 +24,7 @@ changed_one c =
     (c.get_mut.follows.holds w).4 c.in_ok-take.ensures.taken
 
 -- where it is new
-new_one : (c : goal.Joined-branch-6) → IsValidTable c.insert.new.self.entries
+new_one : (c : goal.Joined-branch-5) → IsValidTable c.insert.new.self.entries
     × TakesRequirement c.self.inside.entries.entries (requirement_parts c.args.requirement.now)
     c.insert.new.self.entries
 new_one c =
@@ -41,7 +41,7 @@ new_one c =
     subst (λ (m : Entries). UpdatesBy name_cmp (name_cmp c.name-name.result.now) m new (Some w))
     c.get_mut.follows.holds-at-none named in
     let step = subst (λ a. TakesEntry a (requirement_parts c.args.requirement.now) w)
-    c.in_ok-entry.ensures.bare c.in_ok-take-2.ensures.taken in
+    c.bare-entry.ensures c.in_ok-take-2.ensures.taken in
     map_takes old new c.name-name.result.now
     None (requirement_parts c.args.requirement.now) w c.name-name.ensures
     c.self.invariant c.in_ok-take-2.ensures.valid absent updates

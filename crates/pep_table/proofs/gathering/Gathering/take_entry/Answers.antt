@@ -23,7 +23,7 @@ changed_one c =
     (c.get_mut.follows.holds w).4 c.in_ok-join.ensures.joined
 
 -- where it is new
-new_one : (c : goal.Joined-branch-6) → IsValidTable c.insert.new.self.entries
+new_one : (c : goal.Joined-branch-5) → IsValidTable c.insert.new.self.entries
     × JoinsTables c.self.inside.entries.entries ((c.args.name.now, c.args.entry.now) ∷ [])
     c.insert.new.self.entries
 new_one c =
@@ -32,18 +32,18 @@ new_one c =
     let w = c.join-2.new.self in
     let absent : get name_cmp old c.args.name.now ≡ None =
     sym c.get_mut.ensures.value ∙ ap option_copied_mut c.in_default.is in
-    let inserted : UpdatesBy name_cmp (name_cmp c.in_ok-kept-2.field-0) c.get_mut.follows.lender-at-none new
+    let inserted : UpdatesBy name_cmp (name_cmp c.in_ok-kept.field-0) c.get_mut.follows.lender-at-none new
     (Some w) = c.in_ok-insert.ensures.updates in
     let named = subst (λ k. UpdatesBy name_cmp (name_cmp k) c.get_mut.follows.lender-at-none new
-    (Some w)) c.in_ok-kept-2.ensures.same inserted in
+    (Some w)) c.in_ok-kept.ensures.same inserted in
     let updates : UpdatesBy name_cmp (name_cmp c.args.name.now) old new (Some w) =
     subst (λ (m : Entries). UpdatesBy name_cmp (name_cmp c.args.name.now) m new (Some w))
     c.get_mut.follows.holds-at-none named in
     let step = subst (λ a. JoinsEntries a c.args.entry.now w)
-    c.in_ok-kept.ensures.bare c.in_ok-join-2.ensures.joined in
+    c.bare-kept.ensures c.in_ok-join-2.ensures.joined in
     map_joins old new c.args.name.now
     None c.args.entry.now w
-    c.self.invariant c.in_ok-kept-2.ensures.value c.in_ok-join-2.ensures.valid absent updates
+    c.self.invariant c.in_ok-kept.ensures.value c.in_ok-join-2.ensures.valid absent updates
     c.in_ok-insert.ensures.ordered step
 
 pub invariant_of-self : goal.invariant_of-self

@@ -1,8 +1,8 @@
 use Rattle.std.proofs.Common.{◌≡◌, ◌∙◌, Some, ap, sym}
+use Rattle.std.proofs.lemmas.Result.{IfOk-weaker}
 use Rattle.std.specs.Option.{option_map}
 use Rattle.pep_table.specs.Answer.{IsAnswer}
 use Rattle.pep_table.specs.Table.{EntryDemands, TableDemands, entry_at}
-use Rattle.pep_table.proofs.EntryTexts.{if_ok}
 use Rattle.pep_table.proofs.NameDemands.{answer_too, demands_there}
 use Rattle.pep_table.proofs.table.Table.admits.Goals as goal
 
@@ -13,7 +13,7 @@ returns-in-Some-clause-answer c =
     let e = c.in-Some.entry.now in
     let at : entry_at t n ≡ Some e =
     sym c.get.ensures ∙ ap (option_map (λ x. x.now)) c.in-Some.is in
-    if_ok (IsAnswer (EntryDemands e) c.args.version.now c.args.want_pre)
-    (IsAnswer (TableDemands t n) c.args.version.now c.args.want_pre) c.admits.result
+    IfOk-weaker c.admits.result (IsAnswer (EntryDemands e) c.args.version.now c.args.want_pre)
+    (IsAnswer (TableDemands t n) c.args.version.now c.args.want_pre)
     (λ a. answer_too (EntryDemands e) (TableDemands t n) c.args.version.now c.args.want_pre a
     (demands_there t n e at)) c.admits.ensures.answer

@@ -6,7 +6,7 @@ use Rattle.pep_table.specs.Demand.{ApplyingDemands}
 use Rattle.pep_table.specs.Table.{HasExactPoints, IsTable}
 use Rattle.pep_table.specs.Gathering.{TakesApplying}
 use Rattle.pep_table.proofs.FirstFault.{all_defined, first_undefined, next_mapped, table_made}
-use Rattle.pep_table.proofs.FirstFault.{where_made}
+use Rattle.pep_table.proofs.TakenClauses.{always}
 use Rattle.pep_table.proofs.Taking.{all_taken, table_of_applying}
 use Rattle.pep_table.proofs.table.Table.of.Goals as goal
 
@@ -63,5 +63,5 @@ returns-clause-points c =
 
 pub returns-clause-defined : goal.returns-clause-defined
 returns-clause-defined c =
-    where_made c.finish.result (all_defined c.args.environment.now []
+    always c.finish.result (all_defined c.args.environment.now []
     (map requirement_parts c.args.requirements.now) c.loop-i.gathering (taken c))

@@ -5,12 +5,12 @@ use Rattle.pep_require.specs.View.{target_parts}
 use Rattle.pep_table.specs.Gathering.{target_clauses, target_urls, texts_of}
 use Rattle.pep_table.proofs.KeptSets.{kept_none}
 use Rattle.pep_table.proofs.TakenClauses.{always, nothing_more}
-use Rattle.pep_table.proofs.gathered.Gathered.take_target.Goals as goal
+use Rattle.pep_table.proofs.others.Others.take_target.Goals as goal
 
 pub returns-in-Bounds-clause-urls : goal.returns-in-Bounds-clause-urls
 returns-in-Bounds-clause-urls c =
     let keys = c.self.inside.urls.keys in
-    always c.take_clauses.result (nothing_more c.args.self.now.urls
+    always c.take_texts.result (nothing_more c.args.self.now.urls
     (target_urls (target_parts c.args.target.now)) (map (λ x. string_bytes x) keys)
     (kept_none string_cmp (λ x. string_bytes x) (λ x y. refl) keys c.len.ensures.ordered)
     (ap (λ e. e.urls) c.self.view_is) (ap (λ t. target_urls (target_parts t)) c.in-Bounds.is))
