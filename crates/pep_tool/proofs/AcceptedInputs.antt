@@ -1,19 +1,14 @@
 -- Which inputs are accepted in an environment, and the table of what they demand there.
-use Rattle.std.proofs.Common.{◌≡◌, ℕ, ◌⊎◌, List, [], ◌∷◌, ◌∙◌, sym, subst, inl, inr, Option}
-use Rattle.std.proofs.Common.{Some, None}
+use Rattle.std.proofs.Common.{◌≡◌, ℕ, ◌⊎◌, List, [], ◌∷◌, subst, inl, inr}
 use Rattle.std.specs.Prelude.{All, ◌↔◌}
 use Rattle.std.specs.List.{AllZip}
-use Rattle.std.proofs.lemmas.List.Elements.{All-cons, All-head, All-tail}
-use Rattle.pep_marker.proofs.MarkerTruth.{evaluates_one}
+use Rattle.std.proofs.lemmas.List.Elements.{All-cons, All-head, All-nil, All-tail}
 use Rattle.pep_marker.specs.Environment.{EnvironmentParts}
-use Rattle.pep_marker.specs.Holds.{Truth, undefined}
-use Rattle.pep_marker.specs.Marker.{MarkerParts}
 use Rattle.pep_require.proofs.ExtrasLaws.{AllZip-one}
 use Rattle.pep_require.proofs.LineLaws.{one_requirement}
 use Rattle.pep_require.specs.Reads.{Reads}
-use Rattle.pep_require.specs.Requirement.{HasDefinedMarker, HasUndefinedMarker, MarkerSays}
+use Rattle.pep_require.specs.Requirement.{HasDefinedMarker}
 use Rattle.pep_require.specs.Requirement.{RequirementParts}
-use Rattle.pep_table.proofs.Members.{all_none}
 use Rattle.pep_table.proofs.SameDemands.{same_demands}
 use Rattle.pep_table.proofs.Taking.{applying_is_table, no_demands}
 use Rattle.pep_table.specs.Demand.{ApplyingDemands, Demand, Demands, Together}
@@ -24,23 +19,14 @@ use Rattle.pep_tool.specs.declared.input.Input.{Input}
 use Rattle.pep_tool.specs.declared.input.Kind.{Kind}
 use Rattle.pep_tool.specs.declared.input.Kind.TheVariants as kind
 use Rattle.pep_tool.specs.GatheredLines.{GathersInputs}
-use Rattle.pep_tool.specs.Gatherings.{AcceptsBytesIn, BytesDemandIn, GatheredIn, IsAcceptedIn}
-use Rattle.pep_tool.specs.Gatherings.{IsRefusedIn, IsUndefinedList, ListsWhole}
-use Rattle.pep_tool.specs.Lists.{IsListBy, IsRequirementList, content, requirement_lines}
-use Rattle.pep_tool.specs.Refusal.{IsOverflow}
-use Rattle.pep_tool.proofs.ListLemmas.{line_of_list, refused_requirement_list}
+use Rattle.pep_tool.specs.Gathered.{AcceptsBytes, BytesDemand, Gathered, IsAccepted}
+use Rattle.pep_tool.specs.Lists.{IsListBy, IsRequirementList, Lists, content, requirement_lines}
+use Rattle.pep_tool.specs.Refusal.{IsOverflow, IsRefused, IsUndefinedList}
+use Rattle.pep_tool.proofs.DefinedMarkers.{both_markers}
+use Rattle.pep_tool.proofs.ListLemmas.{line_of_list, refused_list}
+use Rattle.pep_tool.proofs.Projects.{one_project, refused_project, undefined_project}
 
 -- ---- refused inputs are not accepted
-
-marker_one : (e : EnvironmentParts) (m : Option MarkerParts) (p q : Truth) → MarkerSays e m p →
-    MarkerSays e m q → p ≡ q
-marker_one e None p q h g = h ∙ sym g
-marker_one e (Some m) p q h g = evaluates_one e m p q h g
-
-both_markers : (e : EnvironmentParts) (r : RequirementParts) → HasDefinedMarker e r →
-    HasUndefinedMarker e r → ⊥
-both_markers e r h g =
-    let same : Some h.0 ≡ undefined = marker_one e r.marker (Some h.0) undefined h.1 g in cc same
 
 -- what a line is read as, with a marker that is defined
 abbrev ReadsDefined : EnvironmentParts → List ℕ → RequirementParts → Type 0
@@ -78,100 +64,104 @@ undefined_list e bytes c rs u s h =
     u.undefined.undefined
 
 refused_bytes : (e : EnvironmentParts) (k : Kind) (bytes : List ℕ) (c : Cause) → ¬ IsOverflow c →
-    IsRefusedIn e k bytes c → ¬ AcceptsBytesIn e k bytes
+    IsRefused e k bytes c → ¬ AcceptsBytes e k bytes
 refused_bytes e kind.List bytes c told (inl h) a =
-    refused_requirement_list bytes c a.0 told h a.1
+    refused_list bytes c a.0 told h a.1
 refused_bytes e kind.List bytes c told (inr h) a = undefined_list e bytes c a.0 h a.1 a.2
+refused_bytes e kind.Project bytes c told (inl h) a =
+    refused_project e.extra bytes c a.0 told h a.1
+refused_bytes e kind.Project bytes c told (inr h) a = undefined_project e bytes c a.0 h a.1 a.2
 
 pub refused_in : (e : EnvironmentParts) (i : Input) (c : Cause) → ¬ IsOverflow c →
-    IsRefusedIn e i.kind i.bytes.items c → ¬ IsAcceptedIn e i
+    IsRefused e i.kind i.bytes.items c → ¬ IsAccepted e i
 refused_in e i c told h = refused_bytes e i.kind i.bytes.items c told h
 
 -- ---- inputs that are taken are accepted
 
 defined_all : (e : EnvironmentParts) (old : TableParts) (rs : List RequirementParts)
     (new : TableParts) → TakesApplying e old rs new → All (HasDefinedMarker e) rs
-defined_all e old [] new t = all_none (HasDefinedMarker e)
+defined_all e old [] new t = All-nil (HasDefinedMarker e)
 defined_all e old (r ∷ rs) new t =
     All-cons (HasDefinedMarker e) r rs (t.1, t.2) (defined_all e t.0 rs new t.4)
 
 pub all_accepted_in : (e : EnvironmentParts) (inputs : List Input) (old new : TableParts) →
-    GathersInputs e inputs old new → All (IsAcceptedIn e) inputs
-all_accepted_in e [] old new g = all_none (IsAcceptedIn e)
+    GathersInputs e inputs old new → All (IsAccepted e) inputs
+all_accepted_in e [] old new g = All-nil (IsAccepted e)
 all_accepted_in e (i ∷ inputs) old new (mid, (rs, is, takes), more) =
-    All-cons (IsAcceptedIn e) i inputs (rs, is, defined_all e old rs mid takes)
+    All-cons (IsAccepted e) i inputs (rs, is, defined_all e old rs mid takes)
     (all_accepted_in e inputs mid new more)
 
 -- ---- the table of what they demand
 
-one_list : (k : Kind) (bytes : List ℕ) (rs qs : List RequirementParts) → ListsWhole k bytes rs →
-    ListsWhole k bytes qs → rs ≡ qs
-one_list kind.List bytes rs qs h g =
+pub one_list : (extra : List ℕ) (k : Kind) (bytes : List ℕ) (rs qs : List RequirementParts) →
+    Lists extra k bytes rs → Lists extra k bytes qs → rs ≡ qs
+one_list extra kind.List bytes rs qs h g =
     AllZip-one Reads one_requirement (requirement_lines bytes) rs qs h.requirements g.requirements
+one_list extra kind.Project bytes rs qs h g = one_project extra bytes rs qs h g
 
 bytes_demand_in : (e : EnvironmentParts) (k : Kind) (bytes : List ℕ) (rs : List RequirementParts)
-    (name : List ℕ) (d : Demand) → ListsWhole k bytes rs →
-    ApplyingDemands e rs name d ↔ BytesDemandIn e k bytes name d
+    (name : List ℕ) (d : Demand) → Lists e.extra k bytes rs →
+    ApplyingDemands e rs name d ↔ BytesDemand e k bytes name d
 bytes_demand_in e k bytes rs name d is = (
   λ h. (rs, is, h),
   λ h. subst (λ (qs : List RequirementParts). ApplyingDemands e qs name d)
-      (one_list k bytes h.0 rs h.1 is) h.2,
+      (one_list e.extra k bytes h.0 rs h.1 is) h.2,
 )
 
 none_more : (e : EnvironmentParts) (Q : Demands) (name : List ℕ) (d : Demand) →
-    Q name d ↔ Together Q (GatheredIn e []) name d
+    Q name d ↔ Together Q (Gathered e []) name d
 none_more e Q name d = ((λ q. inl q), back)
   where
-    back : Q name d ⊎ GatheredIn e [] name d → Q name d
+    back : Q name d ⊎ Gathered e [] name d → Q name d
     back (inl q) = q
     back (inr never) = absurd never
 
 input_more : (e : EnvironmentParts) (Q : Demands) (i : Input) (inputs : List Input)
     (rs : List RequirementParts) (name : List ℕ) (d : Demand) →
-    ListsWhole i.kind i.bytes.items rs →
-    Together (Together Q (ApplyingDemands e rs)) (GatheredIn e inputs) name d
-    ↔ Together Q (GatheredIn e (i ∷ inputs)) name d
+    Lists e.extra i.kind i.bytes.items rs →
+    Together (Together Q (ApplyingDemands e rs)) (Gathered e inputs) name d
+    ↔ Together Q (Gathered e (i ∷ inputs)) name d
 input_more e Q i inputs rs name d is = (there, back)
   where
-    same : ApplyingDemands e rs name d ↔ BytesDemandIn e i.kind i.bytes.items name d
+    same : ApplyingDemands e rs name d ↔ BytesDemand e i.kind i.bytes.items name d
     same = bytes_demand_in e i.kind i.bytes.items rs name d is
 
-    there : (Q name d ⊎ ApplyingDemands e rs name d) ⊎ GatheredIn e inputs name d →
-        Q name d ⊎ GatheredIn e (i ∷ inputs) name d
+    there : (Q name d ⊎ ApplyingDemands e rs name d) ⊎ Gathered e inputs name d →
+        Q name d ⊎ Gathered e (i ∷ inputs) name d
     there (inl (inl q)) = inl q
     there (inl (inr h)) = inr (inl (same.0 h))
     there (inr h) = inr (inr h)
 
-    back : Q name d ⊎ GatheredIn e (i ∷ inputs) name d →
-        (Q name d ⊎ ApplyingDemands e rs name d) ⊎ GatheredIn e inputs name d
+    back : Q name d ⊎ Gathered e (i ∷ inputs) name d →
+        (Q name d ⊎ ApplyingDemands e rs name d) ⊎ Gathered e inputs name d
     back (inl q) = inl (inl q)
     back (inr (inl h)) = inl (inr (same.1 h))
     back (inr (inr h)) = inr h
 
 inputs_table : (e : EnvironmentParts) (Q : Demands) (inputs : List Input) (old new : TableParts) →
     IsTable Q old → HasExactPoints Q old → GathersInputs e inputs old new →
-    IsTable (Together Q (GatheredIn e inputs)) new
-    × HasExactPoints (Together Q (GatheredIn e inputs)) new
+    IsTable (Together Q (Gathered e inputs)) new
+    × HasExactPoints (Together Q (Gathered e inputs)) new
 inputs_table e Q [] old new t p g =
-    same_demands Q (Together Q (GatheredIn e [])) new (none_more e Q) (subst (IsTable Q) g t)
+    same_demands Q (Together Q (Gathered e [])) new (none_more e Q) (subst (IsTable Q) g t)
     (subst (HasExactPoints Q) g p)
 inputs_table e Q (i ∷ inputs) old new t p (mid, (rs, is, takes), more) =
     let one = applying_is_table e Q old rs mid t p takes in
     let all = inputs_table e (Together Q (ApplyingDemands e rs)) inputs mid new one.0 one.1 more in
-    same_demands (Together (Together Q (ApplyingDemands e rs)) (GatheredIn e inputs))
-    (Together Q (GatheredIn e (i ∷ inputs))) new
+    same_demands (Together (Together Q (ApplyingDemands e rs)) (Gathered e inputs))
+    (Together Q (Gathered e (i ∷ inputs))) new
     (λ name d. input_more e Q i inputs rs name d is) all.0 all.1
 
 -- the table of all that the inputs demand
 pub gathered_table : (e : EnvironmentParts) (inputs : List Input) (new : TableParts) →
     GathersInputs e inputs [] new →
-    IsTable (GatheredIn e inputs) new × HasExactPoints (GatheredIn e inputs) new
+    IsTable (Gathered e inputs) new × HasExactPoints (Gathered e inputs) new
 gathered_table e inputs new g =
     let all = inputs_table e (λ name d. ⊥) inputs [] new no_demands.0 no_demands.1 g in
-    same_demands (Together (λ name d. ⊥) (GatheredIn e inputs)) (GatheredIn e inputs) new
+    same_demands (Together (λ name d. ⊥) (Gathered e inputs)) (Gathered e inputs) new
     (λ name d. (back name d, λ w. inr w)) all.0 all.1
   where
-    back : (name : List ℕ) (d : Demand) → ⊥ ⊎ GatheredIn e inputs name d →
-        GatheredIn e inputs name d
+    back : (name : List ℕ) (d : Demand) → ⊥ ⊎ Gathered e inputs name d →
+        Gathered e inputs name d
     back name d (inl q) = absurd q
     back name d (inr w) = w

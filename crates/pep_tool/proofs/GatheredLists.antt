@@ -1,11 +1,16 @@
 -- The loops of `gather`: over the lines of a list, and over inputs.
 use Rattle.std.proofs.Common.{◌≡◌, ◌≢◌, ℕ, ◌+◌, ◌<◌, ◌≤◌, ◌⊎◌, List, [], ◌∷◌, ◌++◌, length, take}
-use Rattle.std.proofs.Common.{length-take-le, get_or, drop, refl, sym, ap, subst, ◌∙◌, inl, inr}
-use Rattle.std.proofs.Common.{arith}
+use Rattle.std.proofs.Common.{Bor, Option, Some, None, Result, Ok, Err, IfOk, IfErr, codes}
+use Rattle.std.proofs.Common.{option_map, get_or, map, refl, sym, ap, subst, ◌∙◌, inl, inr}
+use Rattle.std.specs.Prelude.{unwrap_or}
 use Rattle.std.proofs.lemmas.List.{take_more}
-use Rattle.pep_marker.specs.Environment.{EnvironmentParts}
-use Rattle.pep_require.specs.Requirement.{RequirementParts}
+use Rattle.std.proofs.lemmas.Option.{same_Some}
+use Rattle.pep_marker.specs.declared.fault.MarkerFault.{MarkerFault}
+use Rattle.pep_marker.specs.declared.fault.MarkerFault.TheVariants as marker_fault
+use Rattle.pep_marker.specs.Environment.{EnvironmentParts, value_at}
+use Rattle.pep_require.specs.Requirement.{HasUndefinedMarker, RequirementParts}
 use Rattle.pep_require.specs.declared.fault.RequireFault.TheVariants as require
+use Rattle.pep_table.proofs.FirstFault.{next_mapped}
 use Rattle.pep_table.proofs.Taking.{all_taken}
 use Rattle.pep_table.specs.Gathering.{TakesApplying}
 use Rattle.pep_table.specs.Table.{TableParts}
@@ -16,17 +21,17 @@ use Rattle.pep_tool.specs.declared.fault.LineFault.{LineFault}
 use Rattle.pep_tool.specs.declared.fault.LineFault.TheVariants as line_fault
 use Rattle.pep_tool.specs.declared.fault.Place.TheVariants as place
 use Rattle.pep_tool.specs.declared.input.Input.{Input}
-use Rattle.pep_tool.specs.declared.input.Kind.{Kind}
 use Rattle.pep_tool.specs.declared.input.Kind.TheVariants as kind
 use Rattle.pep_tool.specs.GatheredLines.{GathersBytes, GathersInputs, GathersLine, RefusesLineIn}
-use Rattle.pep_tool.specs.GatheredLines.{RefusesListIn}
-use Rattle.pep_tool.specs.Gatherings.{IsRefusedIn, IsUndefinedList, RefusesInputsIn}
-use Rattle.pep_tool.specs.Lists.{input_limit, lines_of}
-use Rattle.pep_tool.specs.Refusal.{IsNumbered, IsRefusedRequirementList, no_memory}
+use Rattle.pep_tool.specs.GatheredLines.{RefusesInput, RefusesListIn}
+use Rattle.pep_tool.specs.Lists.{IsProjectOf, input_limit, lines_of}
+use Rattle.pep_tool.specs.Refusal.{IsNumbered, IsRefused, IsRefusedProject, IsUndefinedAt}
+use Rattle.pep_tool.specs.Refusal.{RefusesInputs, no_memory}
 use Rattle.pep_tool.proofs.AcceptedInputs.{refused_in}
 use Rattle.pep_tool.proofs.ListLemmas.{line_refuses}
-use Rattle.pep_tool.proofs.MergeLemmas.{numbered}
-use Rattle.pep_tool.proofs.RequirementLists.{SoFar, all_read, known_cause, none_read, one_line_more}
+use Rattle.pep_tool.proofs.Placed.{placed}
+use Rattle.pep_tool.proofs.ReadTexts.{numbered, numbered_mapped}
+use Rattle.pep_tool.proofs.RequirementLists.{SoFar, all_read, one_line_more}
 use Rattle.pep_tool.proofs.RequirementLists.{taken_behind}
 
 -- ---- lines
@@ -36,10 +41,6 @@ abbrev pub TakenSoFar : EnvironmentParts → List ℕ → ℕ → List (List ℕ
     Type 0
 TakenSoFar e read number left old new =
     (rs : List RequirementParts) × SoFar read number left rs × TakesApplying e old rs new
-
-pub none_taken : (e : EnvironmentParts) (read : List ℕ) (s : TableParts) →
-    TakenSoFar e read 0 (lines_of read) s s
-none_taken e read s = ([], none_read read, refl)
 
 pub line_taken : (e : EnvironmentParts) (read line : List ℕ) (number : ℕ) (left : List (List ℕ))
     (old mid new : TableParts) → TakenSoFar e read number (line ∷ left) old mid →
@@ -82,62 +83,105 @@ inputs_then e [] i old mid new g h =
 inputs_then e (j ∷ inputs) i old mid new g h =
     (g.0, g.1, inputs_then e inputs i g.0 mid new g.2 h)
 
-of_kind : (e : EnvironmentParts) (k : Kind) (bytes : List ℕ) (old new : TableParts) →
-    GathersBytes e kind.List bytes old new → GathersBytes e k bytes old new
-of_kind e kind.List bytes old new h = h
-
 pub input_taken : (e : EnvironmentParts) (inputs : List Input) (k : ℕ) (i : Input)
     (old mid new : TableParts) → k < length inputs → i ≡ get_or inputs k i →
-    GathersInputs e (take k inputs) old mid → GathersBytes e kind.List i.bytes.items mid new →
+    GathersInputs e (take k inputs) old mid → GathersBytes e i.kind i.bytes.items mid new →
     GathersInputs e (take (k + 1) inputs) old new
 input_taken e inputs k i old mid new lt is g h =
     let more : take (k + 1) inputs ≡ take k inputs ++ i ∷ [] =
     take_more inputs k i lt ∙ ap (λ (j : Input). take k inputs ++ j ∷ []) (sym is) in
     subst (λ (t : List Input). GathersInputs e t old new) (sym more)
-    (inputs_then e (take k inputs) i old mid new g (of_kind e i.kind i.bytes.items mid new h))
+    (inputs_then e (take k inputs) i old mid new g h)
 
--- a cause of a refusal is no want of memory
-known_in : (e : EnvironmentParts) (bytes : List ℕ) (c : Cause) →
-    IsRefusedRequirementList bytes c ⊎ IsUndefinedList e bytes c → c ≢ cause.NoMemory
-known_in e bytes c (inl h) = known_cause bytes c h
-known_in e bytes c (inr h) = λ memory. cc (h.is, memory)
-
-refused_kind : (e : EnvironmentParts) (k : Kind) (bytes : List ℕ) (c : Cause) →
-    IsRefusedRequirementList bytes c ⊎ IsUndefinedList e bytes c → IsRefusedIn e k bytes c
-refused_kind e kind.List bytes c h = h
-
-memory_or_bytes : (e : EnvironmentParts) (bytes : List ℕ) (c : Cause) → RefusesListIn e bytes c →
-    (c ≡ cause.NoMemory) ⊎ (IsRefusedRequirementList bytes c ⊎ IsUndefinedList e bytes c)
-memory_or_bytes e bytes c (inl (inl memory)) = inl memory
-memory_or_bytes e bytes c (inl (inr h)) = inr (inl h)
-memory_or_bytes e bytes c (inr h) = inr (inr h)
+-- why a list is refused
+pub list_refuses_in : (e : EnvironmentParts) (bytes : List ℕ) (c : Cause) →
+    RefusesListIn e bytes c → RefusesInput e kind.List bytes c
+list_refuses_in e bytes c (inl (inl memory)) = inl memory
+list_refuses_in e bytes c (inl (inr h)) = inr (inl h)
+list_refuses_in e bytes c (inr h) = inr (inr h)
 
 -- the fault of an input
 pub input_blamed_in : (e : EnvironmentParts) (inputs : List Input) (k number : ℕ) (i : Input)
     (c : Cause) (f : Fault) → k < length inputs → i ≡ get_or inputs k i → number ≡ k →
-    RefusesListIn e i.bytes.items c → f.cause ≡ c → (c ≡ cause.NoMemory → f ≡ no_memory) →
-    (c ≢ cause.NoMemory → f.place ≡ place.Input (number + 1)) → RefusesInputsIn e inputs f
+    RefusesInput e i.kind i.bytes.items c → f.cause ≡ c → (c ≡ cause.NoMemory → f ≡ no_memory) →
+    (c ≢ cause.NoMemory → f.place ≡ place.Input (number + 1)) → RefusesInputs e inputs f
 input_blamed_in e inputs k number i c f lt is counted refuses same none at =
-    by (memory_or_bytes e i.bytes.items c refuses)
-  where
-    by : (c ≡ cause.NoMemory)
-        ⊎ (IsRefusedRequirementList i.bytes.items c ⊎ IsUndefinedList e i.bytes.items c) →
-        RefusesInputsIn e inputs f
-    by (inl memory) = inl (none memory)
-    by (inr h) =
-        let here : IsRefusedIn e i.kind i.bytes.items f.cause =
-        subst (IsRefusedIn e i.kind i.bytes.items) (sym same)
-        (refused_kind e i.kind i.bytes.items c h) in
-        inr (record {
-          number = number + 1;
-          input = i;
-          numbered = record {
-            before = take k inputs;
-            behind = drop (k + 1) inputs;
-            whole = numbered inputs k i lt is;
-            counted = ap (λ n. n + 1) (counted ∙ sym (length-take-le k inputs (omega (arith, lt))));
-          };
-          lies = at (known_in e i.bytes.items c h);
-          refused = here;
-          not_accepted = λ told. refused_in e i f.cause told here;
-        })
+    elim (placed (IsRefused e i.kind i.bytes.items) (place.Input (number + 1)) c f refuses same
+    none at) [
+      | inl memory ↦ inl memory
+      | inr h ↦ inr (record {
+        number = number + 1;
+        input = i;
+        numbered = numbered inputs k number i lt is counted;
+        lies = h.0;
+        refused = h.1;
+        not_accepted = λ told. refused_in e i f.cause told h.1;
+      })
+    ]
+
+-- ---- requirements of a project file
+
+pub requirement_taken : {A : Type 0} (parts : A → RequirementParts) (e : EnvironmentParts)
+    (rs : List A) (k : ℕ) (r : A) (old mid new : TableParts) → r ≡ get_or rs k r →
+    k < length rs → TakesApplying e old (map parts (take k rs)) mid →
+    TakesApplying e mid (parts r ∷ []) new →
+    TakesApplying e old (map parts (take (k + 1) rs)) new
+requirement_taken parts e rs k r old mid new is lt taken one =
+    subst (λ (qs : List RequirementParts). TakesApplying e old qs new)
+    (sym (next_mapped parts rs k r is lt))
+    (all_taken e old (map parts (take k rs)) mid (parts r ∷ []) new taken one)
+
+pub requirement_undefined : {A : Type 0} (parts : A → RequirementParts) (e : EnvironmentParts)
+    (rs : List A) (k number : ℕ) (r : A) (c : Cause) → k < length rs → r ≡ get_or rs k r →
+    number ≡ k → HasUndefinedMarker e (parts r) →
+    c ≡ cause.Line (number + 1) line_fault.Undefined → IsUndefinedAt e (map parts rs) c
+requirement_undefined parts e rs k number r c lt is counted undefined same = record {
+  number = number + 1;
+  requirement = parts r;
+  numbered = numbered_mapped parts rs (number + 1) r (numbered rs k number r lt is counted);
+  undefined = undefined;
+  is = same;
+}
+
+-- of the faults of a requirement in an environment this one is not want of memory
+pub undefined_told : {H : Type 0} (f : MarkerFault) → f ≡ marker_fault.Undefined →
+    (f ≡ marker_fault.NoMemory) ⊎ ((f ≡ marker_fault.Undefined) × H) → H
+undefined_told f is (inl memory) = cc (is, memory)
+undefined_told f is (inr h) = h.1
+
+-- ---- a project file, read for the extra of the environment
+
+pub extra_of : (e : EnvironmentParts) (r : Option (Bor (List ℕ))) (d t : Bor (List ℕ)) →
+    option_map (λ (b : Bor (List ℕ)). b.now) r ≡ value_at e (codes "extra") →
+    t ≡ unwrap_or r d → t.now ≡ e.extra
+extra_of e (Some x) d t h is = ap (λ (b : Bor (List ℕ)). b.now) is ∙ same_Some x.now e.extra h
+extra_of e None d t h is = cc h
+
+pub project_refuses_in : (e : EnvironmentParts) (extra bytes : List ℕ) (c : Cause) →
+    extra ≡ e.extra → (c ≡ cause.NoMemory) ⊎ IsRefusedProject extra bytes c →
+    RefusesInput e kind.Project bytes c
+project_refuses_in e extra bytes c same (inl memory) = inl memory
+project_refuses_in e extra bytes c same (inr h) =
+    inr (inl (subst (λ x. IsRefusedProject x bytes c) same h))
+
+module _ (e : EnvironmentParts) (extra bytes : List ℕ) (rs given : List RequirementParts)
+    (same : extra ≡ e.extra) (all : given ≡ rs) (is : IsProjectOf extra bytes rs) where
+  pub project_taken : (old : TableParts) (r : Result TableParts Cause) →
+      IfOk r (TakesApplying e old given) → IfOk r (GathersBytes e kind.Project bytes old)
+  project_taken old (Ok new) h = (
+    rs,
+    subst (λ x. IsProjectOf x bytes rs) same is,
+    subst (λ qs. TakesApplying e old qs new) all h,
+  )
+  project_taken old (Err c) h = tt
+
+  pub project_undefined : (r : Result TableParts Cause) →
+      IfErr r (λ c. (c ≡ cause.NoMemory) ⊎ IsUndefinedAt e given c) →
+      IfErr r (RefusesInput e kind.Project bytes)
+  project_undefined (Ok new) h = tt
+  project_undefined (Err c) (inl memory) = inl memory
+  project_undefined (Err c) (inr h) = inr (inr (
+    rs,
+    subst (λ x. IsProjectOf x bytes rs) same is,
+    subst (λ qs. IsUndefinedAt e qs c) all h,
+  ))

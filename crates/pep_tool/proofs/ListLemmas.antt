@@ -1,11 +1,11 @@
 -- The lines of a list, and what they give.
-use Rattle.std.proofs.Common.{◌≡◌, ◌≢◌, ℕ, zero, suc, ◌+◌, ◌<◌, ◌≤◌, ◌==◌, ◌⊎◌, Bool, true, cond}
+use Rattle.std.proofs.Common.{◌≡◌, ◌≢◌, ℕ, suc, ◌+◌, ◌<◌, ◌≤◌, ◌==◌, ◌⊎◌, Bool, true, cond}
 use Rattle.std.proofs.Common.{false, not, List, [], ◌∷◌, ◌++◌, length, length-append, map, refl}
-use Rattle.std.proofs.Common.{sym, ap, subst, ◌∙◌, arith, inl, inr, append_assoc, append-nil}
+use Rattle.std.proofs.Common.{sym, ap, subst, ◌∙◌, arith, inl, inr}
 use Rattle.std.proofs.Common.{Option, Some, None}
 use Rattle.std.specs.Borrow.{Bor}
-use Rattle.std.specs.Prelude.{⊤, IfSome, IsSome, slice_index_or, filter, IsUtf8}
-use Rattle.std.specs.List.{All, AllByRecursion, AllZip, onto_first}
+use Rattle.std.specs.Prelude.{IfSome, IsSome, slice_index_or, filter, IsUtf8}
+use Rattle.std.specs.List.{AllZip, onto_first}
 use Rattle.std.proofs.lemmas.Bool.{cases_lt}
 use Rattle.std.proofs.lemmas.List.{map-append}
 use Rattle.std.proofs.lemmas.List.Elements.{filter-append}
@@ -19,84 +19,16 @@ use Rattle.pep_tool.specs.declared.fault.Cause.TheVariants as cause
 use Rattle.pep_tool.specs.declared.fault.LineFault.{LineFault}
 use Rattle.pep_tool.specs.declared.fault.LineFault.TheVariants as line_fault
 use Rattle.pep_require.proofs.LineLaws.{refused_is_not_read}
-use Rattle.pep_tool.specs.Line.{ReadsLine, RefusesLine}
-use Rattle.pep_tool.specs.Lists.{IsListBy, IsListOf, IsRequirementList, content, input_limit}
+use Rattle.pep_tool.specs.Lists.{IsListBy, IsRequirementList, content, input_limit}
 use Rattle.pep_tool.specs.Lists.{is_skipped, lines_of, requirement_lines}
-use Rattle.pep_tool.specs.Refusal.{IsNumbered, IsOverflow, IsRefusedLineBy, IsRefusedList}
-use Rattle.pep_tool.specs.Refusal.{IsRefusedListBy, IsRefusedRequirementList}
+use Rattle.pep_tool.specs.Refusal.{IsNumbered, IsOverflow, IsRefusedLine, IsRefusedList}
 use Rattle.pep_tool.specs.Refusal.{by_content, by_encoding, by_length, by_line, by_size}
-use Rattle.pep_tool.specs.Sets.{Gathers, HasClause, IsGathered, IsGoodLine, IsGoodLineBy}
-use Rattle.pep_tool.specs.Sets.{IsReadOf, LineGives}
-use Rattle.pep_tool.specs.Sets.{LineParts, LinesGive, ListGives, MergesLine, MergesList, Pair}
-use Rattle.pep_tool.specs.Sets.{RefusesLineBytesBy, RefusesListBy, Sets, line_requirement, pairs_of}
+use Rattle.pep_tool.specs.LineReading.{IsReadOf, RefusesLineBytes, RefusesList}
 use Rattle.pep_version.specs.Split.{left_parts}
-use Rattle.pep_tool.proofs.LineLemmas.{line_refused}
-
--- ---- lines in turn
-
-pub gives_append : (done : List (List ℕ)) (ps : List Pair) (line : List ℕ) (more : List Pair) →
-    LinesGive done ps → LineGives line more → LinesGive (done ++ line ∷ []) (ps ++ more)
-gives_append [] ps line more g h =
-    (more, [], h, refl, ap (λ (l : List Pair). l ++ more) g ∙ sym (append-nil more))
-gives_append (d ∷ done) ps line more g h = (
-  g.0,
-  g.1 ++ more,
-  g.2,
-  gives_append done g.1 line more g.3 h,
-  ap (λ (l : List Pair). l ++ more) g.4 ∙ append_assoc g.0 g.1 more,
-)
-
-pub good_append : (done : List (List ℕ)) (line : List ℕ) → AllByRecursion IsGoodLine done →
-    IsGoodLine line → AllByRecursion IsGoodLine (done ++ line ∷ [])
-good_append [] line g h = (h, tt)
-good_append (d ∷ done) line g h = (g.0, good_append done line g.1 h)
 
 -- the requirement lines among these lines
 abbrev pub requirements_among : List (List ℕ) → List (List ℕ)
 requirements_among lines = filter (λ x. not (is_skipped x)) (map content lines)
-
--- what lines give in turn: lines of parts, whose pairs these are
-abbrev GivesParts : List (List ℕ) → List Pair → Type 0
-GivesParts lines ps =
-    (ls : List LineParts) × AllZip ReadsLine (requirements_among lines) (map line_requirement ls)
-    × AllByRecursion HasClause ls × (ps ≡ pairs_of ls)
-
-gives_parts : (lines : List (List ℕ)) (ps : List Pair) → LinesGive lines ps → GivesParts lines ps
-gives_parts [] ps g = ([], tt, tt, g)
-gives_parts (line ∷ lines) ps g = by g.0 g.2 (gives_parts lines g.1 g.3) g.4
-  where
-    by : (first : List Pair) → LineGives line first → GivesParts lines g.1 → (ps ≡ first ++ g.1) →
-        GivesParts (line ∷ lines) ps
-    by first (inl h) (ls, z, some, are) e = (ls, rw h.0 z, some, e ∙ rw h.1 are)
-    by first (inr h) (ls, z, some, are) e =
-        (h.1.0 ∷ ls, rw h.0 (h.1.1, z), (h.1.2, some), e ∙ (λ i. h.1.3 i ++ are i))
-
-all_from : (P : List ℕ → Type 0) (lines : List (List ℕ)) → AllByRecursion IsGoodLine lines →
-    ((line : List ℕ) → IsGoodLine line → P line) → All P lines
-all_from P [] g f = λ k d lt. absurd (omega (arith, lt))
-all_from P (line ∷ lines) g f = λ k d lt. by k d lt (all_from P lines g.1 f)
-  where
-    by : (k : ℕ) (d : List ℕ) → k < length (line ∷ lines) → All P lines →
-        P (slice_index_or (line ∷ lines) k d)
-    by zero d lt rest = f line g.0
-    by (suc k) d lt rest = rest k d (omega arith)
-
--- good lines that give pairs are a list of them
-pub list_gives : (bytes : List ℕ) (ps : List Pair) → length bytes ≤ input_limit →
-    AllByRecursion IsGoodLine (lines_of bytes) → LinesGive (lines_of bytes) ps → ListGives bytes ps
-list_gives bytes ps size good gives =
-    let parts = gives_parts (lines_of bytes) ps gives in (
-      parts.0,
-      record {
-        size = size;
-        short =
-            all_from (λ line. length line ≤ line_limit) (lines_of bytes) good (λ line g. g.short);
-        texts = all_from IsUtf8 (lines_of bytes) good (λ line g. g.text);
-        requirements = parts.1;
-      },
-      parts.2,
-      parts.3,
-    )
 
 -- ---- a line of a list
 
@@ -126,10 +58,17 @@ kept_first : (reads : Reader) (line : List ℕ) (left : List (List ℕ)) (rs : L
 kept_first reads line left rs seen z =
     zip_first reads (content line) (requirements_among left) rs (rw seen at z)
 
+-- a line that a list may have, by what a line is read as
+pub record IsGoodLine (reads : Reader) (line : List ℕ) : Type 0 where
+  pub short : length line ≤ line_limit
+  pub text : IsUtf8 line
+  pub requirement : is_skipped (content line) ≡ false → (r : RequirementParts)
+      × reads (content line) r
+
 -- each line of a list is a good one
 pub line_of_list : {reads : Reader} (bytes : List ℕ) (done : List (List ℕ)) (line : List ℕ)
     (left : List (List ℕ)) (rs : List RequirementParts) → lines_of bytes ≡ done ++ line ∷ left →
-    IsListBy reads bytes rs → IsGoodLineBy reads line
+    IsListBy reads bytes rs → IsGoodLine reads line
 line_of_list {reads} bytes done line left rs e s =
     let place : length done < length (lines_of bytes) =
     rw (e, length-append done (line ∷ left)) (omega arith) in
@@ -152,50 +91,25 @@ line_of_list {reads} bytes done line left rs e s =
 
 -- ---- refusals
 
--- what is refused with a fault of which this is known, is not read
-abbrev Excludes : (List ℕ → RequireFault → Type 0) → Reader → (RequireFault → Type 0) → Type 0
-Excludes refuses reads known =
-    (x : List ℕ) (r : RequirementParts) (f : RequireFault) → f ≢ fault.NoMemory → known f →
-    refuses x f → reads x r → ⊥
-
 -- a line that is refused is none that a list may have
-spoiled : {refuses : List ℕ → RequireFault → Type 0} {reads : Reader}
-    {known : RequireFault → Type 0} → Excludes refuses reads known → (line : List ℕ)
-    (f : LineFault) → ((g : RequireFault) → f ≡ line_fault.Requirement g → known g) →
-    IsRefusedLineBy refuses line f → ¬ IsGoodLineBy reads line
-spoiled out line f told (by_length long e) good = absurd (omega (arith, long, good.short))
-spoiled out line f told (by_encoding short other e) good = other good.text
-spoiled out line f told (by_content g short text seen memory refuses e) good =
-    let r = good.requirement seen in out (content line) r.0 g memory (told g e) refuses r.1
+spoiled : (line : List ℕ) (f : LineFault) → f ≢ line_fault.Requirement fault.UrlOverflow →
+    IsRefusedLine line f → ¬ IsGoodLine Reads line
+spoiled line f told (by_length long e) good = absurd (omega (arith, long, good.short))
+spoiled line f told (by_encoding short other e) good = other good.text
+spoiled line f told (by_content g short text seen memory refuses e) good =
+    let r = good.requirement seen in
+    refused_is_not_read (content line) r.0 g memory
+    (λ over. told (e ∙ ap line_fault.Requirement over)) refuses r.1
 
 -- bytes that are refused as a list are none
-refused_list_by : {refuses : List ℕ → RequireFault → Type 0} {reads : Reader}
-    {known : RequireFault → Type 0} → Excludes refuses reads known → (bytes : List ℕ) (c : Cause) →
-    ((number : ℕ) (g : RequireFault) → c ≡ cause.Line number (line_fault.Requirement g) →
-    known g) →
-    IsRefusedListBy refuses bytes c → (rs : List RequirementParts) → ¬ IsListBy reads bytes rs
-refused_list_by out bytes c told (by_size large e) rs s = absurd (omega (arith, large, s.size))
-refused_list_by out bytes c told (by_line number line f at refused e) rs s =
-    spoiled out line f (λ g same. told number g (e ∙ ap (cause.Line number) same)) refused
-    (line_of_list bytes at.before line at.behind rs at.whole s)
+pub refused_list : (bytes : List ℕ) (c : Cause) (rs : List RequirementParts) →
+    ¬ IsOverflow c → IsRefusedList bytes c → ¬ IsRequirementList bytes rs
+refused_list bytes c rs told (by_size large e) s = absurd (omega (arith, large, s.size))
+refused_list bytes c rs told (by_line number line f at refused e) s =
+    spoiled line f (λ over. told (number, e ∙ ap (cause.Line number) over)) refused
+    (line_of_list {reads = Reads} bytes at.before line at.behind rs at.whole s)
 
--- .. of the lines that are merged today
-pub refused_list : (bytes : List ℕ) (c : Cause) → IsRefusedList bytes c →
-    (rs : List RequirementParts) → ¬ IsListOf bytes rs
-refused_list bytes c =
-    refused_list_by {refuses = RefusesLine} {reads = ReadsLine} {known = λ f. ⊤}
-    (λ x r f memory known h s. line_refused x f r memory h s) bytes c (λ number g e. tt)
-
--- .. of whole requirement lines
-pub refused_requirement_list : (bytes : List ℕ) (c : Cause) (rs : List RequirementParts) →
-    ¬ IsOverflow c → IsRefusedRequirementList bytes c → ¬ IsRequirementList bytes rs
-refused_requirement_list bytes c rs told h =
-    refused_list_by {refuses = requirement.RefusesLine} {reads = Reads}
-    {known = λ f. f ≢ fault.UrlOverflow}
-    refused_is_not_read bytes c (λ number g e over. told
-    (number, subst (λ t. c ≡ cause.Line number (line_fault.Requirement t)) over e)) h rs
-
-known : (f : RequireFault) → (f ≡ fault.NoMemory) ⊎ (f ≢ fault.NoMemory)
+pub known : (f : RequireFault) → (f ≡ fault.NoMemory) ⊎ (f ≢ fault.NoMemory)
 known fault.NoMemory = inl refl
 known (fault.BadClause g) = inr (λ e. cc e)
 known (fault.BadMarker g) = inr (λ e. cc e)
@@ -208,42 +122,42 @@ known fault.LineTooLong = inr (λ e. cc e)
 known fault.UrlOverflow = inr (λ e. cc e)
 
 -- a fault of a line is no want of memory, whatever a line is refused for
-line_known : {R : List ℕ → RequireFault → Type 0} (line : List ℕ) (f : LineFault) →
-    IsRefusedLineBy R line f → f ≢ line_fault.Requirement fault.NoMemory
+line_known : (line : List ℕ) (f : LineFault) →
+    IsRefusedLine line f → f ≢ line_fault.Requirement fault.NoMemory
 line_known line f (by_length long e) memory = cc (e, memory)
 line_known line f (by_encoding short other e) memory = cc (e, memory)
 line_known line f (by_content g short text seen known refuses e) memory = known (cc (e, memory))
 
 -- a line whose content is refused
-pub content_refuses : {R : List ℕ → RequireFault → Type 0} (line : List ℕ) (f : RequireFault) →
+pub content_refuses : (line : List ℕ) (f : RequireFault) →
     length line ≤ line_limit → IsUtf8 line → is_skipped (content line) ≡ false →
-    R (content line) f → RefusesLineBytesBy R line (line_fault.Requirement f)
-content_refuses {R} line f short text seen refuses = by (known f)
+    requirement.RefusesLine (content line) f → RefusesLineBytes line (line_fault.Requirement f)
+content_refuses line f short text seen refuses = by (known f)
   where
     by : (f ≡ fault.NoMemory) ⊎ (f ≢ fault.NoMemory) →
-        RefusesLineBytesBy R line (line_fault.Requirement f)
+        RefusesLineBytes line (line_fault.Requirement f)
     by (inl memory) = inl (ap line_fault.Requirement memory)
     by (inr other) = inr (by_content f short text seen other refuses refl)
 
 -- the cause of a fault of a line
-pub line_refuses : {R : List ℕ → RequireFault → Type 0} (bytes line : List ℕ) (number : ℕ)
+pub line_refuses : (bytes line : List ℕ) (number : ℕ)
     (f : LineFault) (c : Cause) → IsNumbered (lines_of bytes) number line →
-    RefusesLineBytesBy R line f → (f ≡ line_fault.Requirement fault.NoMemory → c ≡ cause.NoMemory) →
-    (f ≢ line_fault.Requirement fault.NoMemory → c ≡ cause.Line number f) → RefusesListBy R bytes c
+    RefusesLineBytes line f → (f ≡ line_fault.Requirement fault.NoMemory → c ≡ cause.NoMemory) →
+    (f ≢ line_fault.Requirement fault.NoMemory → c ≡ cause.Line number f) → RefusesList bytes c
 line_refuses bytes line number f c at (inl memory) none told = inl (none memory)
 line_refuses bytes line number f c at (inr refused) none told =
     inr (by_line number line f at refused (told (line_known line f refused)))
 
 -- the cause of a list that goes on behind its largest size
-cut_refuses : {R : List ℕ → RequireFault → Type 0} (bytes line : List ℕ) (number : ℕ) (c : Cause) →
+cut_refuses : (bytes line : List ℕ) (number : ℕ) (c : Cause) →
     input_limit < length bytes →
     ((longer : List ℕ) × IsNumbered (lines_of bytes) number longer
     × (length line ≤ length longer)) →
     (line_limit < length line → c ≡ cause.Line number (line_fault.Requirement fault.LineTooLong)) →
-    (length line ≤ line_limit → c ≡ cause.TooLarge) → RefusesListBy R bytes c
-cut_refuses {R} bytes line number c large at long fits = by (cases_lt line_limit (length line))
+    (length line ≤ line_limit → c ≡ cause.TooLarge) → RefusesList bytes c
+cut_refuses bytes line number c large at long fits = by (cases_lt line_limit (length line))
   where
-    by : (line_limit < length line) ⊎ (length line ≤ line_limit) → RefusesListBy R bytes c
+    by : (line_limit < length line) ⊎ (length line ≤ line_limit) → RefusesList bytes c
     by (inl more) =
         inr (by_line number at.0 (line_fault.Requirement fault.LineTooLong) at.1
         (by_length (omega (arith, more, at.2)) refl) (long more))
@@ -343,12 +257,12 @@ last_of_read bytes read more line done number goes e counted =
     )
 
 -- why a list that goes on behind its largest size is refused in its last line
-pub cut_of_read : {R : List ℕ → RequireFault → Type 0} (bytes read line : List ℕ) (fits : Bool)
+pub cut_of_read : (bytes read line : List ℕ) (fits : Bool)
     (done : List (List ℕ)) (after : Option (Bor (List ℕ))) (number : ℕ) (c : Cause) →
     fits ≡ false → after ≡ None → IsReadOf fits read bytes → lines_of read ≡ done
     ++ line ∷ left_parts 10 after → number ≡ length done + 1 →
     (line_limit < length line → c ≡ cause.Line number (line_fault.Requirement fault.LineTooLong)) →
-    (length line ≤ line_limit → c ≡ cause.TooLarge) → RefusesListBy R bytes c
+    (length line ≤ line_limit → c ≡ cause.TooLarge) → RefusesList bytes c
 cut_of_read bytes read line true done after number c cut over is e counted long large = cc cut
 cut_of_read bytes read line false done (Some rest) number c cut over is e counted long large =
     cc over
@@ -389,43 +303,6 @@ line_of_read bytes read line false done (Some rest) number is e more counted =
     }
 
 -- ---- the loop over lines
-
--- the lines before these were taken in
-abbrev pub SoFar : List ℕ → ℕ → List (List ℕ) → Sets → Sets → Type 0
-SoFar read number left old new =
-    (done : List (List ℕ)) × (ps : List Pair) × (lines_of read ≡ done ++ left)
-    × AllByRecursion IsGoodLine done × LinesGive done ps × Gathers old ps new
-    × (number ≡ length done)
-
-gathers_both : (old mid new : Sets) (ps more : List Pair) → Gathers old ps mid →
-    Gathers mid more new → Gathers old (ps ++ more) new
-gathers_both old mid new ps more first second =
-    λ qs g. subst (λ (l : List Pair). IsGathered l new) (append_assoc qs ps more) (second (qs
-    ++ ps) (first qs g))
-
-pub so_far_more : (read line : List ℕ) (number : ℕ) (left : List (List ℕ)) (old mid new : Sets) →
-    SoFar read number (line ∷ left) old mid → MergesLine line mid new →
-    SoFar read (number + 1) left old new
-so_far_more read line number left old mid new s m = (
-  s.0 ++ line ∷ [],
-  s.1 ++ m.0,
-  s.2 ∙ sym (append_assoc s.0 (line ∷ []) left),
-  good_append s.0 line s.3 m.1,
-  gives_append s.0 s.1 line m.0 s.4 m.2,
-  gathers_both old mid new s.1 m.0 s.5 m.3,
-  rw (length-append s.0 (line ∷ []), s.6) refl,
-)
-
--- all lines were taken in
-pub so_far_all : (read : List ℕ) (number : ℕ) (old new : Sets) → length read ≤ input_limit →
-    SoFar read number [] old new → MergesList read old new
-so_far_all read number old new size s =
-    let all : s.0 ≡ lines_of read = sym (append-nil s.0) ∙ sym s.2 in (
-      s.1,
-      list_gives read s.1 size (subst (AllByRecursion IsGoodLine) all s.3)
-          (subst (λ (l : List (List ℕ)). LinesGive l s.1) all s.4),
-      s.5,
-    )
 
 -- how much is left
 abbrev pub left_len : Option (Bor (List ℕ)) → ℕ

@@ -1,29 +1,37 @@
 -- What the matches of the command line say of the plan.
-use Rattle.std.proofs.Common.{◌≡◌, ◌≢◌, ◌⊎◌, ℕ, ◌<◌, ◌==◌, map, List, [], ◌∷◌, length, Option, Some}
-use Rattle.std.proofs.Common.{None, Result, Ok, Err, IfErr, true, ap, sym, refl, ◌∙◌, inl}
-use Rattle.std.proofs.Common.{inr, arith, option_map, option_and_then, Bool, false, not}
-use Rattle.std.specs.Borrow.{Bor}
-use Rattle.std.specs.Box.{box_value}
+use Rattle.std.proofs.Common.{◌≡◌, ◌≢◌, ◌⊎◌, ◌<◌, ◌==◌, map, List, [], ◌∷◌, length, Option, Some}
+use Rattle.std.proofs.Common.{None, IfOk, IfErr, true, ap, ap₂, sym, refl, ◌∙◌, inl}
+use Rattle.std.proofs.Common.{inr, arith, codes, option_map, option_and_then, Bool, false}
+use Rattle.std.proofs.lemmas.Slice.Eq.{bytes_eq-Decides}
+use Rattle.std.specs.Option.{ok_or, option_map_or}
 use Rattle.std.specs.Str.{bytes_eq}
-use Rattle.std.specs.Prelude.{Box}
+use Rattle.std.specs.Str.Parse.{ParsesBool, true_text}
+use Rattle.std.specs.Prelude.{unwrap_or}
 use Rattle.clap.proofs.OnLiterals.{clap_on_literals}
-use Rattle.clap.proofs.WalkLemmas.{first_value-rows}
-use Rattle.clap.specs.Simple.{subcommand_rows}
-use Rattle.clap.specs.Words.{App, HasKind, HasMatchesOf, Kinds, Row, Text, fault_of}
-use Rattle.clap.specs.Words.{first_value, is_simple, is_simple_and_free, kind_of, rows_of}
-use Rattle.clap.specs.Words.{subcommand_name_of, subcommand_of, subcommand_rows_of}
+use Rattle.clap.proofs.WalkLemmas.{one_text-rows}
+use Rattle.clap.specs.Words.{AddsArg, AddsSubcommand, App, HasKind, HasMatchesOf, Kinds, ReadsOne}
+use Rattle.clap.specs.Words.{Rule, Text, app_of, fault_of}
+use Rattle.clap.specs.Words.{is_simple, is_simple_and_free, kind_of, one_text}
+use Rattle.clap.specs.Words.{rows_of, rule_of, subcommand_of}
+use Rattle.clap.specs.Words.{subcommand_rows_of, with_rule, with_subcommand}
+use Rattle.clap.specs.declared.builder.arg.Arg.{Arg}
+use Rattle.clap.specs.declared.builder.command.Command.{Command}
+use Rattle.clap.specs.declared.builder.command.Command.TheViews.{out-Command}
 use Rattle.clap.specs.declared.error.Error.{Error}
 use Rattle.clap.specs.declared.error.kind.ErrorKind.TheVariants.{OutOfMemory}
 use Rattle.clap.specs.declared.parser.matches.ArgMatches.{ArgMatches}
-use Rattle.clap.specs.declared.parser.matches.ArgMatches.TheViews.{out-ArgMatches, out-SubCommand}
 use Rattle.clap.specs.declared.parser.matches.Found.{Found}
-use Rattle.clap.specs.declared.parser.matches.SubCommand.{SubCommand}
 use Rattle.pep_tool.specs.declared.fault.Fault.{Fault}
-use Rattle.pep_tool.specs.Run.{no_memory}
-use Rattle.pep_tool.specs.Plan.{AskNothing, Asks, IsBadWords, Request, program, request_of}
-use Rattle.pep_tool.specs.Plan.{text_met}
+use Rattle.pep_tool.specs.declared.plan.Plan.{Plan}
+use Rattle.pep_tool.specs.Refusal.{no_memory}
+use Rattle.pep_tool.specs.Plan.{AskNothing, Asks, IsBadWords, Request, flag_of, program}
+use Rattle.pep_tool.specs.Plan.{request, request_of}
 
 -- ---- the command
+
+-- the command is this one, and has no global argument
+abbrev pub IsLocal : Command → App → Type 0
+IsLocal c app = (app_of c ≡ app) × ((out-Command c).has_globals ≡ false)
 
 pub program_simple : is_simple_and_free program ≡ true
 unfolding clap_on_literals
@@ -33,37 +41,45 @@ pub program_exact : is_simple program ≡ true
 unfolding clap_on_literals
 program_exact = refl
 
--- ---- what the getters say of the command that was met
+-- A command with one argument more, whose rule is this one. Neither has a global argument.
+pub more_arguments : (old new : Command) (a : Arg) (app : App) (rule : Rule) → AddsArg old a new →
+    IsLocal old app → rule_of a ≡ rule → a.global ≡ false → IsLocal new (with_rule app rule)
+more_arguments old new a app rule adds is same local = (
+  adds.shape local ∙ ap₂ with_rule is.0 same,
+  rw (adds.globals, is.1, local) refl,
+)
 
-pair_of : (o : Option (Text × List Row)) (name : Text) (rows : List Row) →
-    Some name ≡ option_map (λ p. p.0) o
-    → Some rows ≡ option_map (λ p. p.1) o → o ≡ Some (name, rows)
-pair_of None name rows e f = cc e
-pair_of (Some p) name rows e f =
-    let same_name : name ≡ p.0 = cc e in
-    let same_rows : rows ≡ p.1 = cc f in
-    λ i. Some (sym same_name i, sym same_rows i)
+-- A command with one subcommand more.
+pub more_commands : (old new sub : Command) (app : App) (sub_app : App) → AddsSubcommand old sub new
+    → app_of old ≡ app → app_of sub ≡ sub_app → (out-Command sub).has_globals ≡ false →
+    app_of new ≡ with_subcommand app sub_app.top
+more_commands old new sub app sub_app adds is sub_is local =
+    adds.shape local ∙ ap₂ with_subcommand is (ap (λ (a : App). a.top) sub_is)
 
-name_of_subcommand : {Z : Type 0} (o : Option (Box SubCommand Z))
-    → option_map (λ b. (out-SubCommand (box_value b)).name.now) o
-    ≡ option_map (λ p. p.0) (subcommand_rows o)
-name_of_subcommand None = refl
-name_of_subcommand (Some b) = refl
+-- ---- what the getters say
 
-name_of_rows : (m : ArgMatches) → subcommand_name_of m
-    ≡ option_map (λ p. p.0) (subcommand_rows_of m)
-name_of_rows m = name_of_subcommand (out-ArgMatches m).subcommand
+-- whether a flag was given
+pub flag_met : (E : Type 0) (f : Found) (flag : Text) (given : Option Bool)
+    → (one_text f flag ≡ None → given ≡ None)
+    → ((t : Text) → one_text f flag ≡ Some t → ReadsOne (ParsesBool {E = E}) t given)
+    → unwrap_or given false ≡ flag_of flag (rows_of f)
+flag_met E f flag given none some =
+    go (one_text f flag) given refl none some
+    ∙ ap (λ (o : Option Text). option_map_or (bytes_eq (codes "true")) o false)
+    (one_text-rows f flag)
+  where
+    other : (t : Text) (b : Bool) → bytes_eq (codes "true") t ≡ b → t ≢ true_text → false ≡ b
+    other t false is not_true = refl
+    other t true is not_true = absurd (not_true (sym ((bytes_eq-Decides (codes "true") t).0 is)))
 
--- the command with this name was met, and this is its text
-pub text_of_met : (m : ArgMatches) (name met argument : Text) (f : Found)
-    (text : Option (Bor (List ℕ)))
-    → Some met ≡ subcommand_name_of m → Some (rows_of f)
-    ≡ option_map (λ p. p.1) (subcommand_rows_of m)
-    → bytes_eq met name ≡ true → option_map (λ s. s.now) text ≡ first_value f argument →
-    option_map (λ s. s.now) text ≡ option_and_then (text_met name argument) (subcommand_rows_of m)
-text_of_met m name met argument f text named rows is first =
-    rw (pair_of (subcommand_rows_of m) met (rows_of f) (named ∙ name_of_rows m) rows, is)
-    (first ∙ first_value-rows f argument)
+    go : (o : Option Text) (given : Option Bool) → one_text f flag ≡ o
+        → (one_text f flag ≡ None → given ≡ None)
+        → ((t : Text) → one_text f flag ≡ Some t → ReadsOne (ParsesBool {E = E}) t given)
+        → unwrap_or given false ≡ option_map_or (bytes_eq (codes "true")) o false
+    go None given e none some = rw (none e) refl
+    go (Some t) (Some true) e none some = rw (some t e) refl
+    go (Some t) (Some false) e none some = rw (some t e) refl
+    go (Some t) None e none some = other t (bytes_eq (codes "true") t) refl (some t e).1.0
 
 -- ---- what clap answers
 
@@ -89,10 +105,6 @@ pub kinds-error : (kinds : Kinds) (e : Error) → HasKind kinds e → kind_of e 
 kinds-error kinds e (inl memory) other = λ _. other memory
 kinds-error [] e (inr among) other = λ _. among
 kinds-error (k ∷ ks) e (inr among) other = λ same. cc same
-
-pub is_from_not : (b : Bool) → false ≡ not b → b ≡ true
-is_from_not true e = refl
-is_from_not false e = cc e
 
 -- the command that was met in the words is what they ask for, or they ask for nothing
 pub asks-command : (a : App) (words : List Text) (m : ArgMatches) (r : Request) → a ≡ program →
@@ -129,10 +141,20 @@ pub some_words : {A B : Type 0} (f : A → B) (xs : List A) → false ≡ (lengt
 some_words f [] e = cc e
 some_words f (x ∷ xs) e = omega arith
 
--- what words that are refused mean
-pub weaker-refused : {A : Type 0} (r : Result A Fault) (P Q : Type 0) → (P → Q)
-    → IfErr r (λ fault. (fault ≡ no_memory) ⊎ (IsBadWords fault × P)) →
-    IfErr r (λ fault. (fault ≡ no_memory) ⊎ (IsBadWords fault × Q))
-weaker-refused (Ok a) P Q f h = tt
-weaker-refused (Err e) P Q f (inl h) = inl h
-weaker-refused (Err e) P Q f (inr h) = inr (h.0, f h.1)
+-- the plan of the command that was met, or the fault where there is none
+pub asks-plan : (a : App) (words : List Text) (m : ArgMatches) (plan : Option Plan) (fault : Fault)
+    → a ≡ program → 0 < length words → (is_simple_and_free a ≡ true → fault_of a words ≡ [])
+    → HasMatchesOf a words m
+    → option_map request plan ≡ option_and_then request_of (subcommand_rows_of m) →
+    IfOk (ok_or plan fault) (λ p. Asks words (request p))
+asks-plan a words m None fault same some none matches met = tt
+asks-plan a words m (Some p) fault same some none matches met =
+    asks-command a words m (request p) same some none matches (sym met)
+
+pub none-plan : (a : App) (words : List Text) (m : ArgMatches) (plan : Option Plan) (fault : Fault)
+    → a ≡ program → 0 < length words → HasMatchesOf a words m → IsBadWords fault
+    → option_map request plan ≡ option_and_then request_of (subcommand_rows_of m) →
+    IfErr (ok_or plan fault) (λ f. (f ≡ no_memory) ⊎ (IsBadWords f × AskNothing words))
+none-plan a words m None fault same some matches bad met =
+    inr (bad, none-command a words m same some matches (sym met))
+none-plan a words m (Some p) fault same some matches bad met = tt

@@ -1,5 +1,5 @@
 -- The loop over the lines of a list that is read as requirements.
-use Rattle.std.proofs.Common.{◌≡◌, ◌≢◌, ℕ, ◌+◌, ◌≤◌, ◌⊎◌, true, false, not, List, [], ◌∷◌}
+use Rattle.std.proofs.Common.{◌≡◌, ℕ, ◌+◌, ◌≤◌, ◌⊎◌, true, false, not, List, [], ◌∷◌}
 use Rattle.std.proofs.Common.{◌++◌, length, length-append, map, refl, sym, ap, subst, ◌∙◌, inl, inr}
 use Rattle.std.proofs.Common.{append_assoc, append-nil}
 use Rattle.std.specs.Prelude.{IsUtf8, filter}
@@ -9,26 +9,15 @@ use Rattle.std.proofs.lemmas.List.Elements.{All-from_recursion, filter-append}
 use Rattle.pep_require.specs.Reads.{Reads, line_limit}
 use Rattle.pep_require.specs.Requirement.{RequirementParts}
 use Rattle.pep_tool.specs.Lists.{IsRequirementList, content, input_limit, is_skipped, lines_of}
-use Rattle.pep_tool.specs.RequirementLines.{Adds, TakesLine}
+use Rattle.pep_tool.specs.LineReading.{Adds, TakesLine}
 use Rattle.pep_require.specs.LineParts.{RefusesLine}
 use Rattle.pep_require.specs.declared.fault.RequireFault.{RequireFault}
 use Rattle.pep_tool.specs.declared.fault.LineFault.TheVariants as line_fault
-use Rattle.pep_tool.specs.declared.fault.Cause.{Cause}
-use Rattle.pep_tool.specs.declared.fault.Cause.TheVariants as cause
-use Rattle.pep_tool.specs.declared.fault.Fault.{Fault}
-use Rattle.pep_tool.specs.declared.fault.Place.TheVariants as place
-use Rattle.pep_tool.specs.Refusal.{IsRefusedListBy, IsRefusedRequirementList, by_encoding}
-use Rattle.pep_tool.specs.Refusal.{by_line, by_size, no_memory}
-use Rattle.pep_tool.specs.Sets.{RefusesLineBytesBy, RefusesListBy}
+use Rattle.pep_tool.specs.Refusal.{by_encoding}
+use Rattle.pep_tool.specs.LineReading.{RefusesLineBytes}
 use Rattle.pep_tool.proofs.LineTexts.{content_is_utf8, line_is_utf8}
 use Rattle.pep_tool.proofs.ListLemmas.{content_refuses, requirements_among}
-
-zip_append : (xs ys : List (List ℕ)) (rs ss : List RequirementParts) → AllZip Reads xs rs →
-    AllZip Reads ys ss → AllZip Reads (xs ++ ys) (rs ++ ss)
-zip_append [] ys [] ss z w = w
-zip_append [] ys (r ∷ rs) ss z w = absurd z
-zip_append (x ∷ xs) ys [] ss z w = absurd z
-zip_append (x ∷ xs) ys (r ∷ rs) ss z w = (z.0, zip_append xs ys rs ss z.1 w)
+use Rattle.pep_tool.proofs.ReadTexts.{zip_append}
 
 all_append : (P : List ℕ → Type 0) (xs : List (List ℕ)) (x : List ℕ) → AllByRecursion P xs → P x →
     AllByRecursion P (xs ++ x ∷ [])
@@ -149,28 +138,13 @@ read_line line now text r rs new short e same utf8 kept reads added = record {
 pub refused_line : (line content_now text : List ℕ) (f : RequireFault) → length line ≤ line_limit →
     content_now ≡ content line → text ≡ content_now → IsUtf8 content_now →
     is_skipped content_now ≡ false → RefusesLine text f →
-    RefusesLineBytesBy RefusesLine line (line_fault.Requirement f)
+    RefusesLineBytes line (line_fault.Requirement f)
 refused_line line now text f short e same utf8 kept refuses =
     content_refuses line f short (line_is_utf8 line (subst IsUtf8 e utf8))
     (subst (λ t. is_skipped t ≡ false) e kept) (subst (λ t. RefusesLine t f) (same ∙ e) refuses)
 
 pub no_text : (line content_now : List ℕ) → length line ≤ line_limit → content_now ≡ content line →
-    ¬ IsUtf8 content_now → RefusesLineBytesBy RefusesLine line line_fault.NotUtf8
+    ¬ IsUtf8 content_now → RefusesLineBytes line line_fault.NotUtf8
 no_text line now short e none =
     inr (by_encoding short
     (λ utf8. none (subst IsUtf8 (sym e) (content_is_utf8 line utf8))) refl)
-
--- ---- the fault of a list
-
-pub known_cause : (bytes : List ℕ) (c : Cause) → IsRefusedListBy RefusesLine bytes c →
-    c ≢ cause.NoMemory
-known_cause bytes c (by_size large e) memory = cc (e, memory)
-known_cause bytes c (by_line number line f at refused e) memory = cc (e, memory)
-
-pub list_fault : (bytes : List ℕ) (c : Cause) (f : Fault) → RefusesListBy RefusesLine bytes c →
-    f.cause ≡ c → (c ≡ cause.NoMemory → f ≡ no_memory) →
-    (c ≢ cause.NoMemory → f.place ≡ place.Input 1) →
-    (f ≡ no_memory) ⊎ ((f.place ≡ place.Input 1) × IsRefusedRequirementList bytes f.cause)
-list_fault bytes c f (inl h) same none lies = inl (none h)
-list_fault bytes c f (inr h) same none lies =
-    inr (lies (known_cause bytes c h), subst (IsRefusedListBy RefusesLine bytes) (sym same) h)

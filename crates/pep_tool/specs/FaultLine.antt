@@ -8,9 +8,10 @@ use Rattle.pep_tool.specs.declared.fault.Fault.{Fault}
 use Rattle.pep_tool.specs.declared.fault.Place.{Place}
 use Rattle.pep_tool.specs.declared.fault.Place.TheVariants as place
 
--- the number of the input
+-- the environment, or the number of the input
 abbrev pub place_text : Place → List ℕ
 place_text place.Nowhere = []
+place_text place.Environment = codes " environment"
 place_text (place.Input n) = codes " input " ++ decimal n
 
 -- the number of the line, where a line is at fault

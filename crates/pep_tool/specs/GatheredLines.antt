@@ -1,18 +1,18 @@
 -- What lines, lists and inputs add to a table: the code's way.
 use Rattle.std.specs.Prelude.{◌≡◌, ℕ, ◌⊎◌, List, [], ◌∷◌}
 use Rattle.pep_marker.specs.Environment.{EnvironmentParts}
-use Rattle.pep_require.specs.LineParts.{RefusesLine}
 use Rattle.pep_require.specs.Requirement.{RequirementParts}
 use Rattle.pep_table.specs.Gathering.{TakesApplying}
 use Rattle.pep_table.specs.Table.{TableParts}
 use Rattle.pep_tool.specs.declared.fault.Cause.{Cause}
+use Rattle.pep_tool.specs.declared.fault.Cause.TheVariants.{NoMemory}
 use Rattle.pep_tool.specs.declared.fault.LineFault.{LineFault}
 use Rattle.pep_tool.specs.declared.fault.LineFault.TheVariants as line_fault
 use Rattle.pep_tool.specs.declared.input.Input.{Input}
 use Rattle.pep_tool.specs.declared.input.Kind.{Kind}
-use Rattle.pep_tool.specs.Gatherings.{HasUndefinedLine, IsUndefinedList, ListsWhole}
-use Rattle.pep_tool.specs.RequirementLines.{TakesLine}
-use Rattle.pep_tool.specs.Sets.{RefusesLineBytesBy, RefusesListBy}
+use Rattle.pep_tool.specs.LineReading.{RefusesLineBytes, RefusesList, TakesLine}
+use Rattle.pep_tool.specs.Lists.{Lists}
+use Rattle.pep_tool.specs.Refusal.{HasUndefinedLine, IsRefused, IsUndefinedList}
 
 -- the table with what the line's requirement demands, if it applies
 abbrev pub GathersLine : EnvironmentParts → List ℕ → TableParts → TableParts → Type 0
@@ -22,7 +22,7 @@ GathersLine e line old new =
 -- .. and what the requirements of an input demand
 abbrev pub GathersBytes : EnvironmentParts → Kind → List ℕ → TableParts → TableParts → Type 0
 GathersBytes e k bytes old new =
-    (rs : List RequirementParts) × ListsWhole k bytes rs × TakesApplying e old rs new
+    (rs : List RequirementParts) × Lists e.extra k bytes rs × TakesApplying e old rs new
 
 -- .. and of inputs in turn
 abbrev pub GathersInputs : EnvironmentParts → List Input → TableParts → TableParts → Type 0
@@ -34,8 +34,12 @@ GathersInputs e (i ∷ inputs) old new =
 -- why a line is refused, and why bytes are, as a list
 abbrev pub RefusesLineIn : EnvironmentParts → List ℕ → LineFault → Type 0
 RefusesLineIn e line f =
-    RefusesLineBytesBy RefusesLine line f
+    RefusesLineBytes line f
     ⊎ ((f ≡ line_fault.Undefined) × HasUndefinedLine e line)
 
 abbrev pub RefusesListIn : EnvironmentParts → List ℕ → Cause → Type 0
-RefusesListIn e bytes c = RefusesListBy RefusesLine bytes c ⊎ IsUndefinedList e bytes c
+RefusesListIn e bytes c = RefusesList bytes c ⊎ IsUndefinedList e bytes c
+
+-- .. and why an input is: want of memory, of which nothing is said, or a cause of its own
+abbrev pub RefusesInput : EnvironmentParts → Kind → List ℕ → Cause → Type 0
+RefusesInput e k bytes c = (c ≡ NoMemory) ⊎ IsRefused e k bytes c

@@ -1,5 +1,8 @@
--- The requirements of an input: a list, with a requirement on each line.
-use Rattle.std.specs.Prelude.{ℕ, ◌≤◌, Bool, not, ◌||◌, ◌==◌, List, length, map, filter, All, IsUtf8}
+-- The requirements of an input: a list, with a requirement on each line, or a project file.
+use Rattle.std.specs.Prelude.{◌≡◌, ℕ, ◌≤◌, Bool, not, ◌||◌, ◌==◌, List, [], length, map, filter}
+use Rattle.std.specs.Prelude.{All}
+use Rattle.std.specs.Prelude.{IsUtf8, Ok, unwrap_or}
+use Rattle.std.specs.Result.{result_ok}
 use Rattle.std.specs.List.{AllZip, slice_split}
 use Rattle.std.specs.Str.Lines.{strip_carriage_return}
 use Rattle.pep_marker.specs.Runs.{begins, without_outer_blanks}
@@ -7,11 +10,10 @@ use Rattle.pep_require.specs.Reads.{Reads, line_limit}
 use Rattle.pep_require.specs.Requirement.{RequirementParts}
 use Rattle.pep_tool.specs.declared.input.Kind.{Kind}
 use Rattle.pep_tool.specs.declared.input.Kind.TheVariants as kind
-use Rattle.pep_tool.specs.Line.{ReadsLine}
+pub use Rattle.pep_tool.specs.Limits.{input_limit}
+use Rattle.pep_tool.specs.Project.{project_file}
 
--- the largest input, in bytes
-abbrev pub input_limit : ℕ
-input_limit = 16777216
+-- ---- lists
 
 -- the bytes between line feeds
 abbrev pub lines_of : List ℕ → List (List ℕ)
@@ -37,14 +39,26 @@ pub record IsListBy (reads : List ℕ → RequirementParts → Type 0) (bytes : 
   pub texts : All IsUtf8 (lines_of bytes)
   pub requirements : AllZip reads (requirement_lines bytes) rs
 
--- .. by the lines that are merged today
-abbrev pub IsListOf : List ℕ → List RequirementParts → Type 0
-IsListOf bytes rs = IsListBy ReadsLine bytes rs
-
--- .. by whole requirement lines
+-- .. a requirement each (PEP 508, "Grammar")
 abbrev pub IsRequirementList : List ℕ → List RequirementParts → Type 0
 IsRequirementList bytes rs = IsListBy Reads bytes rs
 
--- the requirements of an input of this kind
-abbrev pub Lists : Kind → List ℕ → List RequirementParts → Type 0
-Lists kind.List bytes rs = IsListOf bytes rs
+-- ---- project files
+
+-- the bytes are a project file whose texts are these requirements, in an extra's environment
+abbrev pub IsProjectOf : List ℕ → List ℕ → List RequirementParts → Type 0
+IsProjectOf extra bytes rs =
+    (texts : List (List ℕ)) × (project_file extra bytes ≡ Ok texts) × AllZip Reads texts rs
+
+-- ---- inputs
+
+-- the requirements of an input of this kind, read for an extra
+abbrev pub Lists : List ℕ → Kind → List ℕ → List RequirementParts → Type 0
+Lists extra kind.List bytes rs = IsRequirementList bytes rs
+Lists extra kind.Project bytes rs = IsProjectOf extra bytes rs
+
+-- the texts of which an input has its requirements: the lines of a list, and the texts of a project
+-- file that passes its checks
+abbrev pub input_texts : List ℕ → Kind → List ℕ → List (List ℕ)
+input_texts extra kind.List bytes = requirement_lines bytes
+input_texts extra kind.Project bytes = unwrap_or (result_ok (project_file extra bytes)) []

@@ -1,5 +1,6 @@
--- What merging inputs gives.
+-- What merging inputs in an environment gives.
 use Rattle.std.specs.Prelude.{ℕ, List, All, IfSome}
+use Rattle.pep_marker.specs.Environment.{EnvironmentParts}
 use Rattle.pep_table.specs.declared.verdict.Verdict.{Verdict}
 use Rattle.pep_table.specs.Demand.{Demands}
 use Rattle.pep_table.specs.Table.{HasExactPoints, TableParts, IsTable, entry_at}
@@ -16,10 +17,10 @@ ShowsVerdicts Q t =
     IsVerdict (Q name) w)
 
 -- every input is accepted, and this is the text of the table of all that they demand
-pub record IsMerge (inputs : List Input) (x : List ℕ) : Type 0 where
-  pub accepted : All IsAccepted inputs
+pub record IsMerge (e : EnvironmentParts) (inputs : List Input) (x : List ℕ) : Type 0 where
+  pub accepted : All (IsAccepted e) inputs
   pub table : TableParts
-  pub is_table : IsTable (Gathered inputs) table
-  pub points : HasExactPoints (Gathered inputs) table
+  pub is_table : IsTable (Gathered e inputs) table
+  pub points : HasExactPoints (Gathered e inputs) table
   pub text : IsTableText table x
-  pub verdicts : ShowsVerdicts (Gathered inputs) table
+  pub verdicts : ShowsVerdicts (Gathered e inputs) table

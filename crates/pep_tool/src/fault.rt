@@ -2,6 +2,7 @@
 
 ghost use Rattle.std.specs.Prelude.{
   ◌≡◌,
+  ◌≢◌,
   ◌++◌,
   ◌∷◌,
   codes,
@@ -10,10 +11,18 @@ ghost use Rattle.std.specs.Prelude.{
   OnOk,
   option_to_list,
 };
-ghost use Rattle.pep_tool.specs.Code.{cause_code, inner_codes, line_code, line_inner_code};
+ghost use Rattle.pep_tool.specs.Code.{
+  argument_code,
+  cause_code,
+  inner_codes,
+  line_code,
+  line_inner_code,
+};
 ghost use Rattle.pep_tool.specs.FaultLine.{codes_text, place_text, line_text, words_text};
+ghost use Rattle.pep_tool.specs.Refusal.{no_memory};
 
 use itoa::Buffer;
+use pep_marker::MarkerFault;
 use pep_require::RequireFault;
 use pep_version::VersionFault;
 use std::alloc::{AllocError, AllocFailed, Global};
@@ -23,8 +32,10 @@ use thiserror::Error;
 /// Where a fault lies.
 #[derive(Clone, Copy, Debug, PartialEq, Eq)]
 pub enum Place {
-    /// In no input.
+    /// Neither in the environment nor in an input.
     Nowhere,
+    /// In the environment that is handed in.
+    Environment,
     /// In the input with this number, counted from 1.
     Input(u64),
 }
@@ -100,42 +111,90 @@ impl<T: Drop> From<AllocFailed<T>> for LineFault {
     }
 }
 
+/// What is wrong with a version or a name on the command line.
+#[derive(Clone, Copy, Debug, PartialEq, Eq, Error)]
+pub enum ArgumentFault {
+    /// 1 to 3: the version is refused.
+    #[error("{0}")]
+    Version(VersionFault),
+    /// 21 or 29: the name is refused.
+    #[error("{0}")]
+    Name(MarkerFault),
+}
+
+impl ArgumentFault {
+    /// The code of the fault: see [`VersionFault::code`] and [`MarkerFault::code`].
+    pub fn code(self) -> u64
+        ensures { result ≡ argument_code self }
+    {
+        match self {
+            ArgumentFault::Version(fault) => fault.code(),
+            ArgumentFault::Name(fault) => fault.code(),
+        }
+    }
+}
+
 /// What is wrong.
 #[derive(Debug, Drop, Error)]
 pub enum Cause {
+    /// 51: the file isn't UTF-8.
+    #[error("not UTF-8")]
+    NotUtf8,
+    /// 52: the file is no TOML document.
+    #[error("not a TOML document")]
+    NotToml,
+    /// 53: the file has no key `project`.
+    #[error("no `project`")]
+    NoProject,
+    /// 54: the dependencies that are asked for are dynamic, so the file doesn't have them.
+    #[error("dynamic dependencies")]
+    Dynamic,
+    /// 55: a value of the file has another shape than it must have.
+    #[error("a value of the wrong shape")]
+    WrongShape,
     /// 56: the input has more than 16,777,216 bytes.
     #[error("more than 16,777,216 bytes")]
     TooLarge,
-    /// 57: a line is refused. Lines are counted from 1.
+    /// 57: a line, or a text of a project file, is refused. Both are counted from 1.
     #[error("line {0}: {1}")]
     Line(u64, LineFault),
     /// 58: a read failed, or a file can't be opened.
     #[error("a read failed")]
     ReadFault,
+    /// 59: the variables of the file make no environment.
+    #[error("a faulty environment: {0}")]
+    BadEnvironment(MarkerFault),
     /// 60: a growth was refused.
     #[error("out of memory")]
     NoMemory,
     /// 61: the words of the command line are refused, with the text that tells why.
     #[error("{0}")]
     BadWords(String),
-    /// 62: a version on the command line can't be read.
-    #[error("a faulty version: {0}")]
-    BadArgument(VersionFault),
+    /// 62: a version or a name on the command line can't be read.
+    #[error("a faulty argument: {0}")]
+    BadArgument(ArgumentFault),
     /// 63: a write failed.
     #[error("a write failed")]
     WriteFault,
 }
 
 impl Cause {
-    /// The code of the cause, which stands at each one above. A refused line and a refused version
-    /// have codes inside it: see [`LineFault::code`] and [`VersionFault::code`].
+    /// The code of the cause, which stands at each one above. A refused line, a refused environment
+    /// and a refused argument have codes inside it: see [`LineFault::code`],
+    /// [`MarkerFault::code`] and [`ArgumentFault::code`].
     pub fn code(&self) -> u64
         ensures { result ≡ cause_code self.now }
     {
         match self {
+            Cause::NotUtf8 => 51,
+            Cause::NotToml => 52,
+            Cause::NoProject => 53,
+            Cause::Dynamic => 54,
+            Cause::WrongShape => 55,
             Cause::TooLarge => 56,
             Cause::Line(_, _) => 57,
             Cause::ReadFault => 58,
+            Cause::BadEnvironment(_) => 59,
             Cause::NoMemory => 60,
             Cause::BadWords(_) => 61,
             Cause::BadArgument(_) => 62,
@@ -175,6 +234,7 @@ impl fmt::Display for Fault {
     fn fmt<W: fmt::Write>(&self, f: &mut fmt::Formatter<W>) -> fmt::Result {
         match self.place {
             Place::Nowhere => write!(f, "{}", self.cause),
+            Place::Environment => write!(f, "environment: {}", self.cause),
             Place::Input(number) => write!(f, "input {number}: {}", self.cause),
         }
     }
@@ -220,6 +280,19 @@ impl Fault {
     }
 }
 
+/// The fault with this cause in this place. Want of memory has no place.
+pub(crate) fn fault_in(place: Place, cause: Cause) -> Fault
+    ensures cause { result.cause ≡ cause }
+    ensures memory { cause ≡ Cause.NoMemory → result ≡ no_memory }
+    ensures place { cause ≢ Cause.NoMemory → result.place ≡ place }
+{
+    let place = match &cause {
+        Cause::NoMemory => Place::Nowhere,
+        _ => place,
+    };
+    Fault { place, cause }
+}
+
 impl From<AllocError> for Fault {
     ghost use Rattle.pep_tool.specs.declared.fault.Cause.TheVariants.{NoMemory};
     ghost use Rattle.pep_tool.specs.declared.fault.Place.TheVariants.{Nowhere};
@@ -252,7 +325,23 @@ impl From<VersionFault> for Fault {
             VersionFault::NoMemory => Fault::no_memory(),
             fault => Fault {
                 place: Place::Nowhere,
-                cause: Cause::BadArgument(fault),
+                cause: Cause::BadArgument(ArgumentFault::Version(fault)),
+            },
+        }
+    }
+}
+
+impl From<MarkerFault> for Fault {
+    ghost use Rattle.pep_tool.specs.InnerFault.{fault_of_name};
+
+    ghost from_gives = { λ f e. e ≡ fault_of_name f };
+
+    fn from(fault: MarkerFault) -> Fault {
+        match fault {
+            MarkerFault::NoMemory => Fault::no_memory(),
+            fault => Fault {
+                place: Place::Nowhere,
+                cause: Cause::BadArgument(ArgumentFault::Name(fault)),
             },
         }
     }
@@ -274,6 +363,7 @@ fn push_place(text: &mut String, place: Place) -> Result<(), AllocError>
 {
     match place {
         Place::Nowhere => Ok(()),
+        Place::Environment => text.push_str(" environment"),
         Place::Input(number) => {
             text.push_str(" input")?;
             push_number(text, number)
@@ -316,6 +406,7 @@ fn push_inner_codes(text: &mut String, cause: &Cause) -> Result<(), AllocError>
     match cause {
         Cause::Line(_, fault) => push_line_codes(text, *fault),
         Cause::BadArgument(fault) => push_number(text, fault.code()),
+        Cause::BadEnvironment(fault) => push_number(text, fault.code()),
         _ => Ok(()),
     }
 }

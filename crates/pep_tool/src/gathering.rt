@@ -1,25 +1,43 @@
 //! What inputs demand in an environment.
 
-ghost use Rattle.std.specs.Prelude.{◌≤◌, [], All, List, ℕ, IfErr, IfOk, IsTrue, OnOk, length};
+ghost use Rattle.std.specs.Prelude.{
+  ◌≡◌,
+  ◌≤◌,
+  ◌⊎◌,
+  [],
+  All,
+  List,
+  ℕ,
+  IfErr,
+  IfOk,
+  IsTrue,
+  OnOk,
+  length,
+  map,
+};
+ghost use Rattle.pep_require.specs.View.{requirement_parts};
+ghost use Rattle.pep_table.specs.Gathering.{TakesApplying};
 ghost use Rattle.pep_table.specs.Table.{HasExactPoints, IsTable};
 ghost use Rattle.pep_tool.specs.GatheredLines.{
   GathersBytes,
   GathersInputs,
   GathersLine,
+  RefusesInput,
   RefusesLineIn,
   RefusesListIn,
 };
-ghost use Rattle.pep_tool.specs.Gatherings.{GatheredIn, IsAcceptedIn, RefusesInputsIn};
+ghost use Rattle.pep_tool.specs.Gathered.{Gathered, IsAccepted};
+ghost use Rattle.pep_tool.specs.LineReading.{IsReadOf};
 ghost use Rattle.pep_tool.specs.Lists.{input_limit};
-ghost use Rattle.pep_tool.specs.Sets.{IsReadOf};
+ghost use Rattle.pep_tool.specs.Refusal.{IsUndefinedAt, RefusesInputs};
 
-use crate::fault::{Cause, Fault, LineFault};
+use crate::fault::{Cause, Fault, LineFault, Place, fault_in};
 use crate::input::{Input, Kind};
 use crate::lines::requirement_on;
 use crate::list::{INPUT_LIMIT, cut_off, line_cause};
-use crate::merge::fault_in;
+use crate::project::project_requirements;
 use pep_marker::{Environment, MarkerFault};
-use pep_require::RequireFault;
+use pep_require::{RequireFault, Requirement};
 use pep_table::Gathering;
 use pep_version::first_part;
 use std::alloc::Global;
@@ -97,6 +115,66 @@ fn take_list(
     }
 }
 
+// What is demanded so far and by requirements, each judged in its turn.
+fn take_requirements(
+    alloc: Global,
+    gathering: Gathering,
+    requirements: &[Requirement],
+    environment: &Environment,
+) -> Result<Gathering, Cause>
+    ensures ok { IfOk result (λ new. TakesApplying environment.now gathering
+        (map requirement_parts requirements.now) new) }
+    ensures refused { IfErr result (λ cause. (cause ≡ Cause.NoMemory) ⊎ IsUndefinedAt
+        environment.now (map requirement_parts requirements.now) cause) }
+{
+    let mut gathering = gathering;
+    let mut number: u64 = 0;
+    for requirement in requirements {
+        number += 1;
+        gathering = match gathering.take_applying(alloc, requirement, environment) {
+            Ok(new) => new,
+            Err(MarkerFault::Undefined) => return Err(Cause::Line(number, LineFault::Undefined)),
+            Err(_) => return Err(Cause::NoMemory),
+        };
+    }
+    Ok(gathering)
+}
+
+// What is demanded so far and by a project file, of which all texts are read before a marker is
+// judged.
+fn take_project(
+    alloc: Global,
+    gathering: Gathering,
+    bytes: &[u8],
+    environment: &Environment,
+) -> Result<Gathering, Cause>
+    ensures ok { IfOk result (GathersBytes environment.now Kind.Project bytes.now gathering) }
+    ensures refused { IfErr result (RefusesInput environment.now Kind.Project bytes.now) }
+{
+    let extra = environment.value("extra").unwrap_or("");
+    let requirements = project_requirements(alloc, bytes, extra)?;
+    take_requirements(alloc, gathering, requirements.as_slice(), environment)
+}
+
+// What is demanded so far and by an input.
+fn take_input(
+    alloc: Global,
+    gathering: Gathering,
+    input: &Input,
+    environment: &Environment,
+) -> Result<Gathering, Cause>
+    ensures ok { IfOk result (GathersBytes environment.now input.now.kind
+        input.now.bytes.items gathering) }
+    ensures refused { IfErr result (RefusesInput environment.now input.now.kind
+        input.now.bytes.items) }
+{
+    let bytes = input.bytes.as_slice();
+    match input.kind {
+        Kind::List => take_list(alloc, gathering, bytes, environment),
+        Kind::Project => take_project(alloc, gathering, bytes, environment),
+    }
+}
+
 // What the inputs demand, one after the other.
 fn take_inputs(
     alloc: Global,
@@ -104,18 +182,15 @@ fn take_inputs(
     environment: &Environment,
 ) -> Result<Gathering, Fault>
     ensures ok { IfOk result (GathersInputs environment.now inputs.now []) }
-    ensures refused { IfErr result (RefusesInputsIn environment.now inputs.now) }
+    ensures refused { IfErr result (RefusesInputs environment.now inputs.now) }
 {
     let mut gathering = Gathering::new(alloc);
     let mut number: u64 = 0;
     for input in inputs {
         number += 1;
-        let taken = match input.kind {
-            Kind::List => take_list(alloc, gathering, &input.bytes, environment),
-        };
-        gathering = match taken {
+        gathering = match take_input(alloc, gathering, input, environment) {
             Ok(new) => new,
-            Err(cause) => return Err(fault_in(number, cause)),
+            Err(cause) => return Err(fault_in(Place::Input(number), cause)),
         };
     }
     Ok(gathering)
@@ -123,23 +198,24 @@ fn take_inputs(
 
 /// What all inputs demand in the environment, in which order, grouping and repeats of their lines
 /// don't matter: the table of the demands of those requirements that apply there (PEP 508,
-/// "Environment Markers"). An input is a list, with a requirement on each line: see
-/// [`list_of`](crate::list_of).
+/// "Environment Markers"). An input is a list, with a requirement on each line, or a project file,
+/// of which the extra is that of the environment: see [`list_of`](crate::list_of) and
+/// [`project_of`](crate::project_of).
 ///
 /// An input that isn't accepted is refused, with its number, counted from 1, as the place: with
-/// the fault that `list_of` has, or, in its order, 57 with 28 at the end of a line whose
-/// requirement has a marker that is undefined in the environment. The first fault of the first
-/// such input is answered: each line is read, judged and taken before the next one. Want of
-/// memory is 60, without a place.
+/// the fault that `list_of` or `project_of` has, or with 57 and 28 for a requirement whose marker
+/// is undefined in the environment. The first fault of the first such input is answered: each
+/// line of a list is read, judged and taken before the next one, and of a project file all texts
+/// are read before a marker is judged. Want of memory is 60, without a place.
 pub fn gather(
     alloc: Global,
     inputs: &[Input],
     environment: &Environment,
 ) -> Result<Gathering, Fault>
-    ensures accepted { IfOk result (λ gathering. All (IsAcceptedIn environment.now) inputs.now) }
-    ensures table { IfOk result (IsTable (GatheredIn environment.now inputs.now)) }
-    ensures points { IfOk result (HasExactPoints (GatheredIn environment.now inputs.now)) }
-    ensures refused { IfErr result (RefusesInputsIn environment.now inputs.now) }
+    ensures accepted { IfOk result (λ gathering. All (IsAccepted environment.now) inputs.now) }
+    ensures table { IfOk result (IsTable (Gathered environment.now inputs.now)) }
+    ensures points { IfOk result (HasExactPoints (Gathered environment.now inputs.now)) }
+    ensures refused { IfErr result (RefusesInputs environment.now inputs.now) }
 {
     take_inputs(alloc, inputs, environment)
 }

@@ -5,6 +5,8 @@
 pub enum Kind {
     /// A list of requirements, one a line.
     List,
+    /// A project file, `pyproject.toml` (PyPA "pyproject.toml", PEP 621).
+    Project,
 }
 
 /// An input: its kind and its bytes.

@@ -1,67 +1,89 @@
 //! Laws of the definitions.
 
-ghost use Rattle.std.specs.Prelude.{◌≡◌, ℕ, List};
+ghost use Rattle.std.specs.Prelude.{◌≡◌, ℕ, All, List};
 ghost use Rattle.pep_marker.specs.Environment.{EnvironmentParts};
-ghost use Rattle.pep_require.specs.Reads.{Reads};
 ghost use Rattle.pep_require.specs.Requirement.{RequirementParts};
 ghost use Rattle.pep_table.specs.Demand.{HaveSameDemands};
 ghost use Rattle.pep_table.specs.Table.{HasExactPoints, IsTable, TableParts};
 ghost use Rattle.pep_tool.specs.declared.fault.Cause.{Cause};
 ghost use Rattle.pep_tool.specs.declared.input.Input.{Input};
-ghost use Rattle.pep_tool.specs.Gathered.{Gathered, IsAccepted};
-ghost use Rattle.pep_tool.specs.Gatherings.{GatheredIn, IsAcceptedIn, IsRefusedIn};
-ghost use Rattle.pep_tool.specs.Line.{ReadsLine};
-ghost use Rattle.pep_tool.specs.Lists.{IsListOf, IsRequirementList};
+ghost use Rattle.pep_tool.specs.Gathered.{
+  Gathered,
+  HaveSameLines,
+  HaveSameRequirements,
+  IsAccepted,
+};
+ghost use Rattle.pep_tool.specs.Lists.{IsProjectOf, IsRequirementList};
 ghost use Rattle.pep_tool.specs.Merge.{IsMerge};
-ghost use Rattle.pep_tool.specs.Refusal.{IsOverflow, IsRefused, IsRefusedRequirementList};
+ghost use Rattle.pep_tool.specs.Refusal.{IsOverflow, IsRefused, IsRefusedList, IsRefusedProject};
 
 /// Inputs that demand the same have one text, whatever the order, the grouping and the repeats of
 /// their lines.
 pub fn one_text()
-    ensures { (a b : List Input) (x y : List ℕ) → IsMerge a x → IsMerge b y →
-        HaveSameDemands (Gathered a) (Gathered b) → x ≡ y }
+    ensures { (e f : EnvironmentParts) (a b : List Input) (x y : List ℕ) → IsMerge e a x
+        → IsMerge f b y → HaveSameDemands (Gathered e a) (Gathered f b) → x ≡ y }
 {}
 
-/// A line that a list has is a requirement, by the whole grammar of PEP 508.
-pub fn line_is_requirement()
-    ensures { (x : List ℕ) (r : RequirementParts) → ReadsLine x r → Reads x r }
+/// What inputs demand has one table, whatever the order, the grouping and the repeats of their
+/// lines.
+pub fn one_table()
+    ensures { (e f : EnvironmentParts) (a b : List Input) (s t : TableParts)
+        → HaveSameDemands (Gathered e a) (Gathered f b)
+        → IsTable (Gathered e a) s → HasExactPoints (Gathered e a) s
+        → IsTable (Gathered f b) t → HasExactPoints (Gathered f b) t → s ≡ t }
 {}
 
-/// A line is one requirement at most.
-pub fn one_line()
-    ensures { (x : List ℕ) (r q : RequirementParts) → ReadsLine x r → ReadsLine x q → r ≡ q }
+/// Inputs that have the same requirements demand the same, whatever the order and the repeats of
+/// the inputs and of their requirements, and whichever input each one stands in.
+pub fn same_requirements()
+    ensures { (e : EnvironmentParts) (a b : List Input) → HaveSameRequirements e a b
+        → HaveSameDemands (Gathered e a) (Gathered e b) }
+{}
+
+/// Accepted inputs with the same lines of lists and texts of project files demand the same,
+/// whatever the order and the repeats of the inputs and of their lines, and whichever input each
+/// line stands in.
+pub fn same_lines()
+    ensures { (e : EnvironmentParts) (a b : List Input) → All (IsAccepted e) a
+        → All (IsAccepted e) b → HaveSameLines e a b
+        → HaveSameDemands (Gathered e a) (Gathered e b) }
+{}
+
+/// .. and so their merges have one text.
+pub fn one_text_of_lines()
+    ensures { (e : EnvironmentParts) (a b : List Input) (x y : List ℕ) → IsMerge e a x
+        → IsMerge e b y → HaveSameLines e a b → x ≡ y }
 {}
 
 /// Bytes are one list of requirements at most.
 pub fn one_list()
-    ensures { (bytes : List ℕ) (rs qs : List RequirementParts) → IsListOf bytes rs →
-        IsListOf bytes qs → rs ≡ qs }
-{}
-
-/// An input that is refused, with whatever cause, is no list of requirements.
-pub fn refused_is_not_accepted()
-    ensures { (i : Input) (c : Cause) → IsRefused i.kind i.bytes.items c → ¬ IsAccepted i }
+    ensures { (bytes : List ℕ) (rs qs : List RequirementParts) → IsRequirementList bytes rs
+        → IsRequirementList bytes qs → rs ≡ qs }
 {}
 
 /// Bytes that are refused as a list of requirements are the list of none. Of an overflow of the
 /// reader of URLs, nothing is known.
 pub fn refused_list_is_not_read()
     ensures { (bytes : List ℕ) (c : Cause) (rs : List RequirementParts) → ¬ IsOverflow c
-        → IsRefusedRequirementList bytes c → ¬ IsRequirementList bytes rs }
+        → IsRefusedList bytes c → ¬ IsRequirementList bytes rs }
 {}
 
-/// What inputs demand in an environment has one table, whatever the order, the grouping and the
-/// repeats of their lines.
-pub fn one_table_in()
-    ensures { (e f : EnvironmentParts) (a b : List Input) (s t : TableParts)
-        → HaveSameDemands (GatheredIn e a) (GatheredIn f b)
-        → IsTable (GatheredIn e a) s → HasExactPoints (GatheredIn e a) s
-        → IsTable (GatheredIn f b) t → HasExactPoints (GatheredIn f b) t → s ≡ t }
+/// Bytes are a project file of one list of requirements at most, for an extra.
+pub fn one_project()
+    ensures { (extra bytes : List ℕ) (rs qs : List RequirementParts) → IsProjectOf extra bytes rs
+        → IsProjectOf extra bytes qs → rs ≡ qs }
+{}
+
+/// Bytes that are refused as a project file, for an extra, have no requirements for it. Of an
+/// overflow of the reader of URLs, nothing is known.
+pub fn refused_project_is_not_read()
+    ensures { (extra bytes : List ℕ) (c : Cause) (rs : List RequirementParts) → ¬ IsOverflow c
+        → IsRefusedProject extra bytes c → ¬ IsProjectOf extra bytes rs }
 {}
 
 /// An input that is refused in an environment, with whatever cause, isn't accepted there. Of an
 /// overflow of the reader of URLs, nothing is known.
-pub fn refused_is_not_accepted_in()
+pub fn refused_is_not_accepted()
     ensures { (e : EnvironmentParts) (i : Input) (c : Cause) → ¬ IsOverflow c
-        → IsRefusedIn e i.kind i.bytes.items c → ¬ IsAcceptedIn e i }
+        → IsRefused e i.kind i.bytes.items c → ¬ IsAccepted e i }
 {}

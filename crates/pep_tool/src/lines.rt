@@ -17,20 +17,22 @@ ghost use Rattle.std.specs.Prelude.{
   map,
   string_bytes,
 };
-ghost use Rattle.pep_require.specs.LineParts.{RefusesLine};
 ghost use Rattle.pep_require.specs.RequirementText.{requirement_text};
 ghost use Rattle.pep_require.specs.View.{requirement_parts};
 ghost use Rattle.pep_tool.specs.ListedText.{listed_text};
 ghost use Rattle.pep_tool.specs.Lists.{IsRequirementList, input_limit};
-ghost use Rattle.pep_tool.specs.Refusal.{IsRefusedRequirementList};
-ghost use Rattle.pep_tool.specs.RequirementLines.{TakesLine, some_parts};
+ghost use Rattle.pep_tool.specs.Refusal.{IsRefusedList};
+ghost use Rattle.pep_tool.specs.LineReading.{
+  IsReadOf,
+  RefusesLineBytes,
+  RefusesList,
+  TakesLine,
+  some_parts,
+};
 ghost use Rattle.pep_tool.specs.Run.{no_memory};
-ghost use Rattle.pep_tool.specs.Sets.{IsReadOf, RefusesLineBytesBy, RefusesListBy};
 
-use crate::fault::{Cause, Fault, LineFault, Place};
-use crate::line::LINE_LIMIT;
-use crate::list::{INPUT_LIMIT, content, cut_off, is_skipped, line_cause};
-use crate::merge::fault_in;
+use crate::fault::{Cause, Fault, LineFault, Place, fault_in};
+use crate::list::{INPUT_LIMIT, LINE_LIMIT, content, cut_off, is_skipped, line_cause};
 use pep_require::{RequireFault, Requirement};
 use pep_version::first_part;
 use std::alloc::Global;
@@ -48,11 +50,11 @@ pub fn list_of(alloc: Global, bytes: &[u8]) -> Result<Vec<Requirement>, Fault>
         IsRequirementList bytes.now (map requirement_parts requirements.items)) }
     ensures refused { IfErr result (λ fault. (fault ≡ no_memory)
         ⊎ ((fault.place ≡ Place.Input 1)
-        × IsRefusedRequirementList bytes.now fault.cause)) }
+        × IsRefusedList bytes.now fault.cause)) }
 {
     match requirements_of(alloc, bytes) {
         Ok(requirements) => Ok(requirements),
-        Err(cause) => Err(fault_in(1, cause)),
+        Err(cause) => Err(fault_in(Place::Input(1), cause)),
     }
 }
 
@@ -60,7 +62,7 @@ pub fn list_of(alloc: Global, bytes: &[u8]) -> Result<Vec<Requirement>, Fault>
 fn requirements_of(alloc: Global, bytes: &[u8]) -> Result<Vec<Requirement>, Cause>
     ensures ok { IfOk result (λ requirements.
         IsRequirementList bytes.now (map requirement_parts requirements.items)) }
-    ensures refused { IfErr result (RefusesListBy RefusesLine bytes.now) }
+    ensures refused { IfErr result (RefusesList bytes.now) }
 {
     if bytes.len() <= INPUT_LIMIT {
         requirements_read(alloc, bytes, true)
@@ -77,7 +79,7 @@ fn requirements_read(alloc: Global, read: &[u8], fits: bool) -> Result<Vec<Requi
     ensures ok { IfOk result (λ requirements. length read.now ≤ input_limit →
         IsRequirementList read.now (map requirement_parts requirements.items)) }
     ensures refused { IfErr result (λ cause. (bytes : List ℕ) → IsReadOf fits read.now bytes
-        → RefusesListBy RefusesLine bytes cause) }
+        → RefusesList bytes cause) }
 {
     let mut requirements = Vec::new(alloc);
     let mut rest = Some(read);
@@ -99,7 +101,7 @@ fn requirements_read(alloc: Global, read: &[u8], fits: bool) -> Result<Vec<Requi
 /// The requirement on a line, or none if the line is skipped.
 pub(crate) fn requirement_on(alloc: Global, line: &[u8]) -> Result<Option<Requirement>, LineFault>
     ensures ok { IfOk result (λ found. TakesLine line.now [] (some_parts found)) }
-    ensures refused { IfErr result (RefusesLineBytesBy RefusesLine line.now) }
+    ensures refused { IfErr result (RefusesLineBytes line.now) }
 {
     if line.len() > LINE_LIMIT {
         return Err(LineFault::Requirement(RequireFault::LineTooLong));
@@ -125,7 +127,7 @@ fn take_line(
 ) -> Result<(), LineFault>
     ensures ok { OnOk result (TakesLine line.now (map requirement_parts requirements.old.items)
         (map requirement_parts requirements.new.items)) }
-    ensures refused { IfErr result (RefusesLineBytesBy RefusesLine line.now) }
+    ensures refused { IfErr result (RefusesLineBytes line.now) }
 {
     let requirement = match requirement_on(alloc, line) {
         Ok(Some(requirement)) => requirement,

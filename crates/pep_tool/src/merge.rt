@@ -1,60 +1,93 @@
-//! The merge of inputs.
+//! What all inputs demand: the text of its table, and what it says of a version.
 
-ghost use Rattle.std.specs.Prelude.{◌≡◌, ◌≢◌, IfOk, IfErr, string_bytes};
+ghost use Rattle.std.specs.Prelude.{◌≡◌, All, IfErr, IfOk, string_bytes};
+ghost use Rattle.pep_table.specs.Answer.{IsAnswer};
+ghost use Rattle.pep_table.specs.Table.{TableDemands};
+ghost use Rattle.pep_table.specs.TableText.{IsTableText};
+ghost use Rattle.pep_tool.specs.Gathered.{Gathered, IsAccepted};
 ghost use Rattle.pep_tool.specs.Merge.{IsMerge};
 ghost use Rattle.pep_tool.specs.Refusal.{RefusesInputs, no_memory};
-ghost use Rattle.pep_tool.specs.Sets.{MergesInputs};
 
-use crate::fault::{Cause, Fault, Place};
-use crate::input::{Input, Kind};
-use crate::list::merge_list;
-use crate::print::table_text;
-use crate::sets::Sets;
+use crate::fault::Fault;
+use crate::gathering::gather;
+use crate::input::Input;
+use pep_marker::{Environment, Name};
+use pep_table::{Answer, Gathering, TableFault};
+use pep_version::Version;
 use std::alloc::Global;
-use std::collections::BTreeMap;
 
-/// Where a fault with this cause in this input lies: want of memory has no place.
-pub(crate) fn fault_in(input: u64, cause: Cause) -> Fault
-    ensures cause { result.cause ≡ cause }
-    ensures memory { cause ≡ Cause.NoMemory → result ≡ no_memory }
-    ensures place { cause ≢ Cause.NoMemory → result.place ≡ Place.Input input }
+/// The text of the table of what is demanded.
+pub(crate) fn text_of(alloc: Global, gathering: Gathering) -> Result<String, Fault>
+    ensures text { IfOk result (λ text. IsTableText gathering (string_bytes text)) }
+    ensures faults { IfErr result (λ fault. fault ≡ no_memory) }
 {
-    let place = match &cause {
-        Cause::NoMemory => Place::Nowhere,
-        _ => Place::Input(input),
-    };
-    Fault { place, cause }
-}
-
-/// Takes what the inputs demand into sets.
-fn gather_inputs(alloc: Global, inputs: &[Input]) -> Result<Sets, Fault>
-    ensures ok { IfOk result (MergesInputs inputs.now) }
-    ensures refused { IfErr result (RefusesInputs inputs.now) }
-{
-    let mut sets = BTreeMap::new(alloc);
-    let mut number: u64 = 0;
-    for input in inputs {
-        number += 1;
-        let merged = match input.kind {
-            Kind::List => merge_list(alloc, &mut sets, &input.bytes),
-        };
-        if let Err(cause) = merged {
-            return Err(fault_in(number, cause));
-        }
+    match gathering.text(alloc) {
+        Ok(text) => Ok(text),
+        Err(_) => Err(Fault::no_memory()),
     }
-    Ok(sets)
 }
 
-/// The text of the table of all inputs, in which order, grouping and repeats of their lines don't
-/// matter.
+/// The text of the table of what all inputs demand in the environment (see
+/// [`Table::text`](pep_table::Table::text)): of those requirements that apply there (PEP 508,
+/// "Environment Markers"), in which order, grouping and repeats of their lines don't matter.
 ///
-/// An input that is no list of requirements is refused, with its number, counted from 1, as the
-/// place: 56 where it has more than 16,777,216 bytes, 57 for a line (see [`Cause`]); the first
-/// fault of the first such input is answered. Want of memory is 60, without a place.
-pub fn merge_bytes(alloc: Global, inputs: &[Input]) -> Result<String, Fault>
-    ensures merged { IfOk result (λ text. IsMerge inputs.now (string_bytes text)) }
-    ensures refused { IfErr result (RefusesInputs inputs.now) }
+/// An input that isn't accepted is refused, with its number, counted from 1, as the place: 56 where
+/// it has more than 16,777,216 bytes; 51 to 55 for a project file that fails a check (see
+/// [`project_of`](crate::project_of)); 57 for a line of a list or a text of a project file (see
+/// [`gather`]). The first fault of the first such input is answered. Want of memory is 60, without
+/// a place.
+pub fn merge_bytes(
+    alloc: Global,
+    inputs: &[Input],
+    environment: &Environment,
+) -> Result<String, Fault>
+    ensures merged { IfOk result (λ text.
+        IsMerge environment.now inputs.now (string_bytes text)) }
+    ensures refused { IfErr result (RefusesInputs environment.now inputs.now) }
 {
-    let sets = gather_inputs(alloc, inputs)?;
-    table_text(alloc, &sets)
+    let gathering = gather(alloc, inputs, environment)?;
+    text_of(alloc, gathering)
+}
+
+// What is demanded says this of the version of the package.
+fn answer(
+    alloc: Global,
+    gathering: Gathering,
+    name: &Name,
+    version: &Version,
+    want_pre: bool,
+) -> Result<Answer, TableFault>
+    ensures answer { IfOk result (IsAnswer (TableDemands gathering name.now) version.now
+        want_pre) }
+{
+    let table = gathering.finish(alloc)?;
+    table.admits(alloc, name, version, want_pre)
+}
+
+/// Whether the version of the package meets what all inputs demand of it in the environment:
+/// `Conflict` where two different URLs are demanded; else `Yes` where every demand admits it, and
+/// it is no pre-release unless these are wanted; else `No`. Where nothing is demanded of the
+/// package the answer is `Yes`, for a pre-release only if these are wanted.
+///
+/// All inputs are read, and refused as by [`merge_bytes`].
+pub fn check_bytes(
+    alloc: Global,
+    inputs: &[Input],
+    environment: &Environment,
+    name: &Name,
+    version: &Version,
+    want_pre: bool,
+) -> Result<Answer, Fault>
+    ensures accepted { IfOk result (λ answer. All (IsAccepted environment.now) inputs.now) }
+    ensures answer { IfOk result (IsAnswer (Gathered environment.now inputs.now name.now)
+        version.now want_pre) }
+    ensures refused { IfErr result (RefusesInputs environment.now inputs.now) }
+{
+    let gathering = gather(alloc, inputs, environment)?;
+    // Its clause tells that the parts make a version.
+    let _ = version.release();
+    match answer(alloc, gathering, name, version, want_pre) {
+        Ok(answer) => Ok(answer),
+        Err(_) => Err(Fault::no_memory()),
+    }
 }

@@ -1,6 +1,8 @@
 //! The program. Without words it merges the list of requirements on standard input and prints its
-//! table; `version TEXT` prints the normal text of a version, `lines FILE` the requirements of a
-//! list. A refusal is told on standard error, with status 2.
+//! table; `merge` does so with lists and project files, in the environment of a file, and `check`
+//! prints whether a version meets them. `version TEXT` prints the normal text of a version, `lines
+//! FILE` the requirements of a list or a project file. A refusal is told on standard error, with
+//! status 2.
 #![tactic(auto)]
 
 use pep_tool::{Counted, run};

@@ -1,6 +1,4 @@
-use Rattle.std.proofs.Common.{subst, List, ℕ, [], arith}
-use Rattle.pep_tool.specs.declared.input.Kind.TheVariants as kind
-use Rattle.pep_tool.specs.GatheredLines.{GathersBytes, RefusesListIn}
+use Rattle.std.proofs.Common.{arith, []}
 use Rattle.pep_tool.proofs.GatheredLists.{input_blamed_in, input_taken}
 use Rattle.pep_tool.proofs.gathering.take_inputs.Goals as goal
 
@@ -9,16 +7,13 @@ returns-in-Err-clause-refused c =
     input_blamed_in c.args.environment.now c.args.inputs.now c.loop-input.input-index
     c.loop-input.number c.input-item.result c.in-Err.cause c.fault_in.result
     c.loop-input-test.true c.input-item.is c.loop-input.invariant.1
-    (subst (λ (l : List ℕ). RefusesListIn c.args.environment.now l c.in-Err.cause)
-    c.deref.ensures.value c.in-Err.ensures.refused)
+    c.in-Err.ensures.refused
     c.fault_in.ensures.cause c.fault_in.ensures.memory c.fault_in.ensures.place
 
 pub loop-input-preserved : goal.loop-input-preserved
 loop-input-preserved c = (
   input_taken c.args.environment.now c.args.inputs.now c.loop-input.input-index
       c.input-item.result [] c.loop-input.gathering c.in-Ok.new c.loop-input-test.true
-      c.input-item.is c.loop-input.invariant.0
-      (subst (λ (l : List ℕ). GathersBytes c.args.environment.now kind.List l
-      c.loop-input.gathering c.in-Ok.new) c.deref.ensures.value c.in-Ok.ensures.ok),
+      c.input-item.is c.loop-input.invariant.0 c.in-Ok.ensures.ok,
   omega (arith, c.loop-input.invariant.1),
 )

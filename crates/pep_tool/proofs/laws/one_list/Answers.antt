@@ -1,5 +1,7 @@
-use Rattle.pep_tool.proofs.DemandLemmas.{one_list_of}
+use Rattle.std.proofs.Common.{[]}
+use Rattle.pep_tool.specs.declared.input.Kind.TheVariants as kind
+use Rattle.pep_tool.proofs.AcceptedInputs as accepted
 use Rattle.pep_tool.proofs.laws.one_list.Goals as goal
 
 pub returns : goal.returns
-returns c = one_list_of
+returns c = accepted.one_list [] kind.List

@@ -2,7 +2,7 @@ use Rattle.std.proofs.Common.{◌∷◌, ◌∙◌, [], ap, map, sym, subst, Opt
 use Rattle.std.proofs.lemmas.List.{map-append}
 use Rattle.pep_require.specs.View.{requirement_parts}
 use Rattle.pep_require.specs.declared.requirement.Requirement.{Requirement}
-use Rattle.pep_tool.specs.RequirementLines.{TakesLine, some_parts}
+use Rattle.pep_tool.specs.LineReading.{TakesLine, some_parts}
 use Rattle.pep_tool.proofs.RequirementLists.{taken_behind}
 use Rattle.pep_tool.proofs.lines.take_line.Goals as goal
 use Rattle.pep_tool.proofs.lines.take_line.Goals.{in-Err-push, in-Ok}

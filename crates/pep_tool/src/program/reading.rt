@@ -1,0 +1,158 @@
+//! The bytes of sources and of files.
+
+ghost use Rattle.std.specs.Prelude.{
+  ◌≡◌,
+  ◌⊎◌,
+  ◌≤◌,
+  ◌+◌,
+  ◌↔◌,
+  IfOk,
+  IfErr,
+  IsErrOf,
+  IsTrue,
+  length,
+  map,
+  string_bytes,
+};
+ghost use Rattle.std.specs.Io.KnownBytes.{Consumes, IsAtEnd};
+ghost use Rattle.pep_tool.specs.Device.{Device, IsFresh};
+ghost use Rattle.pep_tool.specs.Lists.{input_limit};
+ghost use Rattle.pep_tool.specs.Refusal.{no_memory};
+ghost use Rattle.pep_tool.specs.RunFiles.{
+  CannotRead,
+  CannotReadOne,
+  ReadsEnvironment,
+  ReadsFile,
+  ReadsInputs,
+  RefusesEnvironment,
+  kind_of,
+  read_fault,
+};
+
+use crate::device::Source;
+use crate::environment_file::environment_of;
+use crate::fault::{Cause, Fault, Place};
+use crate::folder::{Folder, OpenFault};
+use crate::input::{Input, Kind};
+use pep_marker::Environment;
+use std::alloc::Global;
+
+// How many bytes are asked for at once.
+const PIECE: usize = 65_536;
+
+// How many bytes of an input or a file are read: one more than it may have.
+const READ_LIMIT: usize = 16_777_217;
+
+// What lies in this place can't be opened, or reading it failed.
+fn read_fault(place: Place) -> Fault
+    ensures { result ≡ read_fault place }
+{
+    Fault {
+        place,
+        cause: Cause::ReadFault,
+    }
+}
+
+/// The bytes of a source in this place, and no more than the limit and one.
+pub(crate) fn read_all<S: Source>(
+    alloc: Global,
+    source: &mut S,
+    place: Place,
+) -> Result<Vec<u8>, Fault>
+    requires { IsFresh (S.device source.old) }
+    ensures bytes { IfOk result (λ bytes. Consumes (S.left source.old)
+        (S.left source.new) bytes.items) }
+    ensures whole { IfOk result (λ bytes. length bytes.items ≤ input_limit →
+        IsAtEnd (S.left source.new)) }
+    ensures bound { IfOk result (λ bytes. length bytes.items ≤ input_limit + 1) }
+    ensures calls { (S.device source.new).calls ≤ input_limit + 1 }
+    ensures same { (S.device source.new).identity ≡ (S.device source.old).identity }
+    ensures failed { IsTrue (S.device source.new).failed ↔ IsErrOf result (read_fault place) }
+    ensures faults { IfErr result (λ fault. (fault ≡ read_fault place) ⊎ (fault ≡ no_memory)) }
+{
+    let mut buffer = [0u8; PIECE];
+    let mut bytes = Vec::new(alloc);
+    while bytes.len() < READ_LIMIT {
+        let room = PIECE.min(READ_LIMIT - bytes.len());
+        let piece = &mut buffer[..room];
+        match source.pull(piece) {
+            Ok(0) => return Ok(bytes),
+            Ok(count) => bytes.extend_from_slice(&piece[..count])?,
+            Err(_) => return Err(read_fault(place)),
+        }
+    }
+    Ok(bytes)
+}
+
+/// The bytes of the file with this path, and no more than the limit and one. A fault lies in this
+/// place.
+pub(crate) fn read_file<D: Folder>(
+    alloc: Global,
+    folder: &D,
+    path: &str,
+    place: Place,
+) -> Result<Vec<u8>, Fault>
+    ensures bytes { IfOk result (λ bytes. ReadsFile (D.file_at folder.now) D.File.left
+        D.File.device path.now bytes.items) }
+    ensures refused { IfErr result (λ fault. (fault ≡ no_memory)
+        ⊎ CannotRead (D.file_at folder.now) D.File.left D.File.device path.now place fault) }
+{
+    let mut file = match folder.open(path) {
+        Ok(file) => file,
+        Err(OpenFault::NoMemory) => return Err(Fault::no_memory()),
+        Err(OpenFault::CannotOpen) => return Err(read_fault(place)),
+    };
+    read_all(alloc, &mut file, place)
+}
+
+/// The environment that the file with this path has.
+pub(crate) fn read_environment<D: Folder>(
+    alloc: Global,
+    folder: &D,
+    path: &str,
+) -> Result<Environment, Fault>
+    ensures environment { IfOk result (ReadsEnvironment (D.file_at folder.now) D.File.left
+        D.File.device path.now) }
+    ensures refused { IfErr result (λ fault. (fault ≡ no_memory)
+        ⊎ RefusesEnvironment (D.file_at folder.now) D.File.left D.File.device path.now fault) }
+{
+    let bytes = read_file(alloc, folder, path, Place::Environment)?;
+    environment_of(alloc, bytes.as_slice())
+}
+
+/// The kind of the file with this path: one whose name ends in `.toml` is a project file.
+pub(crate) fn kind_of(path: &str) -> Kind
+    ensures { result ≡ kind_of path.now }
+{
+    if path.as_bytes().ends_with(b".toml") {
+        Kind::Project
+    } else {
+        Kind::List
+    }
+}
+
+/// The inputs that the files with these paths are. All of them are read before one is judged.
+pub(crate) fn read_inputs<D: Folder>(
+    alloc: Global,
+    folder: &D,
+    paths: &[String],
+) -> Result<Vec<Input>, Fault>
+    ensures inputs { IfOk result (λ inputs. ReadsInputs (D.file_at folder.now) D.File.left
+        D.File.device (map string_bytes paths.now) inputs.items) }
+    ensures refused { IfErr result (λ fault. (fault ≡ no_memory)
+        ⊎ CannotReadOne (D.file_at folder.now) D.File.left D.File.device
+        (map string_bytes paths.now) fault) }
+{
+    let mut inputs = Vec::with_capacity(alloc, paths.len())?;
+    let mut number: u64 = 0;
+    for path in paths {
+        number += 1;
+        let path = path.as_str();
+        let bytes = read_file(alloc, folder, path, Place::Input(number))?;
+        inputs.push(Input {
+            kind: kind_of(path),
+            bytes,
+        })?;
+    }
+    Ok(inputs)
+}
