@@ -1,8 +1,9 @@
 //! Codes of the faults of a run, and their texts.
 
 use pep_clause::ClauseFault;
+use pep_marker::MarkerFault;
 use pep_require::RequireFault;
-use pep_tool::{Cause, Failed, Fault, LineFault, OpenFault, Place};
+use pep_tool::{ArgumentFault, Cause, Failed, Fault, LineFault, OpenFault, Place};
 use pep_vectors::faults::{REQUIRE_FAULTS, VERSION_FAULTS};
 use pep_version::VersionFault;
 use std::alloc::AllocGlobal;
@@ -39,9 +40,24 @@ fn codes(rt: HostRuntime) -> Result<(), Fail> {
 #[test]
 fn codes_of_causes(rt: HostRuntime) -> Result<(), Fail> {
     for (cause, code, text) in &[
+        (Cause::NotUtf8, 51, "not UTF-8"),
+        (Cause::NotToml, 52, "not a TOML document"),
+        (Cause::NoProject, 53, "no `project`"),
+        (Cause::Dynamic, 54, "dynamic dependencies"),
+        (Cause::WrongShape, 55, "a value of the wrong shape"),
         (Cause::TooLarge, 56, "more than 16,777,216 bytes"),
         (Cause::ReadFault, 58, "a read failed"),
+        (
+            Cause::BadEnvironment(MarkerFault::BadValue),
+            59,
+            "a faulty environment: a value with a control character",
+        ),
         (Cause::NoMemory, 60, "out of memory"),
+        (
+            Cause::BadArgument(ArgumentFault::Name(MarkerFault::BadName)),
+            62,
+            "a faulty argument: not a name",
+        ),
         (Cause::WriteFault, 63, "a write failed"),
     ] {
         assert_eq!(rt; cause.code(), *code);
@@ -55,7 +71,10 @@ fn codes_of_causes_inside(rt: HostRuntime) -> Result<(), Fail> {
     let words = String::from_str(rt.alloc(), "no")?;
     assert_eq!(rt; Cause::Line(1, LineFault::NotUtf8).code(), 57);
     assert_eq!(rt; Cause::BadWords(words).code(), 61);
-    assert_eq!(rt; Cause::BadArgument(VersionFault::NotAVersion).code(), 62);
+    assert_eq!(rt;
+        Cause::BadArgument(ArgumentFault::Version(VersionFault::NotAVersion)).code(),
+        62
+    );
     for &(fault, _, _) in &VERSION_FAULTS {
         let want = if fault == VersionFault::NoMemory {
             60
@@ -81,8 +100,16 @@ fn texts_of_faults(rt: HostRuntime) -> Result<(), Fail> {
         &fault,
         "input 2: line 7: a faulty clause: not a version",
     )?;
+    let fault = Fault {
+        place: Place::Environment,
+        cause: Cause::NotToml,
+    };
+    is_told(&rt, &fault, "environment: not a TOML document")?;
     for &(fault, want) in &[
-        (VersionFault::NotAVersion, "a faulty version: not a version"),
+        (
+            VersionFault::NotAVersion,
+            "a faulty argument: not a version",
+        ),
         (VersionFault::NoMemory, "out of memory"),
     ] {
         is_told(&rt, &Fault::from(fault), want)?;

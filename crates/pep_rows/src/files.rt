@@ -1,5 +1,6 @@
 //! `lines FILE`: what the program prints for files, and how it refuses them.
 
+use crate::commands::Outcome;
 use crate::streams::{NEVER, Reader};
 use pep_tool::{Bytes, Counted, Disk, Folder, OpenFault, Source, run, run_in};
 use std::alloc::Global;
@@ -10,15 +11,6 @@ use std::{env, fs, process};
 
 // Bytes that a list may not have, which nothing but standard input gives.
 const INPUT: &[u8] = b"-";
-
-// What a run printed, told and answered.
-#[derive(Drop)]
-struct Outcome {
-    status: u8,
-    printed: String,
-    told: String,
-    reads: u64,
-}
 
 // Runs the program with `lines` and this path, over the files of the folder.
 fn ran<D: Folder>(alloc: Global, folder: &D, path: &str) -> Result<Outcome, Fail> {
@@ -135,6 +127,26 @@ fn lists_that_are_refused(rt: HostRuntime) -> Result<(), Fail> {
 }
 
 #[test]
+fn many_lines(rt: HostRuntime) -> Result<(), Fail> {
+    let mut list = String::new(rt.alloc());
+    let mut want = String::new(rt.alloc());
+    for i in 0..20_000 {
+        let line = format!(in rt.alloc(); "N_{i} [y,X] (>={i},)\n")?;
+        list.push_str(line.as_str())?;
+        let text = format!(in rt.alloc(); "n-{i}[x,y]>={i}\n")?;
+        want.push_str(text.as_str())?;
+    }
+    let folder = OneFile {
+        path: "r",
+        bytes: list.as_bytes(),
+    };
+    let it = ran(rt.alloc(), &folder, "r")?;
+    assert!(rt; it.printed == want);
+    assert_eq!(rt; (it.status, it.told.as_str(), it.reads), (0, "", 0));
+    Ok(())
+}
+
+#[test]
 fn lists_at_the_limit(rt: HostRuntime) -> Result<(), Fail> {
     let mut bytes = Vec::new(rt.alloc());
     for _ in 0..16_777_216 {
@@ -200,8 +212,8 @@ fn files_that_fail(rt: HostRuntime) -> Result<(), Fail> {
     Ok(())
 }
 
-// A folder of this test's own, made anew.
-fn temporary(rt: &HostRuntime, test: &str) -> Result<PathBuf, Fail> {
+/// A folder of this test's own, made anew.
+pub(crate) fn temporary(rt: &HostRuntime, test: &str) -> Result<PathBuf, Fail> {
     let name = format!(in rt.alloc(); "tubrambutan-{}-{test}", process::id(rt.process()))?;
     let folder = env::temp_dir(rt)?.join(rt.alloc(), name.as_str())?;
     let _ = fs::remove_dir_all(rt, folder.as_path());

@@ -3,7 +3,10 @@
 
 ghost use Rattle.std.specs.Prelude.{◌<◌};
 
-use crate::lists::told;
+use crate::answers::answer;
+use crate::lists::{machine, told};
+use pep_table::Answer;
+use pep_tool::{Input, Kind, merge_bytes};
 use std::alloc::{AllocError, Global};
 use std::test::Fail;
 
@@ -78,5 +81,94 @@ fn clauses_of_one_line(rt: HostRuntime) -> Result<(), Fail> {
     let table = told(rt.alloc(), &[list.as_bytes()])?;
     let want = gaps(rt.alloc(), 1000)?;
     assert_eq!(rt; table.as_str(), want.as_str());
+    Ok(())
+}
+
+// Appends the numbers 10,000 to 14,999, each in a line of its own, between these texts.
+fn push_lines(alloc: Global, text: &mut String, front: &str, back: &str) -> Result<(), AllocError> {
+    for i in 10_000..15_000 {
+        let line = format!(in alloc; "{front}{i}{back}\n")?;
+        text.push_str(line.as_str())?;
+    }
+    Ok(())
+}
+
+/// Extras, URLs and texts, 5,000 each, on one name.
+pub(crate) fn many_demands(alloc: Global) -> Result<String, AllocError> {
+    let mut list = String::new(alloc);
+    push_lines(alloc, &mut list, "a===1.", "")?;
+    push_lines(
+        alloc,
+        &mut list,
+        "a @ https://x.test/",
+        " ; os_name == 'posix'",
+    )?;
+    push_lines(alloc, &mut list, "a[x", "]")?;
+    Ok(list)
+}
+
+/// Their table.
+pub(crate) fn many_demanded(alloc: Global) -> Result<String, AllocError> {
+    let mut text = String::from_str(alloc, "a conflict\n")?;
+    push_lines(alloc, &mut text, "  extra x", "")?;
+    push_lines(alloc, &mut text, "  url https://x.test/", "")?;
+    push_lines(alloc, &mut text, "  text 1.", "")?;
+    text.push_str("  range before 0.dev0 to end\n")?;
+    Ok(text)
+}
+
+#[test]
+fn demands_of_one_name(rt: HostRuntime) -> Result<(), Fail> {
+    let list = many_demands(rt.alloc())?;
+    let table = told(rt.alloc(), &[list.as_bytes()])?;
+    assert!(rt; table == many_demanded(rt.alloc())?);
+    Ok(())
+}
+
+// As many lists, each with a clause on `a` and one on a name of its own.
+fn many_inputs(alloc: Global) -> Result<Vec<Input>, AllocError> {
+    let mut inputs = Vec::new(alloc);
+    for i in 1_000..2_000 {
+        let list = format!(in alloc; "a>={i}\nn{i}<1\n")?;
+        inputs.push(Input {
+            kind: Kind::List,
+            bytes: Vec::from_slice(alloc, list.as_bytes())?,
+        })?;
+    }
+    Ok(inputs)
+}
+
+// Their table.
+fn many_merged(alloc: Global) -> Result<String, AllocError> {
+    let mut text = String::from_str(alloc, "a open\n  range before 1999 to end\n")?;
+    for i in 1_000..2_000 {
+        let entry = format!(in alloc; "n{i} open\n  range before 0.dev0 to before 1.dev0\n")?;
+        text.push_str(entry.as_str())?;
+    }
+    Ok(text)
+}
+
+#[test]
+fn inputs(rt: HostRuntime) -> Result<(), Fail> {
+    let inputs = many_inputs(rt.alloc())?;
+    let machine = machine(rt.alloc())?;
+    let table = merge_bytes(rt.alloc(), inputs.as_slice(), &machine)?;
+    assert!(rt; table == many_merged(rt.alloc())?);
+    Ok(())
+}
+
+#[test]
+fn answers(rt: HostRuntime) -> Result<(), Fail> {
+    let inputs = many_inputs(rt.alloc())?;
+    for &(name, version, want) in &[
+        ("a", "1999", Answer::Yes),
+        ("a", "1998", Answer::No),
+        ("n1000", "1", Answer::No),
+        ("n1999", "0.5", Answer::Yes),
+        ("n2000", "1", Answer::Yes),
+    ] {
+        let found = answer(rt.alloc(), inputs.as_slice(), name, version, false)?;
+        assert_eq!(rt; found, want, "of {name} {version}");
+    }
     Ok(())
 }

@@ -3,7 +3,17 @@
 #![tactic(auto)]
 
 #[cfg(test)]
+mod answers;
+#[cfg(test)]
 mod commands;
+#[cfg(test)]
+mod demands;
+#[cfg(test)]
+mod disk;
+#[cfg(test)]
+mod environment_files;
+#[cfg(test)]
+mod environments;
 #[cfg(test)]
 mod example;
 #[cfg(test)]
@@ -11,7 +21,7 @@ mod faults;
 #[cfg(test)]
 mod files;
 #[cfg(test)]
-mod gathered;
+mod joins;
 #[cfg(test)]
 mod large;
 #[cfg(test)]
@@ -23,10 +33,22 @@ mod lines;
 #[cfg(test)]
 mod lists;
 #[cfg(test)]
+mod markers;
+#[cfg(test)]
+mod mixed;
+#[cfg(test)]
 mod operators;
+#[cfg(test)]
+mod project_faults;
+#[cfg(test)]
+mod projects;
 #[cfg(test)]
 mod published;
 #[cfg(test)]
+mod published_projects;
+#[cfg(test)]
 mod requirements;
+#[cfg(test)]
+mod standard;
 #[cfg(test)]
 mod streams;

@@ -1,6 +1,6 @@
 //! Tables of lists with all operators but `===`, and with several clauses in a line.
 
-use crate::lists::told;
+use crate::lists::expect_of_one;
 use std::test::Fail;
 
 const ONE_CLAUSE: [(&str, &str); 26] = [
@@ -100,7 +100,8 @@ const SEVERAL_CLAUSES: [(&str, &str); 11] = [
     ),
     (
         "a!=1.5,!=1.2,~=1.1\nA\t~= 1.0 ,\t!=1.4.*\r\na<=1.5\n",
-        "a open\n  range before 1.1 to before 1.2\n  range before 1.2.post0.dev0 to before 1.4.dev0\n  range before 1.5.dev0 to before 1.5\n",
+        "a open\n  range before 1.1 to before 1.2\n  range before 1.2.post0.dev0 to before \
+         1.4.dev0\n  range before 1.5.dev0 to before 1.5\n",
     ),
     (
         "a!=1.5.*\na!=1.2\na>=1.5.1",
@@ -111,18 +112,12 @@ const SEVERAL_CLAUSES: [(&str, &str); 11] = [
 
 #[test]
 fn tables_of_one_clause(rt: HostRuntime) -> Result<(), Fail> {
-    for &(list, want) in &ONE_CLAUSE {
-        let text = told(rt.alloc(), &[list.as_bytes()])?;
-        assert_eq!(rt; text.as_str(), want, "of {list}");
-    }
+    expect_of_one(&rt, &ONE_CLAUSE)?;
     Ok(())
 }
 
 #[test]
 fn tables_of_several_clauses(rt: HostRuntime) -> Result<(), Fail> {
-    for &(list, want) in &SEVERAL_CLAUSES {
-        let text = told(rt.alloc(), &[list.as_bytes()])?;
-        assert_eq!(rt; text.as_str(), want, "of {list}");
-    }
+    expect_of_one(&rt, &SEVERAL_CLAUSES)?;
     Ok(())
 }

@@ -7,7 +7,7 @@ use std::alloc::Global;
 use std::process::Abort;
 use std::test::Fail;
 
-fn texts(alloc: Global, requirements: &[Requirement]) -> Result<String, RequireFault> {
+pub(crate) fn texts(alloc: Global, requirements: &[Requirement]) -> Result<String, RequireFault> {
     let mut text = String::new(alloc);
     for requirement in requirements {
         let line = requirement.text(alloc)?;

@@ -1,6 +1,7 @@
 //! The program over readers and writers that fail at a call, that give bytes without end, or that
 //! take none.
 
+use crate::lists::FLASK;
 use pep_tool::{Bytes, Counted, Failed, Sink, Source, run, write_text};
 use std::alloc::Global;
 use std::io;
@@ -8,8 +9,6 @@ use std::io::Write;
 use std::test::Fail;
 
 const LIST: &[u8] = b"flask>=2.0\nFlask<3\n";
-
-const TABLE: &str = "flask open\n  range before 2 to before 3.dev0\n";
 
 // How many bytes a call moves at most.
 const PIECE: usize = 7;
@@ -207,7 +206,7 @@ fn reads_that_fail(rt: HostRuntime) -> Result<(), Fail> {
         let (want, text, line) = if fails_at < 5 {
             (2, "", "refused input 1 code 58\n")
         } else {
-            (0, TABLE, "")
+            (0, FLASK, "")
         };
         assert_eq!(rt; status, want, "at {fails_at}");
         assert_eq!(rt; output.bytes.as_slice(), text.as_bytes(), "at {fails_at}");
@@ -244,7 +243,7 @@ fn a_list_in_many_pieces(rt: HostRuntime) -> Result<(), Fail> {
     let mut output = Writer::new(rt.alloc(), NEVER);
     let mut faults = Writer::new(rt.alloc(), NEVER);
     assert_eq!(rt; run(&rt, &[], &mut input, &mut output, &mut faults), 0);
-    assert_eq!(rt; output.bytes.as_slice(), TABLE.as_bytes());
+    assert_eq!(rt; output.bytes.as_slice(), FLASK.as_bytes());
     Ok(())
 }
 
@@ -263,7 +262,7 @@ fn writes_that_fail(rt: HostRuntime) -> Result<(), Fail> {
         assert_eq!(rt; status, want, "at {fails_at}");
         assert_eq!(rt;
             output.bytes.as_slice(),
-            front(TABLE, (fails_at - 1) * 7),
+            front(FLASK, (fails_at - 1) * 7),
             "at {fails_at}"
         );
         assert_eq!(rt; faults.bytes.as_slice(), line.as_bytes(), "at {fails_at}");
@@ -275,8 +274,8 @@ fn writes_that_fail(rt: HostRuntime) -> Result<(), Fail> {
 
 #[test]
 fn faults_that_cannot_be_told(rt: HostRuntime) -> Result<(), Fail> {
-    let words = [String::from_str(rt.alloc(), "merge")?];
-    let told = "refused code 61\nerror: unrecognized subcommand 'merge'\n";
+    let words = [String::from_str(rt.alloc(), "table")?];
+    let told = "refused code 61\nerror: unrecognized subcommand 'table'\n";
     // The line goes in three pieces, and the text of clap behind it.
     for fails_at in 1..8u64 {
         let mut input = Reader::new(LIST, 1);
@@ -335,7 +334,7 @@ fn devices_over_std(rt: HostRuntime) -> Result<(), Fail> {
         &mut Counted::new(&mut told),
     );
     assert_eq!(rt; status, 0);
-    assert_eq!(rt; printed.as_slice(), TABLE.as_bytes());
+    assert_eq!(rt; printed.as_slice(), FLASK.as_bytes());
     assert_eq!(rt; told.as_slice(), b"".as_slice());
     assert_eq!(rt; input.calls(), 2);
     assert!(rt; !input.failed());

@@ -13,6 +13,8 @@ mod environments;
 pub mod faults;
 #[cfg(test)]
 mod large;
+#[cfg(test)]
+mod large_tables;
 pub mod machine;
 #[cfg(test)]
 mod markers;

@@ -4,37 +4,63 @@ use crate::machine::MACHINE;
 use pep_clause::VersionSet;
 use pep_marker::{Environment, Name};
 use pep_require::Requirement;
-use pep_table::{Answer, Gathering, Join, Kept, Sorted, Table, TableFault, Verdict, join_all};
+use pep_table::{
+    Answer, Entry, Gathering, Join, Kept, Sorted, Table, TableFault, Verdict, join_all,
+};
 use pep_version::Version;
 use std::alloc::Global;
 use std::process::Abort;
 use std::test::Fail;
 
-fn requirements(alloc: Global, lines: &[&str]) -> Option<Vec<Requirement>> {
+/// The requirement of a line, which is one.
+pub(crate) fn requirement(alloc: Global, line: &str) -> Result<Requirement, TableFault> {
+    match Requirement::read(alloc, line) {
+        Ok(requirement) => Ok(requirement),
+        Err(_) => Err(TableFault::NoMemory),
+    }
+}
+
+/// The environment of the machine.
+pub(crate) fn machine(alloc: Global) -> Result<Environment, TableFault> {
+    match Environment::of(alloc, &MACHINE) {
+        Ok(machine) => Ok(machine),
+        Err(_) => Err(TableFault::NoMemory),
+    }
+}
+
+/// The table of requirements on the machine.
+pub(crate) fn table_of(alloc: Global, requirements: &[Requirement]) -> Result<Table, TableFault> {
+    Table::of(alloc, requirements, &machine(alloc)?)
+}
+
+fn requirements(alloc: Global, lines: &[&str]) -> Result<Vec<Requirement>, TableFault> {
     let mut requirements = Vec::new(alloc);
     for line in lines {
-        let requirement = Requirement::read(alloc, line).ok()?;
-        requirements.push(requirement).ok()?;
+        requirements.push(requirement(alloc, line)?)?;
     }
-    Some(requirements)
+    Ok(requirements)
 }
 
-// The table of requirement lines, each of which is one.
-fn table(alloc: Global, lines: &[&str]) -> Result<Table, TableFault> {
-    let (Some(requirements), Ok(machine)) = (
-        requirements(alloc, lines),
-        Environment::of(alloc, &MACHINE),
-    ) else {
-        return Err(TableFault::NoMemory);
-    };
-    Table::of(alloc, requirements.as_slice(), &machine)
+/// The table of requirement lines, each of which is one.
+pub(crate) fn table(alloc: Global, lines: &[&str]) -> Result<Table, TableFault> {
+    table_of(alloc, requirements(alloc, lines)?.as_slice())
 }
 
-fn name(alloc: Global, text: &str) -> Result<Name, TableFault> {
+/// The name of a text, which is one.
+pub(crate) fn name(alloc: Global, text: &str) -> Result<Name, TableFault> {
     match Name::read(alloc, text) {
         Ok(name) => Ok(name),
         Err(_) => Err(TableFault::NoMemory),
     }
+}
+
+/// The entry of a name, which the table has.
+pub(crate) fn entry<'t>(
+    alloc: Global,
+    table: &'t Table,
+    text: &str,
+) -> Result<&'t Entry, TableFault> {
+    table.get(&name(alloc, text)?).ok_or(TableFault::NoMemory)
 }
 
 fn text(alloc: Global, lines: &[&str]) -> Result<String, TableFault> {
@@ -135,11 +161,10 @@ fn markers(rt: HostRuntime) -> Result<(), Fail> {
             ),
         ],
     )?;
-    let undefined = [
+    for &(lines, number) in &[
         (["a; \"dog\" ~= \"fred\"", "b"], 1),
         (["a", "b; os_name == \"zz\" and \"dog\" ~= \"fred\""], 2),
-    ];
-    for (lines, number) in undefined {
+    ] {
         let fault = table(rt.alloc(), &lines).err();
         assert_eq!(rt; fault, Some(TableFault::Undefined(number)));
     }
@@ -149,97 +174,181 @@ fn markers(rt: HostRuntime) -> Result<(), Fail> {
 const CONFLICT: &str = "a conflict\n  url https://x.test/1\n  url https://x.test/2\n  range before \
     0.dev0 to end\n";
 
+// The join of the tables of two lines.
+fn joined(alloc: Global, line: &str, other: &str) -> Result<Table, TableFault> {
+    table(alloc, &[line])?.joined(alloc, &table(alloc, &[other])?)
+}
+
 #[test]
 fn conflicts(rt: HostRuntime) -> Result<(), Fail> {
-    let alloc = rt.alloc();
-    let first = table(alloc, &["a @ https://x.test/1"])?;
-    let second = table(alloc, &["a @ https://x.test/2"])?;
-    let third = table(alloc, &["a>=1", "a @ https://x.test/1", "b"])?;
-    let both = first.joined(alloc, &second)?;
-    assert_eq!(rt; both.text(alloc)?.as_str(), CONFLICT);
-    let turned = second.joined(alloc, &first)?;
-    assert!(rt; both == turned);
-    let later = both.joined(alloc, &third)?;
-    let a = name(alloc, "a")?;
-    assert_eq!(rt; later.verdict(alloc, &a)?, Some(Verdict::Conflict));
+    let (first, second) = ("a @ https://x.test/1", "a @ https://x.test/2");
+    let both = joined(rt.alloc(), first, second)?;
+    assert_eq!(rt; both.text(rt.alloc())?.as_str(), CONFLICT);
+    assert!(rt; joined(rt.alloc(), second, first)? == both);
     Ok(())
+}
+
+/// The verdict on `a`.
+pub(crate) fn verdict(alloc: Global, table: &Table) -> Result<Option<Verdict>, TableFault> {
+    table.verdict(alloc, &name(alloc, "a")?)
+}
+
+#[test]
+fn conflicts_stay(rt: HostRuntime) -> Result<(), Fail> {
+    let both = joined(rt.alloc(), "a @ https://x.test/1", "a @ https://x.test/2")?;
+    let third = table(rt.alloc(), &["a>=1", "a @ https://x.test/1", "b"])?;
+    let later = both.joined(rt.alloc(), &third)?;
+    assert_eq!(rt; verdict(rt.alloc(), &later)?, Some(Verdict::Conflict));
+    Ok(())
+}
+
+// The lines of tables that are joined, and of the join.
+const JOINED: [&[&str]; 3] = [
+    &["Flask<3", "x[y]"],
+    &["flask>=2.0", "z===1.0"],
+    &["flask>=2.0"],
+];
+
+const WHOLE: [&str; 4] = ["z===1.0", "flask>=2.0", "x[y]", "flask<3"];
+
+fn tables(alloc: Global) -> Result<Vec<Table>, TableFault> {
+    let mut tables = Vec::new(alloc);
+    for lines in &JOINED {
+        tables.push(table(alloc, lines)?)?;
+    }
+    Ok(tables)
 }
 
 #[test]
 fn joins(rt: HostRuntime) -> Result<(), Fail> {
-    let alloc = rt.alloc();
-    let tables = [
-        table(alloc, &["Flask<3", "x[y]"])?,
-        table(alloc, &["flask>=2.0", "z===1.0"])?,
-        table(alloc, &["flask>=2.0"])?,
-    ];
-    let whole = table(alloc, &["z===1.0", "flask>=2.0", "x[y]", "flask<3"])?;
-    let joined = join_all(alloc, Table::empty(alloc), tables.iter())?;
+    let (tables, whole) = (tables(rt.alloc())?, table(rt.alloc(), &WHOLE)?);
+    let joined = join_all(rt.alloc(), Table::empty(rt.alloc()), tables.iter())?;
     assert!(rt; joined == whole);
-    let back = join_all(alloc, Table::empty(alloc), tables.iter().rev())?;
+    let back = join_all(rt.alloc(), Table::empty(rt.alloc()), tables.iter().rev())?;
     assert!(rt; back == whole);
-    let again = whole.joined(alloc, &joined)?;
-    assert!(rt; again == whole);
-    assert!(rt; tables[1] != tables[2]);
-    let mut gathering = Gathering::new(alloc);
-    for table in &tables {
-        gathering = gathering.take_table(alloc, table)?;
-    }
-    let gathered = gathering.finish(alloc)?;
-    assert_eq!(rt; gathered.text(alloc)?.as_str(), whole.text(alloc)?.as_str());
+    assert!(rt; whole.joined(rt.alloc(), &joined)? == whole);
     Ok(())
 }
 
 #[test]
-fn entries(rt: HostRuntime) -> Result<(), Fail> {
-    let alloc = rt.alloc();
-    let table = table(alloc, &["a[y,x]>=1,===1.0", "b @ https://x.test/1", "c"])?;
-    let (a, b, d) = (name(alloc, "A")?, name(alloc, "b")?, name(alloc, "d")?);
-    assert!(rt; table.get(&d).is_none());
-    let entry = table.get(&a).ok_or(TableFault::NoMemory)?;
-    let extras = entry.extras().items();
-    assert_eq!(rt; extras.len(), 2);
-    assert_eq!(rt; extras[0].text(), "x");
-    let texts = entry.texts().items();
-    assert_eq!(rt; texts.len(), 1);
-    assert_eq!(rt; texts[0].as_str(), "1.0");
-    assert_eq!(rt; entry.versions().ranges().len(), 1);
-    assert!(rt; entry.urls().items().is_empty());
-    let other = table.get(&b).ok_or(TableFault::NoMemory)?;
-    let urls = other.urls().items();
-    assert_eq!(rt; urls.len(), 1);
-    assert_eq!(rt; urls[0].as_str(), "https://x.test/1");
-    let both = entry.joined(alloc, other)?;
-    assert_eq!(rt; both.urls().items().len(), 1);
-    assert!(rt; both != *entry);
-    let copy = both.copied(alloc)?;
-    assert!(rt; copy == both);
-    let again = table.copied(alloc)?;
-    assert!(rt; again == table);
+fn different_tables(rt: HostRuntime) -> Result<(), Fail> {
+    let tables = tables(rt.alloc())?;
+    assert_eq!(rt; tables.len(), 3);
+    assert!(rt; tables[1] != tables[2]);
     Ok(())
+}
+
+/// What the tables demand, gathered one by one.
+pub(crate) fn gathered(alloc: Global, tables: &[Table]) -> Result<Table, TableFault> {
+    let mut gathering = Gathering::new(alloc);
+    for table in tables {
+        gathering = gathering.take_table(alloc, table)?;
+    }
+    gathering.finish(alloc)
+}
+
+#[test]
+fn gathers_tables(rt: HostRuntime) -> Result<(), Fail> {
+    let gathered = gathered(rt.alloc(), tables(rt.alloc())?.as_slice())?;
+    assert!(rt; gathered.text(rt.alloc())? == text(rt.alloc(), &WHOLE)?);
+    Ok(())
+}
+
+fn expect_items<T: Kept>(rt: &impl Abort, values: &Sorted<T>, wanted: &[&str]) {
+    let items = values.items();
+    assert_eq!(rt; items.len(), wanted.len());
+    for (item, want) in items.iter().zip(wanted) {
+        assert_eq!(rt; item.as_text(), *want);
+    }
+}
+
+const ENTRIES: [&str; 3] = ["a[y,x]>=1,===1.0", "b @ https://x.test/1", "c"];
+
+#[test]
+fn entry_of_clauses(rt: HostRuntime) -> Result<(), Fail> {
+    let table = table(rt.alloc(), &ENTRIES)?;
+    let entry = entry(rt.alloc(), &table, "A")?;
+    expect_items(&rt, entry.extras(), &["x", "y"]);
+    expect_items(&rt, entry.urls(), &[]);
+    expect_items(&rt, entry.texts(), &["1.0"]);
+    assert_eq!(rt; entry.versions().ranges().len(), 1);
+    Ok(())
+}
+
+#[test]
+fn entry_of_a_url(rt: HostRuntime) -> Result<(), Fail> {
+    let table = table(rt.alloc(), &ENTRIES)?;
+    let entry = entry(rt.alloc(), &table, "b")?;
+    expect_items(&rt, entry.urls(), &["https://x.test/1"]);
+    Ok(())
+}
+
+#[test]
+fn no_entry(rt: HostRuntime) -> Result<(), Fail> {
+    let table = table(rt.alloc(), &ENTRIES)?;
+    assert!(rt; table.get(&name(rt.alloc(), "d")?).is_none());
+    Ok(())
+}
+
+// The join of the entries of `a` and `b`.
+fn joined_entry(alloc: Global, table: &Table) -> Result<Entry, TableFault> {
+    entry(alloc, table, "a")?.joined(alloc, entry(alloc, table, "b")?)
+}
+
+#[test]
+fn joined_entries(rt: HostRuntime) -> Result<(), Fail> {
+    let table = table(rt.alloc(), &ENTRIES)?;
+    let both = joined_entry(rt.alloc(), &table)?;
+    expect_items(&rt, both.extras(), &["x", "y"]);
+    expect_items(&rt, both.urls(), &["https://x.test/1"]);
+    assert!(rt; both != *entry(rt.alloc(), &table, "a")?);
+    Ok(())
+}
+
+#[test]
+fn copies(rt: HostRuntime) -> Result<(), Fail> {
+    let table = table(rt.alloc(), &ENTRIES)?;
+    assert!(rt; table.copied(rt.alloc())? == table);
+    Ok(())
+}
+
+#[test]
+fn copies_of_entries(rt: HostRuntime) -> Result<(), Fail> {
+    let both = joined_entry(rt.alloc(), &table(rt.alloc(), &ENTRIES)?)?;
+    assert!(rt; both.copied(rt.alloc())? == both);
+    Ok(())
+}
+
+// The extras of `a` and of `b`, joined.
+fn joined_extras(alloc: Global, lines: &[&str]) -> Result<Sorted<Name>, TableFault> {
+    let table = table(alloc, lines)?;
+    let extras = entry(alloc, &table, "a")?.extras();
+    extras.joined(alloc, entry(alloc, &table, "b")?.extras())
 }
 
 #[test]
 fn sorted_values(rt: HostRuntime) -> Result<(), Fail> {
-    let alloc = rt.alloc();
-    let table = table(alloc, &["a[y,x]", "b[z,x]"])?;
-    let (a, b) = (name(alloc, "a")?, name(alloc, "b")?);
-    let left = table.get(&a).ok_or(TableFault::NoMemory)?.extras();
-    let right = table.get(&b).ok_or(TableFault::NoMemory)?.extras();
-    let union = left.joined(alloc, right)?;
-    assert_eq!(rt; union.items().len(), 3);
-    assert_eq!(rt; union.items()[2].text(), "z");
-    let copy = union.copied(alloc)?;
-    assert!(rt; copy == union);
-    let none = Sorted::<String>::new(alloc);
-    assert!(rt; none.items().is_empty());
-    let kept = a.kept(alloc)?;
-    assert!(rt; kept == a);
-    let text = String::from_str(alloc, "1.0")?.kept(alloc)?;
-    assert_eq!(rt; text.as_str(), "1.0");
-    let all = VersionSet::all(alloc).map_err(|_| TableFault::NoMemory)?;
-    let none = VersionSet::none(alloc);
-    assert!(rt; Join::joined(&all, alloc, &none)?.is_empty());
+    let union = joined_extras(rt.alloc(), &["a[y,x]", "b[z,x]"])?;
+    expect_items(&rt, &union, &["x", "y", "z"]);
+    assert!(rt; union.copied(rt.alloc())? == union);
+    expect_items(&rt, &Sorted::<String>::new(rt.alloc()), &[]);
+    Ok(())
+}
+
+#[test]
+fn kept_values(rt: HostRuntime) -> Result<(), Fail> {
+    let text = String::from_str(rt.alloc(), "1.0")?;
+    assert_eq!(rt; text.kept(rt.alloc())?.as_str(), "1.0");
+    let a = name(rt.alloc(), "a")?;
+    assert!(rt; a.kept(rt.alloc())? == a);
+    Ok(())
+}
+
+#[test]
+fn joined_versions(rt: HostRuntime) -> Result<(), Fail> {
+    let all = VersionSet::all(rt.alloc())?;
+    let none = VersionSet::none(rt.alloc());
+    assert!(rt; Join::joined(&all, rt.alloc(), &none)?.is_empty());
     Ok(())
 }
 
@@ -266,7 +375,8 @@ const ANSWERS: [(&[&str], &str, bool, Answer); 14] = [
     ),
 ];
 
-fn answer(
+/// Whether a version of `a` meets what the lines demand.
+pub(crate) fn answer(
     alloc: Global,
     lines: &[&str],
     version: &str,
@@ -281,7 +391,7 @@ fn answer(
 
 #[test]
 fn answers(rt: HostRuntime) -> Result<(), Fail> {
-    for (lines, version, want_pre, wanted) in ANSWERS {
+    for &(lines, version, want_pre, wanted) in &ANSWERS {
         let answer = answer(rt.alloc(), lines, version, want_pre)?;
         assert_eq!(rt; answer, wanted, "at {version}");
     }
@@ -298,10 +408,9 @@ fn verdicts(rt: HostRuntime) -> Result<(), Fail> {
         (&["a===1.0", "a===1.00"], Some(Verdict::Nothing)),
         (&["a<1", "a>1"], Some(Verdict::Nothing)),
     ];
-    let a = name(rt.alloc(), "a")?;
-    for (lines, wanted) in rows {
-        let table = table(rt.alloc(), lines)?;
-        assert_eq!(rt; table.verdict(rt.alloc(), &a)?, wanted);
+    for &(lines, wanted) in &rows {
+        let verdict = verdict(rt.alloc(), &table(rt.alloc(), lines)?)?;
+        assert_eq!(rt; verdict, wanted);
     }
     Ok(())
 }
@@ -310,64 +419,4 @@ fn verdicts(rt: HostRuntime) -> Result<(), Fail> {
 fn codes() {
     prove!(TableFault::Undefined(7).code() == 28);
     prove!(TableFault::NoMemory.code() == 42);
-}
-
-// What is demanded so far, and by the line.
-fn taken(
-    alloc: Global,
-    gathering: Gathering,
-    machine: &Environment,
-    line: &str,
-) -> Result<Gathering, TableFault> {
-    let Ok(requirement) = Requirement::read(alloc, line) else {
-        return Err(TableFault::NoMemory);
-    };
-    match gathering.take_applying(alloc, &requirement, machine) {
-        Ok(more) => Ok(more),
-        Err(_) => Err(TableFault::NoMemory),
-    }
-}
-
-#[test]
-fn many_names(rt: HostRuntime) -> Result<(), Fail> {
-    let alloc = rt.alloc();
-    let machine = Environment::of(alloc, &MACHINE)?;
-    let mut gathering = Gathering::new(alloc);
-    let mut wanted = String::new(alloc);
-    for i in 10_000u32..30_000 {
-        let line = format!(in alloc; "N{i}>={i}")?;
-        gathering = taken(alloc, gathering, &machine, line.as_str())?;
-        let entry = format!(in alloc; "n{i} open\n  range before {i} to end\n")?;
-        wanted.push_str(entry.as_str())?;
-    }
-    let table = gathering.finish(alloc)?;
-    assert!(rt; table.text(alloc)? == wanted);
-    let last = table.get(&name(alloc, "n29999")?);
-    assert!(rt; last.is_some());
-    Ok(())
-}
-
-#[test]
-fn many_demands_of_one_name(rt: HostRuntime) -> Result<(), Fail> {
-    let alloc = rt.alloc();
-    let machine = Environment::of(alloc, &MACHINE)?;
-    let mut gathering = Gathering::new(alloc);
-    for i in 0u32..5_000 {
-        let extra = format!(in alloc; "a[x{i}]>={i}")?;
-        gathering = taken(alloc, gathering, &machine, extra.as_str())?;
-        let text = format!(in alloc; "a===1.{i}")?;
-        gathering = taken(alloc, gathering, &machine, text.as_str())?;
-        let url = format!(in alloc; "a @ https://x.test/{i}")?;
-        gathering = taken(alloc, gathering, &machine, url.as_str())?;
-    }
-    let table = gathering.finish(alloc)?;
-    let entry = table.get(&name(alloc, "a")?).ok_or(TableFault::NoMemory)?;
-    assert_eq!(rt; entry.extras().items().len(), 5_000);
-    assert_eq!(rt; entry.texts().items().len(), 5_000);
-    assert_eq!(rt; entry.urls().items().len(), 5_000);
-    let ranges = entry.versions().ranges();
-    assert_eq!(rt; ranges.len(), 1);
-    let low = ranges[0].low().text(alloc)?;
-    assert_eq!(rt; low.as_str(), "before 4999");
-    Ok(())
 }
