@@ -99,47 +99,57 @@ fn versions_that_are_refused(rt: HostRuntime) -> Result<(), Fail> {
     Ok(())
 }
 
+// Words, and what is told of them.
+type RefusedRow<'a> = (&'a [&'a str], &'a str);
+
+// The texts are those of clap for Rust.
+const REFUSED_WORDS: [RefusedRow; 6] = [
+    (
+        &["table"],
+        "refused code 61\nerror: unrecognized subcommand 'table'\n\n\
+         Usage: tubrambutan <COMMAND>\n\nFor more information, try '--help'.\n",
+    ),
+    (
+        &["merge"],
+        "refused code 61\nerror: the following required arguments were not provided:\n  \
+         --env <E>\n  <FILE>...\n\nUsage: tubrambutan merge --env <E> <FILE>...\n\n\
+         For more information, try '--help'.\n",
+    ),
+    (
+        &["version"],
+        "refused code 61\nerror: the following required arguments were not provided:\n  \
+         <TEXT>\n\nUsage: tubrambutan version <TEXT>\n\n\
+         For more information, try '--help'.\n",
+    ),
+    (
+        &["version", "1", "2"],
+        "refused code 61\nerror: unexpected argument '2' found\n\n\
+         Usage: tubrambutan version <TEXT>\n\nFor more information, try '--help'.\n",
+    ),
+    (
+        &["lines"],
+        "refused code 61\nerror: the following required arguments were not provided:\n  \
+         <FILE>\n\nUsage: tubrambutan lines <FILE>\n\nFor more information, try '--help'.\n",
+    ),
+    (
+        &["lines", "a", "b"],
+        "refused code 61\nerror: unexpected argument 'b' found\n\n\
+         Usage: tubrambutan lines <FILE>\n\nFor more information, try '--help'.\n",
+    ),
+];
+
 #[test]
 fn words_that_are_refused(rt: HostRuntime) -> Result<(), Fail> {
-    // The texts are those of clap for Rust.
-    for &(words, told) in &[
-        (
-            ["table"].as_slice(),
-            "refused code 61\nerror: unrecognized subcommand 'table'\n\n\
-             Usage: tubrambutan <COMMAND>\n\nFor more information, try '--help'.\n",
-        ),
-        (
-            ["merge"].as_slice(),
-            "refused code 61\nerror: the following required arguments were not provided:\n  \
-             --env <E>\n  <FILE>...\n\nUsage: tubrambutan merge --env <E> <FILE>...\n\n\
-             For more information, try '--help'.\n",
-        ),
-        (
-            ["version"].as_slice(),
-            "refused code 61\nerror: the following required arguments were not provided:\n  \
-             <TEXT>\n\nUsage: tubrambutan version <TEXT>\n\n\
-             For more information, try '--help'.\n",
-        ),
-        (
-            ["version", "1", "2"].as_slice(),
-            "refused code 61\nerror: unexpected argument '2' found\n\n\
-             Usage: tubrambutan version <TEXT>\n\nFor more information, try '--help'.\n",
-        ),
-        (
-            ["lines"].as_slice(),
-            "refused code 61\nerror: the following required arguments were not provided:\n  \
-             <FILE>\n\nUsage: tubrambutan lines <FILE>\n\nFor more information, try '--help'.\n",
-        ),
-        (
-            ["lines", "a", "b"].as_slice(),
-            "refused code 61\nerror: unexpected argument 'b' found\n\n\
-             Usage: tubrambutan lines <FILE>\n\nFor more information, try '--help'.\n",
-        ),
-    ] {
+    for &(words, told) in &REFUSED_WORDS {
         let it = ran(&rt, words)?;
         assert_eq!(rt; it.told.as_str(), told);
         assert_eq!(rt; (it.status, it.printed.as_str(), it.reads), (2, "", 0));
     }
+    Ok(())
+}
+
+#[test]
+fn words_that_are_told_with_usage(rt: HostRuntime) -> Result<(), Fail> {
     for &word in &["--help", "help", "--", "-x", "", "--version"] {
         let it = ran(&rt, &[word])?;
         assert!(rt;
@@ -326,15 +336,20 @@ const FILES: [(&str, &str); 12] = [
 // Words, what is printed for them over the files, and the exit status.
 type PrintedRow<'a> = (&'a [&'a str], &'a str, u8);
 
-// Runs the program with these words over the files.
-fn ran_over_files(alloc: Global, words: &[&str]) -> Result<Outcome, Fail> {
+/// Runs the program with these words over the files of the folder, and over an input that it would
+/// refuse.
+pub(crate) fn ran_in<D: Folder>(
+    alloc: Global,
+    folder: &D,
+    words: &[&str],
+) -> Result<Outcome, Fail> {
     let words = owned(alloc, words)?;
     let mut input = Bytes::new(b"-");
     let mut printed = Vec::new(alloc);
     let mut told = Vec::new(alloc);
     let status = run_in(
         alloc,
-        &Files(&FILES),
+        folder,
         words.as_slice(),
         &mut input,
         &mut Counted::new(&mut printed),
@@ -351,7 +366,7 @@ fn ran_over_files(alloc: Global, words: &[&str]) -> Result<Outcome, Fail> {
 // Asserts what each row prints, and that nothing is told and the input isn't read.
 fn expect_printed(rt: &(impl Abort + AllocGlobal), rows: &[PrintedRow]) -> Result<(), Fail> {
     for &(words, printed, status) in rows {
-        let it = ran_over_files(rt.alloc(), words)?;
+        let it = ran_in(rt.alloc(), &Files(&FILES), words)?;
         assert_eq!(rt; it.printed.as_str(), printed);
         assert_eq!(rt; (it.status, it.told.as_str(), it.reads), (status, "", 0));
     }
@@ -434,8 +449,6 @@ fn merges_and_checks_of_files(rt: HostRuntime) -> Result<(), Fail> {
 }
 
 // Words, and the line of the fault that they meet over the files.
-type RefusedRow<'a> = (&'a [&'a str], &'a str);
-
 const REFUSED: [RefusedRow; 13] = [
     (
         &["merge", "--env", "gone", "low"],
@@ -492,7 +505,7 @@ const REFUSED: [RefusedRow; 13] = [
 #[test]
 fn merges_and_checks_that_are_refused(rt: HostRuntime) -> Result<(), Fail> {
     for &(words, line) in &REFUSED {
-        let it = ran_over_files(rt.alloc(), words)?;
+        let it = ran_in(rt.alloc(), &Files(&FILES), words)?;
         assert_eq!(rt; it.told.as_str(), line);
         assert_eq!(rt; (it.status, it.printed.as_str(), it.reads), (2, "", 0));
     }
@@ -510,11 +523,11 @@ fn a_merge_of_many_files(rt: HostRuntime) -> Result<(), Fail> {
     for _ in 0..200 {
         words.extend_from_slice(&["low", "demo.toml", "high"])?;
     }
-    let it = ran_over_files(rt.alloc(), words.as_slice())?;
+    let it = ran_in(rt.alloc(), &Files(&FILES), words.as_slice())?;
     assert_eq!(rt; it.printed.as_str(), THREE);
     assert_eq!(rt; (it.status, it.told.as_str(), it.reads), (0, "", 0));
     words.extend_from_slice(&["bad", "gone"])?;
-    let it = ran_over_files(rt.alloc(), words.as_slice())?;
+    let it = ran_in(rt.alloc(), &Files(&FILES), words.as_slice())?;
     assert_eq!(rt; it.told.as_str(), "refused input 602 code 58\n");
     Ok(())
 }

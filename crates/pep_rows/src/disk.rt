@@ -3,14 +3,15 @@
 use crate::commands::{Outcome, ran_with};
 use crate::demands::CONFLICT;
 use crate::files::temporary;
+use crate::limits::{Pieces, list};
 use crate::projects::{DEMO, DEMO_EXTRA_TABLE, DEMO_TABLE};
 use std::fs;
 use std::path::PathBuf;
 use std::process::Abort;
 use std::test::Fail;
 
-// CPython 3.9.18 on Linux and x86-64.
-const MACHINE: &str = "os_name = \"posix\"\nsys_platform = \"linux\"\n\
+/// CPython 3.9.18 on Linux and x86-64.
+pub(crate) const MACHINE: &str = "os_name = \"posix\"\nsys_platform = \"linux\"\n\
     platform_machine = \"x86_64\"\nplatform_python_implementation = \"CPython\"\n\
     platform_release = \"6.1.0-18-amd64\"\nplatform_system = \"Linux\"\n\
     platform_version = \"#1 SMP\"\npython_version = \"3.9\"\npython_full_version = \"3.9.18\"\n\
@@ -364,6 +365,23 @@ fn merges_of_several_files(rt: HostRuntime) -> Result<(), Fail> {
         let status = if told.is_empty() { 0 } else { 2 };
         is_told(&rt, &it, printed, told, status);
     }
+    fs::remove_dir_all(&rt, folder.as_path())?;
+    Ok(())
+}
+
+#[test]
+fn files_over_the_limit(rt: HostRuntime) -> Result<(), Fail> {
+    let folder = with_machine(&rt, "limit")?;
+    let part = list(rt.alloc(), &[(b"#", 65535), (b"\n", 1)])?;
+    let pieces: Pieces = &[(part.as_slice(), 256), (b"\n", 1)];
+    let large = list(rt.alloc(), pieces)?;
+    for &name in &["large.txt", "large.toml"] {
+        write_file(&rt, &folder, name, large.as_slice())?;
+        let it = merged(&rt, &folder, "machine.toml", &[name])?;
+        is_told(&rt, &it, "", "refused input 1 code 56\n", 2);
+    }
+    let it = merged(&rt, &folder, "large.toml", &["large.txt"])?;
+    is_told(&rt, &it, "", "refused environment code 56\n", 2);
     fs::remove_dir_all(&rt, folder.as_path())?;
     Ok(())
 }

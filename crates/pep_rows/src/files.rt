@@ -1,40 +1,18 @@
 //! `lines FILE`: what the program prints for files, and how it refuses them.
 
-use crate::commands::Outcome;
+use crate::commands::{Outcome, ran_in, ran_over};
+use crate::disk::MACHINE;
 use crate::streams::{NEVER, Reader};
-use pep_tool::{Bytes, Counted, Disk, Folder, OpenFault, Source, run, run_in};
+use pep_tool::{Bytes, Disk, Folder, OpenFault};
 use std::alloc::Global;
 use std::path::PathBuf;
 use std::process::Abort;
 use std::test::Fail;
 use std::{env, fs, process};
 
-// Bytes that a list may not have, which nothing but standard input gives.
-const INPUT: &[u8] = b"-";
-
 // Runs the program with `lines` and this path, over the files of the folder.
 fn ran<D: Folder>(alloc: Global, folder: &D, path: &str) -> Result<Outcome, Fail> {
-    let words = [
-        String::from_str(alloc, "lines")?,
-        String::from_str(alloc, path)?,
-    ];
-    let mut input = Bytes::new(INPUT);
-    let mut printed = Vec::new(alloc);
-    let mut told = Vec::new(alloc);
-    let status = run_in(
-        alloc,
-        folder,
-        &words,
-        &mut input,
-        &mut Counted::new(&mut printed),
-        &mut Counted::new(&mut told),
-    );
-    Ok(Outcome {
-        status,
-        printed: String::from_utf8(printed)?,
-        told: String::from_utf8(told)?,
-        reads: input.calls(),
-    })
+    ran_in(alloc, folder, &["lines", path])
 }
 
 // A folder of one file, whose bytes it tells.
@@ -167,8 +145,8 @@ fn lists_at_the_limit(rt: HostRuntime) -> Result<(), Fail> {
     Ok(())
 }
 
-// A folder whose one file comes a few bytes at a time and fails at a call; its files tell their
-// paths. Opening `memory` wants memory, and no other file is there.
+// A folder whose files come a few bytes at a time and tell their paths. `r` fails at a call, opening
+// `memory` wants memory, and only two other files are there.
 #[derive(Drop)]
 struct Failing {
     fails_at: u64,
@@ -189,6 +167,8 @@ impl Folder for Failing {
     fn open(&self, path: &str) -> Result<Reader<'static>, OpenFault> {
         match path {
             "r" => Ok(Reader::named("r", b"-e .\na>=1\n", self.fails_at)),
+            "bad" => Ok(Reader::named("bad", b"a>=\n", NEVER)),
+            "machine.toml" => Ok(Reader::named("machine.toml", MACHINE.as_bytes(), NEVER)),
             "memory" => Err(OpenFault::NoMemory),
             _ => Err(OpenFault::CannotOpen),
         }
@@ -209,6 +189,28 @@ fn files_that_fail(rt: HostRuntime) -> Result<(), Fail> {
         let it = ran(rt.alloc(), &Failing { fails_at }, path)?;
         is_refused(&rt, &it, line);
     }
+    Ok(())
+}
+
+#[test]
+fn merges_of_files_that_fail(rt: HostRuntime) -> Result<(), Fail> {
+    // All files are read before the first is judged.
+    for &(first, second, fails_at, line) in &[
+        ("r", "bad", 1, "refused input 1 code 58\n"),
+        ("r", "bad", 2, "refused input 1 code 58\n"),
+        ("r", "q", 2, "refused input 1 code 58\n"),
+        ("bad", "r", 2, "refused input 2 code 58\n"),
+        ("bad", "r", 3, "refused input 2 code 58\n"),
+        ("bad", "r", 4, "refused input 1 line 1 code 57 33 12\n"),
+        ("bad", "memory", NEVER, "refused code 60\n"),
+    ] {
+        let words = ["merge", "--env", "machine.toml", first, second];
+        let it = ran_in(rt.alloc(), &Failing { fails_at }, &words)?;
+        is_refused(&rt, &it, line);
+    }
+    let words = ["merge", "--env", "r", "q"];
+    let it = ran_in(rt.alloc(), &Failing { fails_at: 2 }, &words)?;
+    is_refused(&rt, &it, "refused environment code 58\n");
     Ok(())
 }
 
@@ -250,21 +252,9 @@ fn a_run_over_the_disk(rt: HostRuntime) -> Result<(), Fail> {
     let folder = temporary(&rt, "run")?;
     let file = folder.join(rt.alloc(), "list")?;
     fs::write(&rt, file.as_path(), b"A >= 1".as_slice())?;
-    let words = [
-        String::from_str(rt.alloc(), "lines")?,
-        String::from_str(rt.alloc(), file.as_str())?,
-    ];
-    let mut printed = Vec::new(rt.alloc());
-    let mut told = Vec::new(rt.alloc());
-    let status = run(
-        &rt,
-        &words,
-        &mut Bytes::new(INPUT),
-        &mut Counted::new(&mut printed),
-        &mut Counted::new(&mut told),
-    );
+    let it = ran_over(&rt, &["lines", file.as_str()], b"-")?;
     fs::remove_dir_all(&rt, folder.as_path())?;
-    assert_eq!(rt; printed.as_slice(), b"a>=1\n".as_slice());
-    assert_eq!(rt; (status, told.as_slice()), (0, b"".as_slice()));
+    assert_eq!(rt; it.printed.as_str(), "a>=1\n");
+    assert_eq!(rt; (it.status, it.told.as_str(), it.reads), (0, "", 0));
     Ok(())
 }

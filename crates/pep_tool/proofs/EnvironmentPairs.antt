@@ -12,7 +12,7 @@ use Rattle.pep_tool.specs.EnvironmentFile.{pairs_of, with_pair}
 abbrev pub PairsSoFar : Members → Members → List Pair → Type 0
 PairsSoFar all rest done = option_map (λ pairs. done ++ pairs) (pairs_of rest) ≡ pairs_of all
 
-pub pair_more : (all more : Members) (key x : List ℕ) (d : Data) (done : List Pair) →
+pair_more : (all more : Members) (key x : List ℕ) (d : Data) (done : List Pair) →
     PairsSoFar all (member key d more) done → as_str d ≡ Some x →
     PairsSoFar all more (done ++ (key, x) ∷ [])
 pair_more all more key x d done s e = sym (rw e (by (pairs_of more))) ∙ s

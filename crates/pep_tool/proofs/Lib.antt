@@ -5,7 +5,7 @@ pub mod DefinedMarkers
 pub mod Placed
 pub mod ReadTexts
 pub mod Projects
-pub mod ProjectGroups
+pub mod ProjectExtras
 pub mod ProjectTexts
 pub mod EnvironmentPairs
 pub mod Refusals

@@ -6,7 +6,7 @@ use Rattle.pep_tool.specs.declared.fault.Fault.{Fault}
 use Rattle.pep_tool.specs.declared.fault.Place.{Place}
 use Rattle.pep_tool.specs.Refusal.{no_memory}
 
-pub memory_or_other : (c : Cause) → (c ≡ cause.NoMemory) ⊎ (c ≢ cause.NoMemory)
+memory_or_other : (c : Cause) → (c ≡ cause.NoMemory) ⊎ (c ≢ cause.NoMemory)
 memory_or_other cause.NoMemory = inl refl
 memory_or_other cause.NotUtf8 = inr (λ e. cc e)
 memory_or_other cause.NotToml = inr (λ e. cc e)

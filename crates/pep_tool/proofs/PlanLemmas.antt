@@ -33,11 +33,11 @@ use Rattle.pep_tool.specs.Plan.{request, request_of}
 abbrev pub IsLocal : Command → App → Type 0
 IsLocal c app = (app_of c ≡ app) × ((out-Command c).has_globals ≡ false)
 
-pub program_simple : is_simple_and_free program ≡ true
+program_simple : is_simple_and_free program ≡ true
 unfolding clap_on_literals
 program_simple = refl
 
-pub program_exact : is_simple program ≡ true
+program_exact : is_simple program ≡ true
 unfolding clap_on_literals
 program_exact = refl
 
@@ -83,31 +83,31 @@ flag_met E f flag given none some =
 
 -- ---- what clap answers
 
-pub asks-met : (words : List Text) (r : Request) → 0 < length words → fault_of program words ≡ []
+asks-met : (words : List Text) (r : Request) → 0 < length words → fault_of program words ≡ []
     → option_and_then request_of (subcommand_of program words) ≡ Some r → Asks words r
 asks-met [] r some none met = absurd (omega arith)
 asks-met (word ∷ rest) r some none met = (none, met)
 
-pub none-met : (words : List Text) → 0 < length words →
+none-met : (words : List Text) → 0 < length words →
     option_and_then request_of (subcommand_of program words) ≡ None
     → AskNothing words
 none-met [] some none = absurd (omega arith)
 none-met (word ∷ rest) some none = λ r h. cc (none, h.1)
 
-pub none-taken : (words : List Text) → 0 < length words → fault_of program words ≢ [] →
+none-taken : (words : List Text) → 0 < length words → fault_of program words ≢ [] →
     AskNothing words
 none-taken [] some fault = absurd (omega arith)
 none-taken (word ∷ rest) some fault = λ r h. fault h.0
 
 -- an error that isn't want of memory has a kind
-pub kinds-error : (kinds : Kinds) (e : Error) → HasKind kinds e → kind_of e ≢ OutOfMemory →
+kinds-error : (kinds : Kinds) (e : Error) → HasKind kinds e → kind_of e ≢ OutOfMemory →
     kinds ≢ []
 kinds-error kinds e (inl memory) other = λ _. other memory
 kinds-error [] e (inr among) other = λ _. among
 kinds-error (k ∷ ks) e (inr among) other = λ same. cc same
 
 -- the command that was met in the words is what they ask for, or they ask for nothing
-pub asks-command : (a : App) (words : List Text) (m : ArgMatches) (r : Request) → a ≡ program →
+asks-command : (a : App) (words : List Text) (m : ArgMatches) (r : Request) → a ≡ program →
     0 < length words
     → (is_simple_and_free a ≡ true → fault_of a words ≡ []) → HasMatchesOf a words m
     → option_and_then request_of (subcommand_rows_of m) ≡ Some r → Asks words r
@@ -118,7 +118,7 @@ asks-command a words m r same some none matches met =
     (ap (option_and_then request_of) (ap (λ (b : App). subcommand_of b words) (sym same)
     ∙ sym (matches exact).1) ∙ met)
 
-pub none-command : (a : App) (words : List Text) (m : ArgMatches) → a ≡ program → 0 < length words →
+none-command : (a : App) (words : List Text) (m : ArgMatches) → a ≡ program → 0 < length words →
     HasMatchesOf a words m
     → option_and_then request_of (subcommand_rows_of m) ≡ None → AskNothing words
 none-command a words m same some matches met =

@@ -14,9 +14,9 @@ use Rattle.pep_tool.specs.declared.fault.LineFault.TheVariants as line_fault
 use Rattle.toml.specs.Data.{Data, Members, as_table, get_member}
 use Rattle.pep_marker.specs.Name.{normalized}
 use Rattle.pep_tool.specs.Document.{document_of, required, texts_at}
-use Rattle.pep_tool.specs.Project.{checks_dynamic, groups_at, groups_of, has_text, project_file}
+use Rattle.pep_tool.specs.Project.{checks_dynamic, extras_at, extras_of, has_text, project_file}
 use Rattle.pep_tool.specs.Project.{project_texts}
-use Rattle.pep_tool.specs.ProjectGroups.{HasGroupTexts}
+use Rattle.pep_tool.specs.ProjectExtras.{HasExtraTexts}
 use Rattle.pep_tool.specs.Refusal.{IsRefusedProject, IsRefusedText, by_text}
 use Rattle.pep_tool.specs.Texts.{lent_texts}
 use Rattle.pep_tool.proofs.ListLemmas.{known}
@@ -74,54 +74,54 @@ module _ (extra : List ℕ) (document : Members) (d : Data)
         texts_at (codes "dependencies") project ≡ Err c → project_texts extra document ≡ Err c
     no_dependencies c static e = rw (found, table, static, e) refl
 
-    pub bad_groups : (c : Cause) (xs : List (List ℕ)) → checks_dynamic extra project ≡ Ok tt →
+    pub bad_extras : (c : Cause) (xs : List (List ℕ)) → checks_dynamic extra project ≡ Ok tt →
         texts_at (codes "dependencies") project ≡ Ok xs →
-        groups_at (codes "optional-dependencies") project ≡ Err c →
+        extras_at (codes "optional-dependencies") project ≡ Err c →
         project_texts extra document ≡ Err c
-    bad_groups c xs static texts e = rw (found, table, static, texts, e) refl
+    bad_extras c xs static texts e = rw (found, table, static, texts, e) refl
 
     pub project_whole : (xs ys : List (List ℕ)) → checks_dynamic extra project ≡ Ok tt →
         texts_at (codes "dependencies") project ≡ Ok xs →
-        HasGroupTexts (groups_at (codes "optional-dependencies") project) (normalized extra) ys →
+        HasExtraTexts (extras_at (codes "optional-dependencies") project) (normalized extra) ys →
         project_texts extra document ≡ Ok (xs ++ ys)
     project_whole xs ys static texts h = rw (found, table, static, texts, h.1, h.2) refl
 
--- ---- the groups at a key
+-- ---- the extras at a key
 
-pub groups_missing : (key : List ℕ) (ms : Members) (wanted : List ℕ)
+pub extras_missing : (key : List ℕ) (ms : Members) (wanted : List ℕ)
     (texts : List (Bor (List ℕ))) → get_member key ms ≡ None → texts ≡ [] →
-    HasGroupTexts (groups_at key ms) wanted (lent_texts texts)
-groups_missing key ms wanted texts e none = ([], rw e refl, rw none refl)
+    HasExtraTexts (extras_at key ms) wanted (lent_texts texts)
+extras_missing key ms wanted texts e none = ([], rw e refl, rw none refl)
 
-pub groups_no_table : (key : List ℕ) (ms : Members) (d : Data) → get_member key ms ≡ Some d →
-    as_table d ≡ None → groups_at key ms ≡ Err cause.WrongShape
-groups_no_table key ms d found e = rw (found, e) refl
+pub extras_no_table : (key : List ℕ) (ms : Members) (d : Data) → get_member key ms ≡ Some d →
+    as_table d ≡ None → extras_at key ms ≡ Err cause.WrongShape
+extras_no_table key ms d found e = rw (found, e) refl
 
-groups_table : (key : List ℕ) (ms groups : Members) (d : Data) → get_member key ms ≡ Some d →
-    as_table d ≡ Some groups → groups_at key ms ≡ required cause.WrongShape (groups_of groups)
-groups_table key ms groups d found e = rw (found, e) refl
+extras_table : (key : List ℕ) (ms extras : Members) (d : Data) → get_member key ms ≡ Some d →
+    as_table d ≡ Some extras → extras_at key ms ≡ required cause.WrongShape (extras_of extras)
+extras_table key ms extras d found e = rw (found, e) refl
 
-pub groups_ok : (key : List ℕ) (ms groups : Members) (d : Data) (wanted given : List ℕ)
+pub extras_ok : (key : List ℕ) (ms extras : Members) (d : Data) (wanted given : List ℕ)
     (r : Result (Vec (Bor (List ℕ)) Global) Cause) → get_member key ms ≡ Some d →
-    as_table d ≡ Some groups → given ≡ wanted →
-    IfOk r (λ texts. HasGroupTexts (required cause.WrongShape (groups_of groups)) given
+    as_table d ≡ Some extras → given ≡ wanted →
+    IfOk r (λ texts. HasExtraTexts (required cause.WrongShape (extras_of extras)) given
     (lent_texts texts.items)) →
-    IfOk r (λ texts. HasGroupTexts (groups_at key ms) wanted (lent_texts texts.items))
-groups_ok key ms groups d wanted given (Ok texts) found e same h =
-    subst (λ w. HasGroupTexts (groups_at key ms) w (lent_texts texts.items)) same
-    (subst (λ g. HasGroupTexts g given (lent_texts texts.items))
-    (sym (groups_table key ms groups d found e)) h)
-groups_ok key ms groups d wanted given (Err c) found e same h = tt
+    IfOk r (λ texts. HasExtraTexts (extras_at key ms) wanted (lent_texts texts.items))
+extras_ok key ms extras d wanted given (Ok texts) found e same h =
+    subst (λ w. HasExtraTexts (extras_at key ms) w (lent_texts texts.items)) same
+    (subst (λ g. HasExtraTexts g given (lent_texts texts.items))
+    (sym (extras_table key ms extras d found e)) h)
+extras_ok key ms extras d wanted given (Err c) found e same h = tt
 
-pub groups_refused : (key : List ℕ) (ms groups : Members) (d : Data)
+pub extras_refused : (key : List ℕ) (ms extras : Members) (d : Data)
     (r : Result (Vec (Bor (List ℕ)) Global) Cause) → get_member key ms ≡ Some d →
-    as_table d ≡ Some groups →
-    IfErr r (λ c. (c ≡ cause.NoMemory) ⊎ ((c ≡ cause.WrongShape) × (groups_of groups ≡ None))) →
-    IfErr r (λ c. (c ≡ cause.NoMemory) ⊎ (groups_at key ms ≡ Err c))
-groups_refused key ms groups d (Ok texts) found e h = tt
-groups_refused key ms groups d (Err c) found e (inl memory) = inl memory
-groups_refused key ms groups d (Err c) found e (inr h) =
-    inr (groups_table key ms groups d found e ∙ rw (h.1, h.0) refl)
+    as_table d ≡ Some extras →
+    IfErr r (λ c. (c ≡ cause.NoMemory) ⊎ ((c ≡ cause.WrongShape) × (extras_of extras ≡ None))) →
+    IfErr r (λ c. (c ≡ cause.NoMemory) ⊎ (extras_at key ms ≡ Err c))
+extras_refused key ms extras d (Ok texts) found e h = tt
+extras_refused key ms extras d (Err c) found e (inl memory) = inl memory
+extras_refused key ms extras d (Err c) found e (inr h) =
+    inr (extras_table key ms extras d found e ∙ rw (h.1, h.0) refl)
 
 -- ---- refusals one after the other
 

@@ -2,7 +2,7 @@ pub mod Limits
 pub mod Texts
 pub mod Document
 pub mod Project
-pub mod ProjectGroups
+pub mod ProjectExtras
 pub mod EnvironmentFile
 pub mod Lists
 pub mod Gathered

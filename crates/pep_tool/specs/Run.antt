@@ -9,7 +9,7 @@ use Rattle.pep_tool.specs.Device.{Device}
 use Rattle.pep_tool.specs.FaultLine.{fault_line}
 use Rattle.pep_tool.specs.Folder.{KnownFile}
 use Rattle.pep_tool.specs.Plan.{AskNothing, Asks, IsBadWords, Request}
-pub use Rattle.pep_tool.specs.Refusal.{no_memory}
+use Rattle.pep_tool.specs.Refusal.{no_memory}
 use Rattle.pep_tool.specs.RunAnswers.{Answers, RefusesRequest}
 
 -- writing the answer failed

@@ -21,7 +21,7 @@ ghost use Rattle.pep_require.specs.RequirementText.{requirement_text};
 ghost use Rattle.pep_require.specs.View.{requirement_parts};
 ghost use Rattle.pep_tool.specs.ListedText.{listed_text};
 ghost use Rattle.pep_tool.specs.Lists.{IsRequirementList, input_limit};
-ghost use Rattle.pep_tool.specs.Refusal.{IsRefusedList};
+ghost use Rattle.pep_tool.specs.Refusal.{IsRefusedList, no_memory};
 ghost use Rattle.pep_tool.specs.LineReading.{
   IsReadOf,
   RefusesLineBytes,
@@ -29,7 +29,6 @@ ghost use Rattle.pep_tool.specs.LineReading.{
   TakesLine,
   some_parts,
 };
-ghost use Rattle.pep_tool.specs.Run.{no_memory};
 
 use crate::fault::{Cause, Fault, LineFault, Place, fault_in};
 use crate::list::{INPUT_LIMIT, LINE_LIMIT, content, cut_off, is_skipped, line_cause};

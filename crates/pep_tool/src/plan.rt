@@ -83,6 +83,7 @@ pub fn plan_of(alloc: Global, words: &[String]) -> Result<Plan, Fault>
         return Ok(Plan::Standard);
     }
     match program(alloc)?.try_get_matches_from(words) {
+        // Matches of no command ask for nothing; clap has no text for them.
         Ok(matches) => plan_met(alloc, &matches)?.ok_or(refused(String::new(alloc))),
         Err(error) => Err(words_fault(alloc, &error)),
     }

@@ -22,14 +22,14 @@ ghost use Rattle.pep_require.specs.View.{requirement_parts};
 ghost use Rattle.pep_tool.specs.Lists.{IsProjectOf};
 ghost use Rattle.pep_tool.specs.Project.{
   checks_dynamic,
-  group_at,
-  groups_at,
-  groups_of,
+  extra_at,
+  extras_at,
+  extras_of,
   has_text,
   project_texts,
 };
 ghost use Rattle.pep_tool.specs.Document.{required};
-ghost use Rattle.pep_tool.specs.ProjectGroups.{HasGroupTexts};
+ghost use Rattle.pep_tool.specs.ProjectExtras.{HasExtraTexts};
 ghost use Rattle.pep_tool.specs.Refusal.{IsRefusedProject, IsRefusedText, no_memory};
 ghost use Rattle.pep_tool.specs.Texts.{lent_texts};
 
@@ -149,37 +149,37 @@ fn has_text(texts: &[&str], wanted: &str) -> bool
 
 // The texts of the extra's array in `optional-dependencies`, all of which is checked.
 fn extra_texts<'a>(alloc: Global, project: &'a Table, extra: &str) -> Result<Vec<&'a str>, Cause>
-    ensures ok { IfOk result (λ texts. HasGroupTexts
-        (groups_at (codes "optional-dependencies") (table_view project.now)) (normalized extra.now)
+    ensures ok { IfOk result (λ texts. HasExtraTexts
+        (extras_at (codes "optional-dependencies") (table_view project.now)) (normalized extra.now)
         (lent_texts texts.items)) }
     ensures refused { IfErr result (λ cause. (cause ≡ Cause.NoMemory)
-        ⊎ (groups_at (codes "optional-dependencies") (table_view project.now) ≡ Err cause)) }
+        ⊎ (extras_at (codes "optional-dependencies") (table_view project.now) ≡ Err cause)) }
 {
     let Some(found) = project.get("optional-dependencies") else {
         return Ok(Vec::new(alloc));
     };
-    let Some(groups) = found.as_table() else {
+    let Some(extras) = found.as_table() else {
         return Err(Cause::WrongShape);
     };
     let Ok(wanted) = norm_of(alloc, extra) else {
         return Err(Cause::NoMemory);
     };
-    group_texts(alloc, groups, wanted.as_str())
+    wanted_texts(alloc, extras, wanted.as_str())
 }
 
 // The texts of the array whose normalized key is the wanted one, and none where there is no such
 // key.
-fn group_texts<'a>(alloc: Global, groups: &'a Table, wanted: &str) -> Result<Vec<&'a str>, Cause>
-    ensures ok { IfOk result (λ texts. HasGroupTexts
-        (required Cause.WrongShape (groups_of (table_view groups.now))) wanted.now
+fn wanted_texts<'a>(alloc: Global, extras: &'a Table, wanted: &str) -> Result<Vec<&'a str>, Cause>
+    ensures ok { IfOk result (λ texts. HasExtraTexts
+        (required Cause.WrongShape (extras_of (table_view extras.now))) wanted.now
         (lent_texts texts.items)) }
     ensures refused { IfErr result (λ cause. (cause ≡ Cause.NoMemory)
-        ⊎ ((cause ≡ Cause.WrongShape) × (groups_of (table_view groups.now) ≡ None))) }
+        ⊎ ((cause ≡ Cause.WrongShape) × (extras_of (table_view extras.now) ≡ None))) }
 {
     let mut names = BTreeSet::new(alloc);
     let mut found = Vec::new(alloc);
-    for (key, value) in groups.iter() {
-        let name = group_name(alloc, key)?;
+    for (key, value) in extras.iter() {
+        let name = extra_name(alloc, key)?;
         let is_wanted = name.text() == wanted;
         if !names.insert(name)? {
             return Err(Cause::WrongShape);
@@ -193,7 +193,7 @@ fn group_texts<'a>(alloc: Global, groups: &'a Table, wanted: &str) -> Result<Vec
 }
 
 // The name that a key is.
-fn group_name(alloc: Global, key: &str) -> Result<Name, Cause>
+fn extra_name(alloc: Global, key: &str) -> Result<Name, Cause>
     ensures ok { IfOk result (λ name. name_of key.now ≡ Some name) }
     ensures refused { IfErr result (λ cause. (cause ≡ Cause.NoMemory)
         ⊎ ((cause ≡ Cause.WrongShape) × (name_of key.now ≡ None))) }

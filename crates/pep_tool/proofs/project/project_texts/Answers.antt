@@ -7,7 +7,7 @@ use Rattle.toml.specs.Data.{as_table}
 use Rattle.toml.specs.View.{table_view, view}
 use Rattle.pep_tool.specs.Texts.{lent_texts}
 use Rattle.pep_tool.proofs.Documents.{at_key, at_no_key}
-use Rattle.pep_tool.proofs.ProjectTexts.{bad_groups, no_dependencies, or_then, project_dynamic}
+use Rattle.pep_tool.proofs.ProjectTexts.{bad_extras, no_dependencies, or_then, project_dynamic}
 use Rattle.pep_tool.proofs.ProjectTexts.{project_missing, project_no_table, project_whole}
 use Rattle.pep_tool.proofs.project.project_texts.Goals as goal
 
@@ -66,7 +66,7 @@ returns-in_err-optional-clause-refused c =
     let p =
     err_from_is_err_and c.from_residual-in_err-optional.result
     c.from_residual-in_err-optional.ensures.1 in
-    rw (p.1, p.2) (or_then (bad_groups c.args.extra.now ms (view c.in-Some.found.now)
+    rw (p.1, p.2) (or_then (bad_extras c.args.extra.now ms (view c.in-Some.found.now)
     (at_key key ms c.get.result c.in-Some.found c.in-Some.is found)
     (table_view c.in-Some-as_table.project.now) table c.in_err-optional.field-0.0
     (lent_texts c.in_ok-texts.texts.items) c.in_ok-check_dynamic.ensures.ok
