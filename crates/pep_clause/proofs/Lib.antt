@@ -26,3 +26,5 @@ pub mod OneAnswer
 pub mod ReadLemmas
 pub mod Written
 pub mod WrittenLemmas
+pub mod CutReading
+pub mod IncreasingRanges

@@ -1,5 +1,6 @@
 // Cuts: places in the order of versions.
 
+mod read;
 mod text;
 
 ghost use Rattle.std.specs.Prelude.{
@@ -182,8 +183,8 @@ impl Cut {
         Ok(Cut { form })
     }
 
-    // How the cuts stand: by their places, and where these tie by their kinds.
-    fn order_to(&self, other: &Cut) -> Ordering
+    /// How the cuts stand: by their places, and where these tie by their kinds.
+    pub(crate) fn order_to(&self, other: &Cut) -> Ordering
         ensures order { result ≡ cut_cmp self.now other.now }
         ensures spelled { IsCut self.now }
         ensures other_spelled { IsCut other.now }

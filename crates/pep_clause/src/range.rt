@@ -1,6 +1,6 @@
 // Ranges between cuts.
 
-ghost use Rattle.std.specs.Prelude.{◌≡◌, ◌&&◌, not, option_to_list, IfErr, IfOk};
+ghost use Rattle.std.specs.Prelude.{◌≡◌, ◌&&◌, ◌↔◌, not, option_to_list, IfErr, IfOk, IfSome, IsSome};
 ghost use Rattle.std.specs.Cmp.{partial_equiv_from_equiv};
 ghost use Rattle.std.specs.declared.cmp.Ordering.TheVariants.{Less};
 ghost use Rattle.pep_clause.specs.Joined.{earlier, later, range_joined, is_within};
@@ -12,6 +12,7 @@ use crate::cut::Cut;
 use crate::fault::ClauseFault;
 use pep_version::Key;
 use std::alloc::Global;
+use std::cmp::Ordering;
 use std::marker::Model;
 
 /// What lies under the high cut and not under the low one; the low cut is below the high one.
@@ -47,13 +48,14 @@ fn earlier<'a>(a: &'a Cut, b: &'a Cut) -> &'a Cut
 }
 
 impl Range {
-    /// The range between two cuts, or none where they are not in order.
-    pub(crate) fn between(low: Cut, high: Cut) -> Option<Range>
-        requires low { IsCut low }
-        requires high { IsCut high }
-        ensures { option_to_list result ≡ range low high }
+    /// The range between two cuts, which are kept as they are, or none where the first is not below
+    /// the second.
+    pub fn of(low: Cut, high: Cut) -> Option<Range>
+        ensures cuts { IfSome result (λ r. (r.low ≡ low) × (r.high ≡ high)) }
+        ensures in_order { IsSome result ↔ (cut_cmp low high ≡ Less) }
+        ensures range { option_to_list result ≡ range low high }
     {
-        if low >= high {
+        if low.order_to(&high) != Ordering::Less {
             return None;
         }
         Some(Range { low, high })

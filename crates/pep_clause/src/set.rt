@@ -6,15 +6,20 @@ ghost use Rattle.std.specs.Prelude.{
   ◌↔◌,
   ◌++◌,
   ◌-◌,
+  ◌∷◌,
   [],
   IfErr,
   IfOk,
+  IfSome,
   IsSome,
   IsTrue,
   None,
   OnErr,
   OnOk,
+  option_map,
+  option_to_list,
 };
+ghost use Rattle.std.specs.List.{AllByRecursion};
 ghost use Rattle.std.specs.Cmp.{partial_equiv_from_equiv};
 ghost use Rattle.std.specs.declared.cmp.Ordering.TheVariants.{Less};
 ghost use Rattle.pep_version.specs.Version.{IsVersion, Version};
@@ -28,7 +33,8 @@ ghost use Rattle.pep_clause.specs.Inhabited.{HasVersionUnlessEmpty};
 ghost use Rattle.pep_clause.specs.Joined.{all_within, are_within, joined, row_joined};
 ghost use Rattle.pep_clause.specs.OperatorTable.{outside, range, set_of};
 ghost use Rattle.pep_clause.specs.SetEquality.{SameVersions, same_ranges, same_ranges-equiv};
-ghost use Rattle.pep_clause.specs.VersionSet.{In, IsNormal, all_versions, is_in, is_point};
+ghost use Rattle.pep_clause.specs.VersionSet.{In, IsIncreasing, IsNormal, all_versions, cuts, is_in};
+ghost use Rattle.pep_clause.specs.VersionSet.{is_point};
 
 use crate::clause::{Clause, ClauseForm};
 use crate::cut::Cut;
@@ -56,14 +62,38 @@ impl Model for VersionSet {
     ghost invariant = { λ a. IsNormal a.ranges.items };
 }
 
+// Whether the cut lies above the end of the ranges before it, if there are any.
+fn is_behind(end: Option<&Cut>, low: &Cut) -> bool
+    ensures { IsTrue result ↔ IsIncreasing (option_to_list (option_map (λ c. c.now) end.entry)
+        ++ low.now ∷ []) }
+{
+    match end {
+        Some(end) => end < low,
+        None => true,
+    }
+}
+
+// Whether each range begins above the end of the one before.
+fn are_increasing(ranges: &[Range]) -> bool
+    ensures increasing { IsTrue result ↔ IsIncreasing (cuts ranges.now) }
+    ensures spelled { IsTrue result → AllByRecursion IsCut (cuts ranges.now) }
+{
+    let mut end = None;
+    for range in ranges {
+        if !is_behind(end, range.low()) {
+            return false;
+        }
+        end = Some(range.high());
+    }
+    true
+}
+
 // The range goes to the end of the list, if its cuts are in order.
 fn push_range(done: &mut Vec<Range>, low: Cut, high: Cut) -> Result<(), ClauseFault>
-    requires low { IsCut low }
-    requires high { IsCut high }
     ensures ok { OnOk result (done.new.items ≡ done.old.items ++ range low high) }
     ensures faults { IfErr result (λ e. e ≡ ClauseFault.NoMemory) }
 {
-    if let Some(range) = Range::between(low, high) {
+    if let Some(range) = Range::of(low, high) {
         done.push(range)?;
     }
     Ok(())
@@ -138,6 +168,19 @@ impl VersionSet {
     {
         VersionSet {
             ranges: Vec::new(alloc),
+        }
+    }
+
+    /// The set of these ranges, which are kept as they are, or none where one does not begin above
+    /// the end of the one before it. Of no ranges it is the set of no version.
+    pub fn of_ranges(ranges: Vec<Range>) -> Option<VersionSet>
+        ensures ranges { IfSome result (λ s. s ≡ ranges.items) }
+        ensures in_order { IsSome result ↔ IsIncreasing (cuts ranges.items) }
+    {
+        if are_increasing(ranges.as_slice()) {
+            Some(VersionSet { ranges })
+        } else {
+            None
         }
     }
 

@@ -148,8 +148,11 @@ impl Join for Entry {
     }
 }
 
-// An equal set.
-fn versions_copied(alloc: Global, versions: &VersionSet) -> Result<VersionSet, TableFault>
+/// An equal set.
+pub(crate) fn versions_copied(
+    alloc: Global,
+    versions: &VersionSet,
+) -> Result<VersionSet, TableFault>
     ensures same { IfOk result (λ s. s ≡ versions.now) }
     ensures faults { IfErr result (λ e. e ≡ TableFault.NoMemory) }
 {

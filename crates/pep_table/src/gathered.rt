@@ -15,7 +15,7 @@ ghost use Rattle.pep_table.specs.Join.{IsIntersection, JoinsEntries};
 ghost use Rattle.pep_table.specs.Others.{JoinsOthers, TakesOthers, kept_others, kept_versions};
 ghost use Rattle.pep_table.specs.Table.{IsValidEntry};
 
-use crate::entry::Entry;
+use crate::entry::{Entry, versions_copied};
 use crate::fault::TableFault;
 use crate::others::{Others, demands_others};
 use crate::sorted::Sorted;
@@ -54,26 +54,23 @@ fn all_versions(alloc: Global) -> Result<VersionSet, TableFault>
     }
 }
 
-// An equal set.
-fn copied(alloc: Global, versions: &VersionSet) -> Result<VersionSet, TableFault>
-    ensures same { IfOk result (λ s. s ≡ versions.now) }
-    ensures normal { IsNormal versions.now }
-    ensures faults { IfErr result (λ e. e ≡ TableFault.NoMemory) }
-{
-    // Its clause tells that the ranges are a normal list.
-    let _ = versions.ranges();
-    match versions.copied(alloc) {
-        Ok(versions) => Ok(versions),
-        Err(_) => Err(TableFault::NoMemory),
-    }
-}
-
 // Tells that what is kept is a normal list.
 fn tell_normal(versions: &Option<VersionSet>)
     ensures { IsNormal (kept_versions versions.now) }
 {
     if let Some(kept) = versions {
         let _ = kept.ranges();
+    }
+}
+
+// Keeps the versions of the set that are in the other too.
+fn keep_common(alloc: Global, kept: &mut VersionSet, others: &VersionSet) -> Result<(), TableFault>
+    ensures ok { OnOk result (IsIntersection kept.old others.now kept.new) }
+    ensures faults { IfErr result (λ e. e ≡ TableFault.NoMemory) }
+{
+    match kept.join(alloc, others) {
+        Ok(()) => Ok(()),
+        Err(_) => Err(TableFault::NoMemory),
     }
 }
 
@@ -90,14 +87,27 @@ fn narrow(
     // Its clause tells that the ranges are a normal list.
     let _ = others.ranges();
     match versions {
-        Some(kept) => match kept.join(alloc, &others) {
-            Ok(()) => Ok(()),
-            Err(_) => Err(TableFault::NoMemory),
-        },
+        Some(kept) => keep_common(alloc, kept, &others),
         None => {
             *versions = Some(others);
             Ok(())
         }
+    }
+}
+
+// The same with a set that is lent, and copied only where there is none to narrow.
+fn narrow_by(
+    alloc: Global,
+    versions: &mut Option<VersionSet>,
+    others: &VersionSet,
+) -> Result<(), TableFault>
+    ensures ok { OnOk result (IsIntersection (kept_versions versions.old) others.now
+        (kept_versions versions.new)) }
+    ensures faults { IfErr result (λ e. e ≡ TableFault.NoMemory) }
+{
+    match versions {
+        Some(kept) => keep_common(alloc, kept, others),
+        None => narrow(alloc, versions, versions_copied(alloc, others)?),
     }
 }
 
@@ -229,7 +239,7 @@ impl Gathered {
     {
         let versions = entry.versions();
         join_others(alloc, &mut self.others, entry)?;
-        narrow(alloc, &mut self.versions, copied(alloc, versions)?)
+        narrow_by(alloc, &mut self.versions, versions)
     }
 
     /// The entry.

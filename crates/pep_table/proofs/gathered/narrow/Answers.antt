@@ -4,6 +4,6 @@ use Rattle.pep_table.specs.Others.{kept_versions}
 use Rattle.pep_table.proofs.TakenClauses.{all_meets}
 use Rattle.pep_table.proofs.gathered.narrow.Goals as goal
 
-pub returns-clause-ok : goal.returns-clause-ok
-returns-clause-ok c = subst (λ v. IsIntersection v c.args.others c.args.others)
+pub returns-in-None-clause-ok : goal.returns-in-None-clause-ok
+returns-in-None-clause-ok c = subst (λ v. IsIntersection v c.args.others c.args.others)
     (sym (ap kept_versions c.in-None.is)) (all_meets c.args.others c.ranges-2.ensures.normal)
