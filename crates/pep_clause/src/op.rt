@@ -20,24 +20,16 @@ impl Op {
     pub fn at_front(text: &[u8]) -> Option<Op>
         ensures { result ≡ operator_of text.now }
     {
-        if text.starts_with(b"===") {
-            Some(Op::Exact)
-        } else if text.starts_with(b"~=") {
-            Some(Op::Compatible)
-        } else if text.starts_with(b"==") {
-            Some(Op::Equal)
-        } else if text.starts_with(b"!=") {
-            Some(Op::NotEqual)
-        } else if text.starts_with(b"<=") {
-            Some(Op::AtMost)
-        } else if text.starts_with(b">=") {
-            Some(Op::AtLeast)
-        } else if text.starts_with(b"<") {
-            Some(Op::Less)
-        } else if text.starts_with(b">") {
-            Some(Op::More)
-        } else {
-            None
+        match text {
+            [b'=', b'=', b'=', ..] => Some(Op::Exact),
+            [b'~', b'=', ..] => Some(Op::Compatible),
+            [b'=', b'=', ..] => Some(Op::Equal),
+            [b'!', b'=', ..] => Some(Op::NotEqual),
+            [b'<', b'=', ..] => Some(Op::AtMost),
+            [b'>', b'=', ..] => Some(Op::AtLeast),
+            [b'<', ..] => Some(Op::Less),
+            [b'>', ..] => Some(Op::More),
+            _ => None,
         }
     }
 

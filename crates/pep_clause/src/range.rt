@@ -48,6 +48,19 @@ fn earlier<'a>(a: &'a Cut, b: &'a Cut) -> &'a Cut
 }
 
 impl Range {
+    /// The range between two cuts that are in order.
+    pub(crate) fn between(low: Cut, high: Cut) -> Range
+        requires low { IsCut low }
+        requires high { IsCut high }
+        requires in_order { cut_cmp low high ≡ Less }
+        ensures { result ≡ (record {
+          low = low;
+          high = high;
+        }) }
+    {
+        Range { low, high }
+    }
+
     /// The range between two cuts, which are kept as they are, or none where the first is not below
     /// the second.
     pub fn of(low: Cut, high: Cut) -> Option<Range>
@@ -76,6 +89,20 @@ impl Range {
         } else {
             Ok(None)
         }
+    }
+
+    /// The same of ranges that are used up: nothing is copied.
+    pub(crate) fn common(self, other: Range) -> Option<Range>
+        ensures { option_to_list result ≡ range_joined self other }
+    {
+        let Range { low, high } = self;
+        let Range {
+            low: other_low,
+            high: other_high,
+        } = other;
+        let low = if low < other_low { other_low } else { low };
+        let high = if high < other_high { high } else { other_high };
+        Range::of(low, high)
     }
 
     /// Whether the range lies in the other.

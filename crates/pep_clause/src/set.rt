@@ -43,6 +43,7 @@ use crate::range::Range;
 use crate::range_ends::{greater_from, less_to, matching_to, next, prefix_end};
 use pep_version::{Key, Version};
 use std::alloc::Global;
+use std::cmp::Ordering;
 use std::marker::Model;
 
 /// A set of versions: ranges in order, each of which begins above the end of the one before.
@@ -133,6 +134,27 @@ fn joined_ranges(
     Ok(done)
 }
 
+// The same of ranges that are used up: where each list has one, nothing is copied.
+fn common_ranges(
+    alloc: Global,
+    ranges: Vec<Range>,
+    others: Vec<Range>,
+) -> Result<Vec<Range>, ClauseFault>
+    ensures ok { IfOk result (λ done. done.items ≡ joined ranges.items others.items) }
+    ensures faults { IfErr result (λ e. e ≡ ClauseFault.NoMemory) }
+{
+    if ranges.len() != 1 || others.len() != 1 {
+        return joined_ranges(alloc, ranges.as_slice(), others.as_slice());
+    }
+    let (mut ranges, mut others) = (ranges, others);
+    if let (Some(range), Some(other)) = (ranges.pop(), others.pop()) {
+        if let Some(both) = range.common(other) {
+            ranges.push(both)?;
+        }
+    }
+    Ok(ranges)
+}
+
 fn all_within(ranges: &[Range], other: &Range) -> bool
     ensures { result ≡ all_within ranges.now other.now }
 {
@@ -201,8 +223,12 @@ impl VersionSet {
         ensures range { IfOk result (λ s. s ≡ range low high) }
         ensures faults { IfErr result (λ e. e ≡ ClauseFault.NoMemory) }
     {
-        let mut ranges = Vec::with_capacity(alloc, 1)?;
-        push_range(&mut ranges, low, high)?;
+        if low.order_to(&high) != Ordering::Less {
+            return Ok(VersionSet {
+                ranges: Vec::new(alloc),
+            });
+        }
+        let ranges = Vec::from_array(alloc, [Range::between(low, high)])?;
         Ok(VersionSet { ranges })
     }
 
@@ -351,6 +377,24 @@ impl VersionSet {
         ensures faults { IfErr result (λ e. e ≡ ClauseFault.NoMemory) }
     {
         let ranges = joined_ranges(alloc, self.ranges.as_slice(), other.ranges.as_slice())?;
+        Ok(VersionSet { ranges })
+    }
+
+    /// The versions that are in both sets, which are used up: where each is one range, nothing is
+    /// copied. The only fault is `NoMemory`.
+    pub fn common(self, alloc: Global, other: VersionSet) -> Result<VersionSet, ClauseFault>
+        ensures points { IfOk result (λ s. (c : Cut) → is_point s c
+            ≡ (is_point self c && is_point other c)) }
+        ensures versions { IfOk result (λ s. (v : Version) →
+            is_in s v ≡ (is_in self v && is_in other v)) }
+        ensures normal { IfOk result (λ s. IsNormal s) }
+        ensures inhabited { IfOk result (λ s. HasVersionUnlessEmpty s) }
+        ensures faults { IfErr result (λ e. e ≡ ClauseFault.NoMemory) }
+    {
+        if are_within(self.ranges.as_slice(), other.ranges.as_slice()) {
+            return Ok(self);
+        }
+        let ranges = common_ranges(alloc, self.ranges, other.ranges)?;
         Ok(VersionSet { ranges })
     }
 

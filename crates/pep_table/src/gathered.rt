@@ -74,6 +74,17 @@ fn keep_common(alloc: Global, kept: &mut VersionSet, others: &VersionSet) -> Res
     }
 }
 
+// The same of sets that are used up.
+fn common(alloc: Global, kept: VersionSet, others: VersionSet) -> Result<VersionSet, TableFault>
+    ensures ok { IfOk result (IsIntersection kept others) }
+    ensures faults { IfErr result (λ e. e ≡ TableFault.NoMemory) }
+{
+    match kept.common(alloc, others) {
+        Ok(both) => Ok(both),
+        Err(_) => Err(TableFault::NoMemory),
+    }
+}
+
 // Keeps the versions that are in the other set too.
 fn narrow(
     alloc: Global,
@@ -86,8 +97,11 @@ fn narrow(
 {
     // Its clause tells that the ranges are a normal list.
     let _ = others.ranges();
-    match versions {
-        Some(kept) => keep_common(alloc, kept, &others),
+    match versions.take() {
+        Some(kept) => {
+            *versions = Some(common(alloc, kept, others)?);
+            Ok(())
+        }
         None => {
             *versions = Some(others);
             Ok(())

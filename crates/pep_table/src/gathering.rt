@@ -148,7 +148,7 @@ impl Gathering {
         for (name, gathered) in self.entries {
             let entry = gathered.entry(alloc)?;
             let verdict = entry.verdict(alloc)?;
-            push_entry(alloc, &mut text, &name, verdict, &entry)?;
+            push_entry(&mut text, &name, verdict, &entry)?;
         }
         Ok(text)
     }

@@ -54,36 +54,36 @@ fn push_kind<T: Kept>(text: &mut String, kind: &str, values: &[T]) -> Result<(),
     Ok(())
 }
 
-fn push_cut(alloc: Global, text: &mut String, cut: &Cut) -> Result<(), TableFault>
+fn push_cut(text: &mut String, cut: &Cut) -> Result<(), TableFault>
     ensures ok { OnOk result (string_bytes text.new ≡ string_bytes text.old ++ cut_text cut.now) }
     ensures faults { IfErr result (λ e. e ≡ TableFault.NoMemory) }
 {
-    match cut.text(alloc) {
-        Ok(cut) => Ok(text.push_str(cut.as_str())?),
+    match cut.push_text(text) {
+        Ok(()) => Ok(()),
         Err(_) => Err(TableFault::NoMemory),
     }
 }
 
-fn push_range(alloc: Global, text: &mut String, range: &Range) -> Result<(), TableFault>
+fn push_range(text: &mut String, range: &Range) -> Result<(), TableFault>
     ensures ok { OnOk result (string_bytes text.new ≡ string_bytes text.old
         ++ line (codes "  range " ++ range_text range.now)) }
     ensures faults { IfErr result (λ e. e ≡ TableFault.NoMemory) }
 {
     text.push_str("  range ")?;
-    push_cut(alloc, text, range.low())?;
+    push_cut(text, range.low())?;
     text.push_str(" to ")?;
-    push_cut(alloc, text, range.high())?;
+    push_cut(text, range.high())?;
     text.push_str("\n")?;
     Ok(())
 }
 
-fn push_ranges(alloc: Global, text: &mut String, ranges: &[Range]) -> Result<(), TableFault>
+fn push_ranges(text: &mut String, ranges: &[Range]) -> Result<(), TableFault>
     ensures ok { OnOk result (string_bytes text.new ≡ string_bytes text.old
         ++ kind_lines (codes "range") (map range_text ranges.now)) }
     ensures faults { IfErr result (λ e. e ≡ TableFault.NoMemory) }
 {
     for range in ranges {
-        push_range(alloc, text, range)?;
+        push_range(text, range)?;
     }
     Ok(())
 }
@@ -101,7 +101,6 @@ fn push_head(text: &mut String, name: &str, verdict: Verdict) -> Result<(), Tabl
 }
 
 pub(crate) fn push_entry(
-    alloc: Global,
     text: &mut String,
     name: &Name,
     verdict: Verdict,
@@ -115,7 +114,7 @@ pub(crate) fn push_entry(
     push_kind(text, "extra", entry.extras().items())?;
     push_kind(text, "url", entry.urls().items())?;
     push_kind(text, "text", entry.texts().items())?;
-    push_ranges(alloc, text, entry.versions().ranges())
+    push_ranges(text, entry.versions().ranges())
 }
 
 impl Table {
@@ -129,7 +128,7 @@ impl Table {
         let mut text = String::new(alloc);
         for (name, entry) in self.entries() {
             let verdict = entry.verdict(alloc)?;
-            push_entry(alloc, &mut text, name, verdict, entry)?;
+            push_entry(&mut text, name, verdict, entry)?;
         }
         Ok(text)
     }

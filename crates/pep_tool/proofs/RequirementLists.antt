@@ -2,14 +2,14 @@
 use Rattle.std.proofs.Common.{◌≡◌, ℕ, ◌+◌, ◌≤◌, ◌⊎◌, true, false, not, List, [], ◌∷◌}
 use Rattle.std.proofs.Common.{◌++◌, length, length-append, map, refl, sym, ap, subst, ◌∙◌, inl, inr}
 use Rattle.std.proofs.Common.{append_assoc, append-nil}
-use Rattle.std.specs.Prelude.{IsUtf8, filter}
+use Rattle.std.specs.Prelude.{IsUtf8, None, Some, filter}
 use Rattle.std.specs.List.{AllByRecursion, AllZip}
 use Rattle.std.proofs.lemmas.List.{map-append}
 use Rattle.std.proofs.lemmas.List.Elements.{All-from_recursion, filter-append}
 use Rattle.pep_require.specs.Reads.{Reads, line_limit}
 use Rattle.pep_require.specs.Requirement.{RequirementParts}
 use Rattle.pep_tool.specs.Lists.{IsRequirementList, content, input_limit, is_skipped, lines_of}
-use Rattle.pep_tool.specs.LineReading.{Adds, TakesLine}
+use Rattle.pep_tool.specs.LineReading.{Adds, HasText, TakesLine}
 use Rattle.pep_require.specs.LineParts.{RefusesLine}
 use Rattle.pep_require.specs.declared.fault.RequireFault.{RequireFault}
 use Rattle.pep_tool.specs.declared.fault.LineFault.TheVariants as line_fault
@@ -113,35 +113,37 @@ taken_behind line rs more t = record {
   adds = added_behind line rs more t.adds;
 }
 
-pub skipped_line : (line content_now : List ℕ) (rs : List RequirementParts) →
-    length line ≤ line_limit → content_now ≡ content line → IsUtf8 content_now →
-    is_skipped content_now ≡ true → TakesLine line rs rs
-skipped_line line now rs short e text skipped = record {
+pub skipped_text : (line content_now : List ℕ) → length line ≤ line_limit →
+    content_now ≡ content line → IsUtf8 content_now → is_skipped content_now ≡ true →
+    HasText line None
+skipped_text line now short e text skipped = record {
   short = short;
-  text = line_is_utf8 line (subst IsUtf8 e text);
-  adds = inl (subst (λ t. is_skipped t ≡ true) e skipped, refl);
+  encoded = line_is_utf8 line (subst IsUtf8 e text);
+  text = subst (λ t. is_skipped t ≡ true) e skipped;
 }
 
-pub read_line : (line content_now text : List ℕ) (r : RequirementParts)
-    (rs new : List RequirementParts) → length line ≤ line_limit → content_now ≡ content line →
-    text ≡ content_now → IsUtf8 content_now → is_skipped content_now ≡ false → Reads text r →
-    new ≡ rs ++ r ∷ [] → TakesLine line rs new
-read_line line now text r rs new short e same utf8 kept reads added = record {
-  short = short;
-  text = line_is_utf8 line (subst IsUtf8 e utf8);
-  adds = inr (
-    subst (λ t. is_skipped t ≡ false) e kept,
-    (r, subst (λ t. Reads t r) (same ∙ e) reads, added),
-  );
-}
-
-pub refused_line : (line content_now text : List ℕ) (f : RequireFault) → length line ≤ line_limit →
+pub kept_text : (line content_now text : List ℕ) → length line ≤ line_limit →
     content_now ≡ content line → text ≡ content_now → IsUtf8 content_now →
-    is_skipped content_now ≡ false → RefusesLine text f →
-    RefusesLineBytes line (line_fault.Requirement f)
-refused_line line now text f short e same utf8 kept refuses =
-    content_refuses line f short (line_is_utf8 line (subst IsUtf8 e utf8))
-    (subst (λ t. is_skipped t ≡ false) e kept) (subst (λ t. RefusesLine t f) (same ∙ e) refuses)
+    is_skipped content_now ≡ false → HasText line (Some text)
+kept_text line now text short e same utf8 kept = record {
+  short = short;
+  encoded = line_is_utf8 line (subst IsUtf8 e utf8);
+  text = (subst (λ t. is_skipped t ≡ false) e kept, same ∙ e);
+}
+
+pub read_line : (line text : List ℕ) (r : RequirementParts) → HasText line (Some text) →
+    Reads text r → TakesLine line [] (r ∷ [])
+read_line line text r h reads = record {
+  short = h.short;
+  text = h.encoded;
+  adds = inr (h.text.0, (r, subst (λ t. Reads t r) h.text.1 reads, refl));
+}
+
+pub refused_line : (line text : List ℕ) (f : RequireFault) → HasText line (Some text) →
+    RefusesLine text f → RefusesLineBytes line (line_fault.Requirement f)
+refused_line line text f h refuses =
+    content_refuses line f h.short h.encoded h.text.0
+    (subst (λ t. RefusesLine t f) h.text.1 refuses)
 
 pub no_text : (line content_now : List ℕ) → length line ≤ line_limit → content_now ≡ content line →
     ¬ IsUtf8 content_now → RefusesLineBytes line line_fault.NotUtf8

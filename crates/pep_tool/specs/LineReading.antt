@@ -28,6 +28,17 @@ pub record TakesLine (line : List ℕ) (old new : List RequirementParts) : Type 
   pub text : IsUtf8 line
   pub adds : Adds line old new
 
+-- the text of the requirement on a line, and none where the line is skipped
+abbrev pub IsTextOn : List ℕ → Option (List ℕ) → Type 0
+IsTextOn line None = is_skipped (content line) ≡ true
+IsTextOn line (Some text) = (is_skipped (content line) ≡ false) × (text ≡ content line)
+
+-- the line is one that a list may have, but for its requirement, which has this text
+pub record HasText (line : List ℕ) (found : Option (List ℕ)) : Type 0 where
+  pub short : length line ≤ line_limit
+  pub encoded : IsUtf8 line
+  pub text : IsTextOn line found
+
 -- the requirements that a line has: one, or none
 abbrev pub some_parts : Option Requirement → List RequirementParts
 some_parts None = []

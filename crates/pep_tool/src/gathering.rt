@@ -33,7 +33,7 @@ ghost use Rattle.pep_tool.specs.Refusal.{IsUndefinedAt, RefusesInputs};
 
 use crate::fault::{Cause, Fault, LineFault, Place, fault_in};
 use crate::input::{Input, Kind};
-use crate::lines::requirement_on;
+use crate::lines::text_on;
 use crate::list::{INPUT_LIMIT, cut_off, line_cause};
 use crate::project::project_requirements;
 use pep_marker::{Environment, MarkerFault};
@@ -52,10 +52,14 @@ fn take_line(
     ensures ok { IfOk result (GathersLine environment.now line.now gathering) }
     ensures refused { IfErr result (RefusesLineIn environment.now line.now) }
 {
-    let requirement = match requirement_on(alloc, line) {
-        Ok(Some(requirement)) => requirement,
+    let text = match text_on(line) {
+        Ok(Some(text)) => text,
         Ok(None) => return Ok(gathering),
         Err(fault) => return Err(fault),
+    };
+    let requirement = match Requirement::read(alloc, text) {
+        Ok(requirement) => requirement,
+        Err(fault) => return Err(LineFault::Requirement(fault)),
     };
     match gathering.take_applying(alloc, &requirement, environment) {
         Ok(new) => Ok(new),

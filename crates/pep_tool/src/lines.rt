@@ -15,6 +15,7 @@ ghost use Rattle.std.specs.Prelude.{
   codes,
   length,
   map,
+  option_map,
   string_bytes,
 };
 ghost use Rattle.pep_require.specs.RequirementText.{requirement_text};
@@ -23,6 +24,7 @@ ghost use Rattle.pep_tool.specs.ListedText.{listed_text};
 ghost use Rattle.pep_tool.specs.Lists.{IsRequirementList, input_limit};
 ghost use Rattle.pep_tool.specs.Refusal.{IsRefusedList, no_memory};
 ghost use Rattle.pep_tool.specs.LineReading.{
+  HasText,
   IsReadOf,
   RefusesLineBytes,
   RefusesList,
@@ -102,6 +104,22 @@ pub(crate) fn requirement_on(alloc: Global, line: &[u8]) -> Result<Option<Requir
     ensures ok { IfOk result (λ found. TakesLine line.now [] (some_parts found)) }
     ensures refused { IfErr result (RefusesLineBytes line.now) }
 {
+    let text = match text_on(line) {
+        Ok(Some(text)) => text,
+        Ok(None) => return Ok(None),
+        Err(fault) => return Err(fault),
+    };
+    match Requirement::read(alloc, text) {
+        Ok(requirement) => Ok(Some(requirement)),
+        Err(fault) => Err(LineFault::Requirement(fault)),
+    }
+}
+
+/// The text of the requirement on a line, or none if the line is skipped.
+pub(crate) fn text_on(line: &[u8]) -> Result<Option<&str>, LineFault>
+    ensures ok { IfOk result (λ found. HasText line.now (option_map (λ text. text.now) found)) }
+    ensures refused { IfErr result (RefusesLineBytes line.now) }
+{
     if line.len() > LINE_LIMIT {
         return Err(LineFault::Requirement(RequireFault::LineTooLong));
     }
@@ -112,10 +130,7 @@ pub(crate) fn requirement_on(alloc: Global, line: &[u8]) -> Result<Option<Requir
     if is_skipped(content) {
         return Ok(None);
     }
-    match Requirement::read(alloc, text) {
-        Ok(requirement) => Ok(Some(requirement)),
-        Err(fault) => Err(LineFault::Requirement(fault)),
-    }
+    Ok(Some(text))
 }
 
 // Takes the requirement on a line behind these, if the line isn't skipped.

@@ -203,3 +203,13 @@ fn sets_of_ranges(rt: HostRuntime) -> Result<(), Fail> {
     }
     Ok(())
 }
+
+#[test]
+fn appends_texts(rt: HostRuntime) -> Result<(), Fail> {
+    let mut text = String::from_str(rt.alloc(), "from ")?;
+    before(rt.alloc(), "1.0")?.push_text(&mut text)?;
+    text.push_str(" to ")?;
+    Cut::end().push_text(&mut text)?;
+    assert_eq!(rt; text.as_str(), "from before 1 to end");
+    Ok(())
+}

@@ -194,6 +194,16 @@ fn kept(alloc: Global, clauses: &[&str]) -> Result<VersionSet, ClauseFault> {
     Ok(kept)
 }
 
+// The same of sets that are used up.
+fn common(alloc: Global, clauses: &[&str]) -> Result<VersionSet, ClauseFault> {
+    let mut common = VersionSet::all(alloc)?;
+    for clause in clauses {
+        let other = set(alloc, clause)?;
+        common = common.common(alloc, other)?;
+    }
+    Ok(common)
+}
+
 // Clauses, and the cuts of their set.
 type Row<'a> = (&'a [&'a str], &'a [&'a str]);
 
@@ -227,6 +237,16 @@ fn joins(rt: HostRuntime) -> Result<(), Fail> {
 fn joins_in_place(rt: HostRuntime) -> Result<(), Fail> {
     for &(clauses, cuts) in &JOINED {
         let set = kept(rt.alloc(), clauses)?;
+        assert_eq!(rt; set.is_empty(), cuts.is_empty());
+        expect_cuts(&rt, rt.alloc(), &set, cuts)?;
+    }
+    Ok(())
+}
+
+#[test]
+fn joins_and_uses_up(rt: HostRuntime) -> Result<(), Fail> {
+    for &(clauses, cuts) in &JOINED {
+        let set = common(rt.alloc(), clauses)?;
         assert_eq!(rt; set.is_empty(), cuts.is_empty());
         expect_cuts(&rt, rt.alloc(), &set, cuts)?;
     }
@@ -392,6 +412,7 @@ fn joined_sets_hold_what_both_hold(rt: HostRuntime) -> Result<(), Fail> {
         let (mut first, second) = (set(alloc, first)?, set(alloc, second)?);
         let both = first.joined(alloc, &second)?;
         expect_joined(&rt, (&first, &second), &both, keys.as_slice());
+        assert!(rt; first.copied(alloc)?.common(alloc, second.copied(alloc)?)? == both);
         first.join(alloc, &second)?;
         assert!(rt; first == both);
     }

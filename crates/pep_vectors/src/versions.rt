@@ -204,6 +204,17 @@ fn copies_keys(rt: HostRuntime) -> Result<(), Fail> {
 }
 
 #[test]
+fn appends_texts(rt: HostRuntime) -> Result<(), Fail> {
+    let alloc = rt.alloc();
+    let mut text = String::from_str(alloc, "x ")?;
+    Version::read(alloc, "v1.0RC3")?.push_text(&mut text)?;
+    text.push_str(" ")?;
+    key(alloc, "1.0")?.push_text(&mut text)?;
+    assert_eq!(rt; text.as_str(), "x 1.0rc3 1");
+    Ok(())
+}
+
+#[test]
 fn refuses_parts(rt: HostRuntime) -> Result<(), Fail> {
     let empty = Version::of_parts(
         0,

@@ -3,13 +3,16 @@
 ghost use Rattle.std.specs.Prelude.{
   ◌≡◌,
   ◌<◌,
+  ◌++◌,
   fold,
   length,
   map,
   refl,
   slice_index,
+  string_bytes,
   IfErr,
   IfOk,
+  OnOk,
 };
 ghost use Rattle.std.specs.Cmp.{
   eq_by_cmp_equiv,
@@ -37,6 +40,7 @@ ghost use Rattle.pep_version.specs.Order.{
   with_suffixes,
   without_end_zeros,
 };
+ghost use Rattle.pep_version.specs.Text.{normal_text};
 ghost use Rattle.pep_version.specs.Version.{IsVersion};
 ghost use Rattle.pep_version.specs.View.{segment_of};
 
@@ -142,6 +146,16 @@ impl Key {
         ensures faults { IfErr result (λ e. e ≡ VersionFault.NoMemory) }
     {
         self.version.copied(alloc)
+    }
+
+    /// Appends the normal text of the version that stands at this place (PEP 440, "Normalization").
+    /// The only fault is `NoMemory`.
+    pub fn push_text(&self, text: &mut String) -> Result<(), VersionFault>
+        ensures ok { OnOk result (string_bytes text.new
+            ≡ string_bytes text.old ++ normal_text self.now) }
+        ensures faults { IfErr result (λ e. e ≡ VersionFault.NoMemory) }
+    {
+        self.version.push_text(text)
     }
 
     /// An equal key in storage of its own. The only fault is `NoMemory`.

@@ -3,6 +3,7 @@
 ghost use Rattle.std.specs.Prelude.{
   ◌≡◌,
   ◌↔◌,
+  ◌++◌,
   map,
   string_bytes,
   IfErr,
@@ -10,6 +11,7 @@ ghost use Rattle.std.specs.Prelude.{
   IfSome,
   IsSome,
   IsTrue,
+  OnOk,
 };
 ghost use Rattle.std.specs.Char.{is_ascii_lowercase};
 ghost use Rattle.std.specs.List.{All, list_all, list_any};
@@ -266,13 +268,22 @@ impl Version {
         ensures faults { IfErr result (λ e. e ≡ VersionFault.NoMemory) }
     {
         let mut text = String::new(alloc);
-        push_epoch(&mut text, self.epoch)?;
-        push_release(&mut text, self.release.as_slice())?;
-        push_pre(&mut text, self.pre)?;
-        push_part(&mut text, ".post", self.post)?;
-        push_part(&mut text, ".dev", self.dev)?;
-        push_label(&mut text, self.label.as_slice())?;
+        self.push_text(&mut text)?;
         Ok(text)
+    }
+
+    /// Appends the normal text (PEP 440, "Normalization"). The only fault is `NoMemory`.
+    pub fn push_text(&self, text: &mut String) -> Result<(), VersionFault>
+        ensures ok { OnOk result (string_bytes text.new
+            ≡ string_bytes text.old ++ normal_text self.now) }
+        ensures faults { IfErr result (λ e. e ≡ VersionFault.NoMemory) }
+    {
+        push_epoch(text, self.epoch)?;
+        push_release(text, self.release.as_slice())?;
+        push_pre(text, self.pre)?;
+        push_part(text, ".post", self.post)?;
+        push_part(text, ".dev", self.dev)?;
+        push_label(text, self.label.as_slice())
     }
 
     /// An equal version in storage of its own. The only fault is `NoMemory`.

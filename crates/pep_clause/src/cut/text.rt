@@ -1,6 +1,6 @@
 // How a cut is written.
 
-ghost use Rattle.std.specs.Prelude.{◌≡◌, ◌++◌, string_bytes, IfErr, IfOk};
+ghost use Rattle.std.specs.Prelude.{◌≡◌, ◌++◌, string_bytes, IfErr, IfOk, OnOk};
 ghost use Rattle.pep_version.specs.Text.{normal_text};
 
 use crate::cut::{Cut, CutForm};
@@ -8,15 +8,15 @@ use crate::fault::ClauseFault;
 use pep_version::Key;
 use std::alloc::Global;
 
-// The word, and behind it the normal text of the version at this place.
-fn word_and_version(alloc: Global, word: &str, place: &Key) -> Result<String, ClauseFault>
-    ensures text { IfOk result (λ t. string_bytes t ≡ word.now ++ normal_text place.now) }
+// Appends the word, and behind it the normal text of the version at this place.
+fn push_place(text: &mut String, word: &str, place: &Key) -> Result<(), ClauseFault>
+    ensures ok { OnOk result (string_bytes text.new
+        ≡ string_bytes text.old ++ (word.now ++ normal_text place.now)) }
     ensures faults { IfErr result (λ e. e ≡ ClauseFault.NoMemory) }
 {
-    let mut text = String::from_str(alloc, word)?;
-    let version = place.version(alloc)?.text(alloc)?;
-    text.push_str(version.as_str())?;
-    Ok(text)
+    text.push_str(word)?;
+    place.push_text(text)?;
+    Ok(())
 }
 
 impl Cut {
@@ -29,11 +29,22 @@ impl Cut {
         ensures text { IfOk result (λ t. string_bytes t ≡ cut_text self.now) }
         ensures faults { IfErr result (λ e. e ≡ ClauseFault.NoMemory) }
     {
+        let mut text = String::new(alloc);
+        self.push_text(&mut text)?;
+        Ok(text)
+    }
+
+    /// Appends the text of the cut. The only fault is `NoMemory`.
+    pub fn push_text(&self, text: &mut String) -> Result<(), ClauseFault>
+        ensures ok { OnOk result (string_bytes text.new
+            ≡ string_bytes text.old ++ cut_text self.now) }
+        ensures faults { IfErr result (λ e. e ≡ ClauseFault.NoMemory) }
+    {
         match &self.form {
-            CutForm::Before(place) => word_and_version(alloc, "before ", place),
-            CutForm::After(place) => word_and_version(alloc, "after ", place),
-            CutForm::Past(release) => word_and_version(alloc, "past ", release),
-            CutForm::End => Ok(String::from_str(alloc, "end")?),
+            CutForm::Before(place) => push_place(text, "before ", place),
+            CutForm::After(place) => push_place(text, "after ", place),
+            CutForm::Past(release) => push_place(text, "past ", release),
+            CutForm::End => Ok(text.push_str("end")?),
         }
     }
 }

@@ -1,9 +1,11 @@
-use Rattle.std.proofs.Common.{ap, subst, sym}
+use Rattle.std.proofs.Common.{◌≡◌, None, ap, rules, subst, sym}
 use Rattle.pep_table.specs.Join.{IsIntersection}
 use Rattle.pep_table.specs.Others.{kept_versions}
 use Rattle.pep_table.proofs.TakenClauses.{all_meets}
 use Rattle.pep_table.proofs.gathered.narrow.Goals as goal
 
 pub returns-in-None-clause-ok : goal.returns-in-None-clause-ok
-returns-in-None-clause-ok c = subst (λ v. IsIntersection v c.args.others c.args.others)
-    (sym (ap kept_versions c.in-None.is)) (all_meets c.args.others c.ranges-2.ensures.normal)
+returns-in-None-clause-ok c =
+    let none : c.args.versions.now ≡ None = search rules in
+    subst (λ v. IsIntersection v c.args.others c.args.others) (sym (ap kept_versions none))
+    (all_meets c.args.others c.ranges-2.ensures.normal)
