@@ -1,5 +1,5 @@
 -- The text of a cut, and of a range, is the text of no other.
-use Rattle.std.proofs.Common.{◌≡◌, ℕ, ◌==◌, Bool, true, false, not, List, [], ◌∷◌, ◌++◌, codes}
+use Rattle.std.proofs.Common.{◌≡◌, ℕ, ◌==◌, Bool, true, false, not, List, [], ◌∷◌, ◌++◌, codes, ◌&&◌}
 use Rattle.std.proofs.Common.{refl, sym, ap, subst, ◌∙◌, append_assoc, append-nil, arith}
 use Rattle.std.specs.Prelude.{nat_lt}
 use Rattle.std.specs.List.{AllByRecursion, list_all}
@@ -13,23 +13,20 @@ use Rattle.pep_version.specs.Version.{IsVersion, Version}
 use Rattle.pep_clause.specs.Cut.{Cut, IsCut, before, after, past, end, cut_text, final_version}
 use Rattle.pep_clause.specs.VersionSet.{Range, cuts}
 use Rattle.pep_table.proofs.Runs.{Stops, all_append, run_one}
+pub use Rattle.pep_table.specs.TableReading.{HasNoFeed}
 use Rattle.pep_table.specs.TableText.{range_text}
 
 -- ---- classes of bytes
 
--- a byte above the space, as names, versions and URLs have
+-- a byte from 21 to 7E (hex), as names, versions and URLs have
 abbrev pub is_plain : ℕ → Bool
-is_plain b = nat_lt 32 b
+is_plain b = nat_lt 32 b && nat_lt b 127
 
 abbrev pub is_not_space : ℕ → Bool
 is_not_space b = not (b == 32)
 
 abbrev pub is_not_feed : ℕ → Bool
 is_not_feed b = not (b == 10)
-
--- no line feed stands in the text
-abbrev pub HasNoFeed : List ℕ → Type 0
-HasNoFeed x = list_all is_not_feed x ≡ true
 
 plain_no_space : (b : ℕ) → is_plain b ≡ true → is_not_space b ≡ true
 plain_no_space b h = grind (arith, nat_tests)
@@ -46,7 +43,7 @@ without_space x h = list_all-weaker is_plain is_not_space plain_no_space x h
 pub without_feed : (x : List ℕ) → list_all is_plain x ≡ true → HasNoFeed x
 without_feed x h = list_all-weaker is_plain is_not_feed plain_no_feed x h
 
-normal_plain : (v : Version) → IsVersion v → list_all is_plain (normal_text v) ≡ true
+pub normal_plain : (v : Version) → IsVersion v → list_all is_plain (normal_text v) ≡ true
 normal_plain v is =
     list_all-weaker is_text_byte is_plain text_plain (normal_text v) (normal-bytes v is)
 
@@ -68,14 +65,14 @@ version_then v w x y h g s t e =
     (one_version_of_text v w h g both.0, both.1)
 
 -- texts that begin with different bytes are different
-abbrev first_byte : List ℕ → ℕ
+abbrev pub first_byte : List ℕ → ℕ
 first_byte [] = 0
 first_byte (b ∷ x) = b
 
-differ : (m n : ℕ) → (m == n) ≡ false → m ≡ n → ⊥
+pub differ : (m n : ℕ) → (m == n) ≡ false → m ≡ n → ⊥
 differ m n f e = grind (arith, nat_tests)
 
-apart : {G : Type 0} (x y : List ℕ) → (first_byte x == first_byte y) ≡ false → x ≡ y → G
+pub apart : {G : Type 0} (x y : List ℕ) → (first_byte x == first_byte y) ≡ false → x ≡ y → G
 apart x y f e = absurd (differ (first_byte x) (first_byte y) f (ap first_byte e))
 
 -- where two texts begin with cuts, and nothing or a space is behind these, the cuts are one

@@ -22,3 +22,10 @@ pub mod TableLines
 pub mod OneTableOfText
 pub mod PrintedEntries
 pub mod SameLemmas
+pub mod AscendingItems
+pub mod ReadItems
+pub mod ReadRanges
+pub mod ReadParts
+pub mod ReadTables
+pub mod RangeWords
+pub mod TableBytes

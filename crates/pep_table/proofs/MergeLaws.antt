@@ -1,13 +1,15 @@
 -- What a tree of merges makes is the table of its demands.
-use Rattle.std.proofs.Common.{subst}
+use Rattle.std.proofs.Common.{List, [], ◌∷◌, subst}
+use Rattle.std.specs.List.{AllZip}
 use Rattle.pep_marker.specs.Environment.{EnvironmentParts}
 use Rattle.pep_table.proofs.JoinedDemands.{joined_is_table, own_table}
 use Rattle.pep_table.proofs.OneTableOfText.{one_table_of_text}
 use Rattle.pep_table.specs.Demand.{Demands}
 use Rattle.pep_table.specs.MergeTree.{IsAcceptedTree, MakesTable, MergeTree, MergesAlike}
-use Rattle.pep_table.specs.MergeTree.{TreeDemands, input, table, joined, printed}
+use Rattle.pep_table.specs.Join.{JoinsAll, JoinsTables}
+use Rattle.pep_table.specs.MergeTree.{TreeDemands, all_joined, input, table, joined, printed}
 use Rattle.pep_table.specs.OneText.{one_text}
-use Rattle.pep_table.specs.Table.{HasExactPoints, IsTable, TableDemands, TableParts}
+use Rattle.pep_table.specs.Table.{HasExactPoints, IsTable, IsValidTable, TableDemands, TableParts}
 
 abbrev IsExactTable : Demands → TableParts → Type 0
 IsExactTable Q t = IsTable Q t × HasExactPoints Q t
@@ -35,3 +37,13 @@ merges_alike e a b x y v w same h g =
     let second = tree_table e b g.0 w g.1 in
     one_text (TreeDemands e a) (TreeDemands e b) h.0 g.0 x y same first.0 first.1 second.0 second.1
     h.2 g.2
+
+-- tables that are joined to a first one, one after the other, are made by such a tree
+pub all_made : (e : EnvironmentParts) (a : MergeTree) (trees : List MergeTree) (s : TableParts)
+    (ts : List TableParts) (r : TableParts) → MakesTable e a s → AllZip (MakesTable e) trees ts →
+    JoinsAll IsValidTable JoinsTables s ts r → MakesTable e (all_joined a trees) r
+all_made e a [] s [] r made zip all = subst (MakesTable e a) all made
+all_made e a [] s (t ∷ ts) r made zip all = absurd zip
+all_made e a (b ∷ trees) s [] r made zip all = absurd zip
+all_made e a (b ∷ trees) s (t ∷ ts) r made zip (c, valid, joins, rest, va, vt) =
+    all_made e (joined a b) trees c ts r (s, t, made, zip.0, joins) zip.1 rest

@@ -7,10 +7,11 @@ use Rattle.std.proofs.lemmas.List.{append_cancel_left}
 use Rattle.pep_clause.specs.VersionSet.{Range}
 use Rattle.pep_table.proofs.CutTexts.{HasCuts, have_cuts, one_range_of_text}
 use Rattle.pep_table.proofs.Runs.{Stops, map_one, map_passes, map_stops, run_one}
-use Rattle.pep_table.proofs.TableLines.{AreLines, IsTextEntry, begins_kind, extra_lines, header}
+use Rattle.pep_table.proofs.TableLines.{AreLines, IsTextEntry, begins_kind, extra_lines}
 use Rattle.pep_table.proofs.TableLines.{header_name, kind_line, lines_feed, lines_of_text}
 use Rattle.pep_table.proofs.TableLines.{lines_one, range_lines, table_stops, text_entries}
 use Rattle.pep_table.proofs.TableLines.{text_lines, url_lines}
+use Rattle.pep_table.specs.EntryReading.{head_line}
 use Rattle.pep_table.specs.Table.{EntryParts, IsValidEntry, IsValidTable, TableParts}
 use Rattle.pep_table.specs.TableText.{IsTableText, range_text}
 
@@ -114,7 +115,7 @@ one_table_of_lines [] (q ∷ t) ls h g e (other, more, left, f) = cc (e, f)
 one_table_of_lines (p ∷ s) [] ls h g (verdict, rest, behind, e) f = cc (e, f)
 one_table_of_lines (p ∷ s) (q ∷ t) ls h g (verdict, rest, behind, e) (other, more, left, f) =
     let both = sym e ∙ f in
-    let first : header p.0 verdict ≡ header q.0 other = cc both in
+    let first : head_line p.0 verdict ≡ head_line q.0 other = cc both in
     let lines : extra_lines p.1 rest ≡ extra_lines q.1 more = cc both in
     let name = header_name p.0 q.0 verdict other h.0.0 g.0.0 first in
     let entry = entry_one p.1 q.1 rest more h.0.1 g.0.1 (λ c. table_stops c s rest h.1 behind)

@@ -17,14 +17,12 @@ use Rattle.pep_table.proofs.CutTexts.{is_plain, range_feed, without_feed, withou
 use Rattle.pep_table.proofs.Runs.{Stops, all_append, each_append, each_map, run_one}
 use Rattle.pep_table.specs.declared.verdict.Verdict.{Verdict}
 use Rattle.pep_table.specs.declared.verdict.Verdict.TheVariants.{Possible, Nothing, Conflict}
+use Rattle.pep_table.specs.EntryReading.{head_line}
 use Rattle.pep_table.specs.Table.{EntryParts, IsValidEntry, TableParts, is_url_text, names}
 use Rattle.pep_table.specs.TableText.{IsTableText, entry_text, kind_lines, line, range_text}
 use Rattle.pep_table.specs.Verdict.{verdict_word}
 
 -- ---- the lines of a table, without their line feeds
-
-abbrev pub header : List ℕ → Verdict → List ℕ
-header name verdict = name ++ codes " " ++ verdict_word verdict
 
 abbrev pub kind_line : List ℕ → List ℕ → List ℕ
 kind_line kind t = codes "  " ++ kind ++ codes " " ++ t
@@ -45,7 +43,7 @@ extra_lines e rest = map (kind_line (codes "extra")) e.extras ++ url_lines e res
 abbrev pub AreLines : TableParts → List (List ℕ) → Type 0
 AreLines [] ls = ls ≡ []
 AreLines (p ∷ t) ls = (verdict : Verdict) × (rest : List (List ℕ)) × AreLines t rest
-    × (ls ≡ header p.0 verdict ∷ extra_lines p.1 rest)
+    × (ls ≡ head_line p.0 verdict ∷ extra_lines p.1 rest)
 
 -- the text that has these lines
 abbrev pub written : List (List ℕ) → List ℕ
@@ -58,13 +56,13 @@ kind_then kind (t ∷ ts) ls =
     append_assoc (line (kind_line kind t)) (kind_lines kind ts) (written ls)
     ∙ ap (λ (y : List ℕ). line (kind_line kind t) ++ y) (kind_then kind ts ls)
 
-regroup : (h e u t r w : List ℕ) → h ++ e ++ u ++ t ++ r ++ w ≡ h ++ (e ++ (u ++ (t ++ (r ++ w))))
+pub regroup : (h e u t r w : List ℕ) → h ++ e ++ u ++ t ++ r ++ w ≡ h ++ (e ++ (u ++ (t ++ (r ++ w))))
 regroup h e u t r w = simp (append_assoc)
 
 entry_written : (name : List ℕ) (verdict : Verdict) (e : EntryParts) (ls : List (List ℕ)) →
-    entry_text name verdict e ++ written ls ≡ written (header name verdict ∷ extra_lines e ls)
+    entry_text name verdict e ++ written ls ≡ written (head_line name verdict ∷ extra_lines e ls)
 entry_written name verdict e ls =
-    let first = line (header name verdict) in
+    let first = line (head_line name verdict) in
     let extras = kind_lines (codes "extra") e.extras in
     let urls = kind_lines (codes "url") e.urls in
     let texts = kind_lines (codes "text") e.texts in
@@ -84,7 +82,7 @@ pub lines_of_text : (t : TableParts) (x : List ℕ) → IsTableText t x → (ls 
 lines_of_text [] x h = ([], refl, h)
 lines_of_text (p ∷ t) x (verdict, rest, shows, more, e) =
     let behind = lines_of_text t rest more in (
-      header p.0 verdict ∷ extra_lines p.1 behind.0,
+      head_line p.0 verdict ∷ extra_lines p.1 behind.0,
       (verdict, behind.0, behind.1, refl),
       e ∙ ap (λ (y : List ℕ). entry_text p.0 verdict p.1 ++ y) behind.2
           ∙ entry_written p.0 verdict p.1 behind.0,
@@ -136,12 +134,12 @@ name_told n h =
 pub name_plain : (n : List ℕ) → IsNormalName n → list_all is_plain n ≡ true
 name_plain n h = list_all-weaker is_name_byte is_plain name_byte_plain n (name_told n h).1
 
-url_plain : (u : List ℕ) → IsTrue (is_url_text u) → list_all is_plain u ≡ true
+pub url_plain : (u : List ℕ) → IsTrue (is_url_text u) → list_all is_plain u ≡ true
 url_plain u h =
     list_all-weaker is_url_byte is_plain url_byte_plain u
     (and_second (nat_lt 0 (length u)) (list_all is_url_byte u) h)
 
-demanded_plain : (t : List ℕ) → IsTrue (is_demanded_text t) → list_all is_plain t ≡ true
+pub demanded_plain : (t : List ℕ) → IsTrue (is_demanded_text t) → list_all is_plain t ≡ true
 demanded_plain t h =
     let bytes = and_second (not (is_empty t))
     (list_all (λ b. is_clause_byte b && not (is_ascii_uppercase b)) t) h in
@@ -173,8 +171,8 @@ word_feed Possible = refl
 word_feed Nothing = refl
 word_feed Conflict = refl
 
-header_feed : (name : List ℕ) (verdict : Verdict) → IsNormalName name →
-    HasNoFeed (header name verdict)
+pub header_feed : (name : List ℕ) (verdict : Verdict) → IsNormalName name →
+    HasNoFeed (head_line name verdict)
 header_feed name verdict h =
     all_append is_not_feed (name ++ codes " ") (verdict_word verdict)
     (all_append is_not_feed name (codes " ") (without_feed name (name_plain name h)) refl)
@@ -228,7 +226,7 @@ above_space : (b : ℕ) → is_plain b ≡ true → (b == 32) ≡ false
 above_space b h = grind (arith, nat_tests)
 
 header_stops : (c : ℕ) (name : List ℕ) (verdict : Verdict) → nat_lt 0 (length name) ≡ true →
-    list_all is_plain name ≡ true → begins_kind c (header name verdict) ≡ false
+    list_all is_plain name ≡ true → begins_kind c (head_line name verdict) ≡ false
 header_stops c [] verdict some h = cc some
 header_stops c (b ∷ name) verdict some h =
     rw (above_space b (and_first (is_plain b) (list_all is_plain name) h)) refl
@@ -243,7 +241,7 @@ table_stops c (p ∷ t) ls h (verdict, rest, more, e) =
 
 -- the name is what stands before the first space of its line
 pub header_name : (n m : List ℕ) (verdict other : Verdict) → IsNormalName n → IsNormalName m →
-    header n verdict ≡ header m other → n ≡ m
+    head_line n verdict ≡ head_line m other → n ≡ m
 header_name n m verdict other h g e =
     (run_one is_not_space n (codes " " ++ verdict_word verdict) m
     (codes " " ++ verdict_word other) (without_space n (name_plain n h))

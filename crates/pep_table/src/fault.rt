@@ -8,6 +8,10 @@ pub enum TableFault {
     /// counted from 1.
     #[error("requirement {0}: an undefined marker")]
     Undefined(usize),
+    /// 41: the text is no table's; the line, counted from 1, is the first that can't stand after
+    /// those before it.
+    #[error("line {0}: not a line that a table has there")]
+    BadTable(usize),
     /// 42: a growth was refused.
     #[error("out of memory")]
     NoMemory,
@@ -23,6 +27,7 @@ impl TableFault {
     {
         match self {
             TableFault::Undefined(_) => 28,
+            TableFault::BadTable(_) => 41,
             TableFault::NoMemory => 42,
         }
     }

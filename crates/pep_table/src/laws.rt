@@ -1,6 +1,7 @@
 //! Laws of the definitions.
 
-ghost use Rattle.std.specs.Prelude.{◌≡◌, ◌↔◌, ℕ, Bool, Contains, List};
+ghost use Rattle.std.specs.Prelude.{◌≡◌, ◌↔◌, ℕ, Bool, Contains, IsUtf8, List};
+ghost use Rattle.std.specs.List.{AllZip};
 ghost use Rattle.pep_version.specs.Version.{IsVersion, Version};
 ghost use Rattle.pep_marker.specs.Environment.{EnvironmentParts};
 ghost use Rattle.pep_table.specs.Answer.{IsAnswer};
@@ -13,7 +14,15 @@ ghost use Rattle.pep_table.specs.Demand.{
 };
 ghost use Rattle.pep_table.specs.Gathering.{TakesApplying, TakesRequirement};
 ghost use Rattle.pep_table.specs.Join.{IsJoin, IsUnion, JoinsAll, JoinsTables};
-ghost use Rattle.pep_table.specs.MergeTree.{MergesAlike};
+ghost use Rattle.pep_table.specs.MergeTree.{
+  MakesTable,
+  MergeTree,
+  MergesAlike,
+  all_joined,
+  input,
+  joined,
+  printed,
+};
 ghost use Rattle.pep_table.specs.Table.{
   HasExactPoints,
   IsTable,
@@ -33,6 +42,17 @@ pub fn one_table_text()
     ensures { (t : TableParts) (x y : List ℕ) → IsTableText t x → IsTableText t y → x ≡ y }
 {}
 
+/// A text is that of one table.
+pub fn one_table_of_text()
+    ensures { (s t : TableParts) (x : List ℕ) → IsTableText s x → IsTableText t x
+        → IsValidTable s → IsValidTable t → s ≡ t }
+{}
+
+/// The text of a table is UTF-8.
+pub fn table_text_is_utf8()
+    ensures { (t : TableParts) (x : List ℕ) → IsValidTable t → IsTableText t x → IsUtf8 x }
+{}
+
 /// The union of sorted lists of texts does not depend on order, grouping and repeats.
 pub fn union_is_join()
     ensures { IsJoin IsAscending IsUnion }
@@ -42,6 +62,24 @@ pub fn union_is_join()
 /// and whether or not a table is printed and read back on the way.
 pub fn merges_alike()
     ensures { MergesAlike }
+{}
+
+/// What calls promise are the steps of such merges: [`Table::of`](crate::Table::of) of the
+/// requirements of an input, [`Join::joined`] and [`join_all`](crate::join_all), and
+/// [`Table::read`](crate::Table::read) of what [`Table::text`](crate::Table::text) printed.
+pub fn merge_steps()
+    ensures of { (e : EnvironmentParts) (rs : List RequirementParts) (t : TableParts)
+        → IsTable (ApplyingDemands e rs) t → HasExactPoints (ApplyingDemands e rs) t
+        → MakesTable e (input rs) t }
+    ensures joined { (e : EnvironmentParts) (a b : MergeTree) (s t r : TableParts)
+        → MakesTable e a s → MakesTable e b t → JoinsTables s t r → MakesTable e (joined a b) r }
+    ensures all { (e : EnvironmentParts) (a : MergeTree) (trees : List MergeTree) (s : TableParts)
+        (ts : List TableParts) (r : TableParts) → MakesTable e a s
+        → AllZip (MakesTable e) trees ts → JoinsAll IsValidTable JoinsTables s ts r
+        → MakesTable e (all_joined a trees) r }
+    ensures read { (e : EnvironmentParts) (a : MergeTree) (s t : TableParts) (x : List ℕ)
+        → MakesTable e a s → IsTableText s x → IsTableText t x → IsValidTable t
+        → MakesTable e (printed a) t }
 {}
 
 /// Equal starts, and items with the same members, are joined to one value, whatever the order of

@@ -8,6 +8,7 @@ mod gathering;
 mod join;
 pub mod laws;
 mod others;
+mod read;
 mod same;
 mod sorted;
 mod table;

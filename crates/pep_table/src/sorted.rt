@@ -144,6 +144,14 @@ impl<T: Kept> Sorted<T> {
         }
     }
 
+    /// These values, which are in order.
+    pub(crate) fn of_ascending(items: Vec<T>) -> Self
+        requires { IsAscending (map T.text items.items) }
+        ensures { result ≡ map T.text items.items }
+    {
+        Sorted { items }
+    }
+
     /// The values of a set.
     pub(crate) fn of(alloc: Global, set: BTreeSet<T>) -> Result<Self, TableFault>
         ensures ok { IfOk result (λ s. s ≡ map T.text set.keys) }

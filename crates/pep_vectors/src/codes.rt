@@ -1,6 +1,6 @@
 //! Codes of faults, their texts, and the faults that are made of others.
 
-use crate::faults::{CLAUSE_FAULTS, MARKER_FAULTS, REQUIRE_FAULTS, VERSION_FAULTS};
+use crate::faults::{CLAUSE_FAULTS, MARKER_FAULTS, REQUIRE_FAULTS, TABLE_FAULTS, VERSION_FAULTS};
 use pep_clause::ClauseFault;
 use pep_marker::{MarkerFault, Variable};
 use pep_require::RequireFault;
@@ -47,6 +47,15 @@ fn markers(rt: HostRuntime) -> Result<(), Fail> {
 fn requirements(rt: HostRuntime) -> Result<(), Fail> {
     for &(fault, code, inner, text) in &REQUIRE_FAULTS {
         assert_eq!(rt; (fault.code(), fault.inner_code()), (code, inner));
+        is_told(&rt, &fault, text)?;
+    }
+    Ok(())
+}
+
+#[test]
+fn tables(rt: HostRuntime) -> Result<(), Fail> {
+    for &(fault, code, text) in &TABLE_FAULTS {
+        assert_eq!(rt; fault.code(), code);
         is_told(&rt, &fault, text)?;
     }
     Ok(())

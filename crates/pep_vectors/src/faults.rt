@@ -3,6 +3,7 @@
 use pep_clause::ClauseFault;
 use pep_marker::{MarkerFault, Variable};
 use pep_require::RequireFault;
+use pep_table::TableFault;
 use pep_version::VersionFault;
 
 /// Faults of versions, their codes and their texts.
@@ -100,4 +101,19 @@ pub const REQUIRE_FAULTS: [(RequireFault, u64, Option<u64>, &str); 10] = [
         "a URL that is too long",
     ),
     (RequireFault::NoMemory, 40, None, "out of memory"),
+];
+
+/// Faults of tables, their codes and their texts.
+pub const TABLE_FAULTS: [(TableFault, u64, &str); 3] = [
+    (
+        TableFault::Undefined(7),
+        28,
+        "requirement 7: an undefined marker",
+    ),
+    (
+        TableFault::BadTable(7),
+        41,
+        "line 7: not a line that a table has there",
+    ),
+    (TableFault::NoMemory, 42, "out of memory"),
 ];

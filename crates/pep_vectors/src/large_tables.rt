@@ -57,6 +57,7 @@ fn expect_table(
     wanted: &str,
 ) -> Result<(), TableFault> {
     assert!(rt; table.text(rt.alloc())?.as_str() == wanted);
+    assert!(rt; Table::read(rt.alloc(), wanted)? == *table);
     expect_same(rt, table)
 }
 

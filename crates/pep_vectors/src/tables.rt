@@ -414,9 +414,3 @@ fn verdicts(rt: HostRuntime) -> Result<(), Fail> {
     }
     Ok(())
 }
-
-#[test]
-fn codes() {
-    prove!(TableFault::Undefined(7).code() == 28);
-    prove!(TableFault::NoMemory.code() == 42);
-}

@@ -1,0 +1,234 @@
+-- The entries of a table's text, read one by one.
+use Rattle.std.proofs.Common.{◌≡◌, ℕ, true, List, [], ◌∷◌, ◌++◌, codes}
+use Rattle.std.proofs.Common.{refl, sym, ap, subst, ◌∙◌, append_assoc, append-nil, arith, length, map, ◌<◌, ◌≤◌, ◌+◌}
+use Rattle.std.specs.Prelude.{All}
+use Rattle.std.specs.List.{list_all}
+use Rattle.std.proofs.lemmas.Bool.Decides.{nat_tests}
+use Rattle.std.proofs.lemmas.List.{length-append, map-append}
+use Rattle.std.proofs.lemmas.List.Elements.{All-head, All-nil, All-push, All-tail}
+use Rattle.pep_version.proofs.Connectives.{and_first}
+use Rattle.pep_marker.specs.Name.{IsNormalName}
+use Rattle.pep_require.specs.Requirement.{IsAscending}
+use Rattle.pep_table.proofs.CutTexts.{is_plain}
+use Rattle.pep_table.proofs.ReadItems.{all_behind, ascending_front}
+use Rattle.pep_table.proofs.ReadParts.{one_head}
+use Rattle.pep_table.proofs.TableLines.{name_plain, regroup}
+use Rattle.pep_table.specs.OneText.{entry_verdict_one}
+use Rattle.pep_table.specs.declared.verdict.Verdict.{Verdict}
+use Rattle.pep_table.specs.EntryReading.{BeginsSpace, HasHead, HasNext, HasNoHead, HasNoNext}
+use Rattle.pep_table.specs.EntryReading.{HasNoParts, HasParts, IsEntryAt, head_line, parts_then}
+use Rattle.pep_table.specs.EntryReading.{ranges_then, texts_then, urls_then}
+use Rattle.pep_table.specs.Table.{EntryParts, IsValidEntry, IsValidTable, TableParts, names}
+use Rattle.pep_table.specs.TableText.{IsNoTableText, IsTableText, Shows, entry_text, kind_lines}
+use Rattle.pep_table.specs.TableText.{line, range_text}
+use Rattle.pep_table.specs.Verdict.{verdict_word}
+
+-- ---- an entry's text is its first line and the lines behind it
+
+whole : (name : List ℕ) (verdict : Verdict) (e : EntryParts) (rest : List ℕ) →
+    entry_text name verdict e ++ rest ≡ line (head_line name verdict) ++ parts_then e rest
+whole name verdict e rest =
+    regroup (line (head_line name verdict)) (kind_lines (codes "extra") e.extras)
+    (kind_lines (codes "url") e.urls) (kind_lines (codes "text") e.texts)
+    (kind_lines (codes "range") (map range_text e.versions)) rest
+
+module _ (before : List (List ℕ)) (x : List ℕ) where
+  head_of : (m : List ℕ) (f : EntryParts) (y : List ℕ) (next : IsEntryAt before x m f y) →
+      HasHead x m next.text.0 (parts_then f y)
+  head_of m f y next =
+      record { is_name = next.is_name; first = next.text.2 ∙ whole m next.text.0 f y }
+
+  -- no first line stands there
+  pub no_head : HasNoHead x → HasNoNext before x
+  no_head none m f y out next = none m next.text.0 (parts_then f y) (head_of m f y next)
+
+  module _ (name : List ℕ) (verdict : Verdict) (rest : List ℕ)
+      (head : HasHead x name verdict rest) where
+    same_head : (m : List ℕ) (f : EntryParts) (y : List ℕ) (next : IsEntryAt before x m f y) →
+        (name ≡ m) × (verdict ≡ next.text.0) × (rest ≡ parts_then f y)
+    same_head m f y next =
+        one_head x name m verdict next.text.0 rest (parts_then f y) head (head_of m f y next)
+
+    -- the name doesn't stand behind those of the others
+    pub not_behind : ¬ IsAscending (before ++ name ∷ []) → HasNoNext before x
+    not_behind falls m f y out next =
+        falls (subst (λ n. IsAscending (before ++ n ∷ [])) (sym (same_head m f y next).0)
+        next.behind)
+
+    pub no_parts : HasNoParts rest → HasNoNext before x
+    no_parts none m f y out next = none f y next.valid out (same_head m f y next).2
+
+    module _ (e : EntryParts) (behind : List ℕ) (parts : HasParts rest e behind) where
+      -- the verdict is another one
+      pub other_verdict : (right : Verdict) → Shows e right → ¬ (right ≡ verdict) →
+          HasNoNext before x
+      other_verdict right shows other m f y out next =
+          let same = same_head m f y next in
+          let entry = (parts.one f y next.valid out same.2).0 in
+          other (entry_verdict_one e right next.text.0 shows
+          (subst (λ g. Shows g next.text.0) (sym entry) next.text.1) ∙ sym same.1)
+
+      pub entry_read : IsAscending (before ++ name ∷ []) → Shows e verdict →
+          HasNext before x name e behind
+      entry_read rises shows = record {
+        next = record {
+          is_name = head.is_name;
+          behind = rises;
+          valid = parts.valid;
+          text = (
+            verdict,
+            shows,
+            head.first ∙ ap (λ z. line (head_line name verdict) ++ z) parts.lines
+                ∙ sym (whole name verdict e behind),
+          );
+        };
+        one = λ m f y next out.
+            let same = same_head m f y next in
+            let entry = parts.one f y next.valid out same.2 in (same.0, entry.0, entry.1);
+      }
+
+-- ---- what a table goes on with
+
+above_space : (b : ℕ) → is_plain b ≡ true → b ≡ 32 → ⊥
+above_space b h e = grind (arith, nat_tests)
+
+plain_first : (n x : List ℕ) → IsNormalName n → ¬ BeginsSpace (n ++ x)
+plain_first [] x h (rest, e) = none h
+  where
+    none : IsNormalName [] → ⊥
+    none h = cc h.0
+plain_first (b ∷ n) x h (rest, e) =
+    above_space b (and_first (is_plain b) (list_all is_plain n) (name_plain (b ∷ n) h)) (cc e)
+
+name_first : (name : List ℕ) (verdict : Verdict) (rest : List ℕ) →
+    line (head_line name verdict) ++ rest
+    ≡ name ++ (codes " " ++ verdict_word verdict ++ 10 ∷ rest)
+name_first name verdict rest =
+    append_assoc (head_line name verdict) (10 ∷ []) rest
+    ∙ append_assoc (name ++ codes " ") (verdict_word verdict) (10 ∷ rest)
+    ∙ append_assoc name (codes " ") (verdict_word verdict ++ 10 ∷ rest)
+
+pub table_outside : (t : TableParts) (x : List ℕ) → All IsNormalName (names t) → IsTableText t x →
+    ¬ BeginsSpace x
+table_outside [] x h e (rest, b) = cc (e, b)
+table_outside (p ∷ t) x h (verdict, behind, shows, more, e) begins =
+    let name = p.0 in
+    let back = codes " " ++ verdict_word verdict ++ 10 ∷ parts_then p.1 behind in
+    plain_first name back (All-head IsNormalName name (names t) h)
+    (subst BeginsSpace (e ∙ whole name verdict p.1 behind
+    ∙ name_first name verdict (parts_then p.1 behind)) begins)
+
+-- ---- an entry has some bytes
+
+some_bytes : (name : List ℕ) (verdict : Verdict) (e : EntryParts) (rest : List ℕ) →
+    length rest < length (entry_text name verdict e ++ rest)
+some_bytes name verdict e rest =
+    let all = ap length (whole name verdict e rest) in
+    let parts = parts_of e rest in
+    let more : length (line (head_line name verdict) ++ parts_then e rest)
+    ≡ length (line (head_line name verdict)) + length (parts_then e rest) =
+    length-append (line (head_line name verdict)) (parts_then e rest) in
+    let feed : length (line (head_line name verdict)) ≡ length (head_line name verdict) + 1 =
+    length-append (head_line name verdict) (10 ∷ []) in
+    omega (arith, all, parts, more, feed)
+  where
+    behind : (x y : List ℕ) → length y ≤ length (x ++ y)
+    behind x y = let sum = length-append x y in omega (arith, sum)
+
+    parts_of : (e : EntryParts) (rest : List ℕ) → length rest ≤ length (parts_then e rest)
+    parts_of e rest =
+        let one = behind (kind_lines (codes "range") (map range_text e.versions)) rest in
+        let two = behind (kind_lines (codes "text") e.texts) (ranges_then e rest) in
+        let three = behind (kind_lines (codes "url") e.urls) (texts_then e rest) in
+        let four = behind (kind_lines (codes "extra") e.extras) (urls_then e rest) in
+        omega (arith, one, two, three, four)
+
+pub shorter : (before : List (List ℕ)) (x name : List ℕ) (e : EntryParts) (rest : List ℕ) →
+    HasNext before x name e rest → length rest < length x
+shorter before x name e rest found =
+    let text = found.next.text in
+    subst (λ z. length rest < length z) (sym text.2) (some_bytes name text.0 e rest)
+
+-- ---- the loop
+
+-- these entries are read, and each table that has the text begins with them
+pub record EntriesSoFar (x : List ℕ) (t : TableParts) (rest : List ℕ) : Type 0 where
+  pub valid : IsValidTable t
+  pub done : (s : TableParts) → IsTableText s rest → IsTableText (t ++ s) x
+  pub goes_on : (s : TableParts) → IsValidTable s → IsTableText s x →
+      (more : TableParts) × (s ≡ t ++ more) × IsTableText more rest
+
+nothing_left : (l : List ℕ) → length l ≡ 0 → l ≡ []
+nothing_left [] e = refl
+nothing_left (b ∷ l) e = let none : ⊥ = omega (arith, e) in absurd none
+
+pub none_read : (x : List ℕ) → EntriesSoFar x [] x
+none_read x = record {
+  valid = record { names = (tt, All-nil _); entries = All-nil _ };
+  done = λ s h. h;
+  goes_on = λ s v h. (s, refl, h);
+}
+
+module _ (x : List ℕ) (t : TableParts) (rest : List ℕ) (s : EntriesSoFar x t rest) where
+  pub all_read : length rest ≡ 0 → IsTableText t x
+  all_read e =
+      subst (λ l. IsTableText l x) (append-nil t) (s.done [] (nothing_left rest e))
+
+  -- the next entry of a table that has the text
+  next_entry : ¬ (rest ≡ []) → (u : TableParts) → IsValidTable u → IsTableText u x →
+      (p : List ℕ × EntryParts) × (more : TableParts) × (y : List ℕ) × (u ≡ t ++ p ∷ more)
+      × IsEntryAt (names t) rest p.0 p.1 y × IsTableText more y × ¬ BeginsSpace y
+  next_entry some u valid has = let (more, split, left) = s.goes_on u valid has in by more split left
+    where
+      by : (more : TableParts) → u ≡ t ++ more → IsTableText more rest →
+          (p : List ℕ × EntryParts) × (more : TableParts) × (y : List ℕ) × (u ≡ t ++ p ∷ more)
+          × IsEntryAt (names t) rest p.0 p.1 y × IsTableText more y × ¬ BeginsSpace y
+      by [] split left = absurd (some left)
+      by (p ∷ more) split (verdict, y, shows, left, e) =
+          let all = subst IsValidTable split valid in
+          let in_order = subst IsAscending (map-append (λ q. q.0) t (p ∷ more)) all.names.0 in
+          let are_names =
+          all_behind IsNormalName (names t) (names (p ∷ more))
+          (subst (All IsNormalName) (map-append (λ q. q.0) t (p ∷ more)) all.names.1) in
+          let entries = all_behind (λ q. IsValidEntry q.1) t (p ∷ more) all.entries in (
+            p,
+            more,
+            y,
+            split,
+            record {
+              is_name = All-head IsNormalName p.0 (names more) are_names;
+              behind = ascending_front (names t) p.0 (names more) in_order;
+              valid = All-head (λ q. IsValidEntry q.1) p more entries;
+              text = (verdict, shows, e);
+            },
+            left,
+            table_outside more y (All-tail IsNormalName p.0 (names more) are_names) left,
+          )
+
+  pub no_next : ¬ (rest ≡ []) → HasNoNext (names t) rest → IsNoTableText x
+  no_next some none u valid has =
+      let next = next_entry some u valid has in none next.0.0 next.0.1 next.2 next.6 next.4
+
+  pub entry_more : (name : List ℕ) (e : EntryParts) (behind : List ℕ) → ¬ (rest ≡ []) →
+      HasNext (names t) rest name e behind → EntriesSoFar x (t ++ (name, e) ∷ []) behind
+  entry_more name e behind some found = record {
+    valid = record {
+      names = (
+        subst IsAscending (sym (map-append (λ q. q.0) t ((name, e) ∷ []))) found.next.behind,
+        subst (All IsNormalName) (sym (map-append (λ q. q.0) t ((name, e) ∷ [])))
+            (All-push IsNormalName (names t) name s.valid.names.1 found.next.is_name),
+      );
+      entries = All-push (λ q. IsValidEntry q.1) t (name, e) s.valid.entries found.next.valid;
+    };
+    done = λ u has. subst (λ l. IsTableText l x) (sym (append_assoc t ((name, e) ∷ []) u))
+        (s.done ((name, e) ∷ u)
+        (found.next.text.0, behind, found.next.text.1, has, found.next.text.2));
+    goes_on = λ u valid has.
+        let (p, more, y, split, at, left, out) = next_entry some u valid has in
+        let same = found.one p.0 p.1 y at out in (
+          more,
+          split ∙ (λ i. t ++ (sym same.0 i, sym same.1 i) ∷ more)
+              ∙ sym (append_assoc t ((name, e) ∷ []) more),
+          subst (IsTableText more) (sym same.2) left,
+        );
+  }

@@ -1,0 +1,42 @@
+use Rattle.std.proofs.Common.{◌≡◌, [], length, rules, subst, sym}
+use Rattle.std.proofs.lemmas.Result.{err_from_is_err_and}
+use Rattle.pep_table.proofs.ReadParts.{further}
+use Rattle.pep_table.proofs.ReadTables.{EntriesSoFar, all_read, entry_more, no_next}
+use Rattle.pep_table.specs.EntryReading.{HasNext, HasNoNext}
+use Rattle.pep_table.specs.Table.{names}
+use Rattle.pep_table.proofs.read.read_entries.Goals as goal
+
+pub returns-in_err-name-clause-refused : goal.returns-in_err-name-clause-refused
+returns-in_err-name-clause-refused c =
+    let entries = c.loop-rest.entries.items in
+    let rest = c.loop-rest.rest.now in
+    let some : ¬ (rest ≡ []) = search rules in
+    let p = err_from_is_err_and c.from_residual.result c.from_residual.ensures.1 in
+    rw (p.1, p.2) (further
+    (λ n. no_next c.args.text.now entries rest c.loop-rest.invariant.1 some
+    (subst (λ l. HasNoNext (names l) rest) c.as_slice.ensures.value n))
+    c.in_err-name.ensures.refused)
+
+pub loop-rest-preserved : goal.loop-rest-preserved
+loop-rest-preserved c =
+    let text = c.args.text.now in
+    let entries = c.loop-rest.entries.items in
+    let rest = c.loop-rest.rest.now in
+    let name = c.in_ok-name.name in
+    let entry = c.in_ok-name.entry in
+    let behind = c.in_ok-name.behind.now in
+    let some : ¬ (rest ≡ []) = search rules in
+    let found = subst (λ l. HasNext (names l) rest name entry behind) c.as_slice.ensures.value
+    c.in_ok-name.ensures.ok in (
+      search rules,
+      subst (λ l. EntriesSoFar text l behind) (sym c.in_ok-push.ensures.items)
+          (entry_more text entries rest c.loop-rest.invariant.1 name entry behind some found),
+    )
+
+pub returns-clause-ok : goal.returns-clause-ok
+returns-clause-ok c =
+    let empty : length c.loop-rest.rest.now ≡ 0 = search rules in (
+      c.loop-rest.invariant.1.valid,
+      all_read c.args.text.now c.loop-rest.entries.items c.loop-rest.rest.now
+          c.loop-rest.invariant.1 empty,
+    )

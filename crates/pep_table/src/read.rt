@@ -1,0 +1,218 @@
+// How a table's text is read, from its front, a line after the other.
+
+mod items;
+mod ranges;
+
+ghost use Rattle.std.specs.Prelude.{
+  ◌≡◌,
+  ◌⊎◌,
+  ◌↔◌,
+  ◌++◌,
+  ◌∷◌,
+  [],
+  IfErr,
+  IfOk,
+  IfSome,
+  IsTrue,
+  None,
+};
+ghost use Rattle.pep_require.specs.Requirement.{IsAscending};
+ghost use Rattle.pep_table.specs.EntryReading.{
+  HasHead,
+  HasNext,
+  HasNoHead,
+  HasNoNext,
+  HasNoParts,
+  HasParts,
+};
+ghost use Rattle.pep_table.specs.Table.{IsValidTable, names};
+ghost use Rattle.pep_table.specs.TableText.{IsBadTable, IsNoTableText, IsTableText};
+ghost use Rattle.pep_table.specs.Verdict.{verdict_word};
+
+use crate::entry::Entry;
+use crate::fault::TableFault;
+use crate::read::items::{Extras, Texts, Urls, listed_name, read_items};
+use crate::read::ranges::read_ranges;
+use crate::table::Table;
+use crate::verdict::Verdict;
+use pep_marker::Name;
+use std::alloc::{AllocError, AllocFailed, Global};
+
+/// Why reading stops: memory is wanting, or the line in front of this text can't stand there.
+pub(crate) enum Halt<'a> {
+    NoMemory,
+    At(&'a str),
+}
+
+impl From<AllocError> for Halt<'_> {
+    ghost use Rattle.std.specs.Prelude.{◌≡◌};
+    ghost use Rattle.pep_table.specs.declared.read.Halt.TheVariants.{NoMemory};
+
+    ghost from_gives = { λ _ e. e ≡ NoMemory };
+
+    fn from(_: AllocError) -> Self {
+        Halt::NoMemory
+    }
+}
+
+impl<T: Drop> From<AllocFailed<T>> for Halt<'_> {
+    ghost use Rattle.std.specs.Prelude.{◌≡◌};
+    ghost use Rattle.pep_table.specs.declared.read.Halt.TheVariants.{NoMemory};
+
+    ghost from_gives = { λ _ e. e ≡ NoMemory };
+
+    fn from(_: AllocFailed<T>) -> Self {
+        Halt::NoMemory
+    }
+}
+
+// No call that reading makes has another fault than want of memory.
+impl From<TableFault> for Halt<'_> {
+    ghost use Rattle.std.specs.Prelude.{◌≡◌};
+    ghost use Rattle.pep_table.specs.declared.read.Halt.TheVariants.{NoMemory};
+
+    ghost from_gives = { λ _ e. e ≡ NoMemory };
+
+    fn from(_: TableFault) -> Self {
+        Halt::NoMemory
+    }
+}
+
+// The verdict of a word.
+fn verdict_of(word: &str) -> Option<Verdict>
+    ensures some { IfSome result (λ verdict. verdict_word verdict ≡ word.now) }
+    ensures none { result ≡ None → (verdict : Verdict) → ¬ (verdict_word verdict ≡ word.now) }
+{
+    match word {
+        "open" => Some(Verdict::Possible),
+        "none" => Some(Verdict::Nothing),
+        "conflict" => Some(Verdict::Conflict),
+        _ => None,
+    }
+}
+
+// The name and the verdict of an entry's first line, and the text behind the line.
+fn read_head(alloc: Global, text: &str) -> Result<(Name, Verdict, &str), Halt<'_>>
+    ensures ok { IfOk result (λ r. HasHead text.now r.0 r.1 r.2.now) }
+    ensures refused { IfErr result (λ e. (e ≡ Halt.NoMemory) ⊎ HasNoHead text.now) }
+{
+    let Some((line, rest)) = text.split_once('\n') else {
+        return Err(Halt::At(text));
+    };
+    let Some((name, word)) = line.split_once(' ') else {
+        return Err(Halt::At(text));
+    };
+    let Some(verdict) = verdict_of(word) else {
+        return Err(Halt::At(text));
+    };
+    match listed_name(alloc, name)? {
+        Some(name) => Ok((name, verdict, rest)),
+        None => Err(Halt::At(text)),
+    }
+}
+
+// The parts of an entry behind its first line, and the text behind it.
+fn read_parts(alloc: Global, text: &str) -> Result<(Entry, &str), Halt<'_>>
+    ensures ok { IfOk result (λ r. HasParts text.now r.0 r.1.now) }
+    ensures refused { IfErr result (λ e. (e ≡ Halt.NoMemory) ⊎ HasNoParts text.now) }
+{
+    let (extras, rest) = read_items::<Extras>(alloc, text)?;
+    let (urls, rest) = read_items::<Urls>(alloc, rest)?;
+    let (texts, rest) = read_items::<Texts>(alloc, rest)?;
+    let (versions, rest) = read_ranges(alloc, rest)?;
+    Ok((Entry::of(extras, urls, texts, versions), rest))
+}
+
+// Where the entry at the front of this text has a wrong verdict: there, unless the line behind the
+// entry can't stand after it.
+fn wrong_verdict<'a>(alloc: Global, name: &Name, text: &'a str, behind: &'a str) -> Halt<'a> {
+    if behind.is_empty() {
+        return Halt::At(text);
+    }
+    match read_head(alloc, behind) {
+        Ok((next, _, _)) if *name < next => Halt::At(text),
+        Ok(_) => Halt::At(behind),
+        Err(halt) => halt,
+    }
+}
+
+// Whether the name stands behind those of the entries.
+fn is_behind(entries: &[(Name, Entry)], name: &Name) -> bool
+    requires { IsAscending (names entries.now) }
+    ensures { IsTrue result ↔ IsAscending (names entries.now ++ name.now ∷ []) }
+{
+    match entries.last() {
+        Some((last, _)) => last < name,
+        None => true,
+    }
+}
+
+// The entry in front, whose name stands behind those of the others, and the text behind it.
+fn read_entry<'a>(
+    alloc: Global,
+    entries: &[(Name, Entry)],
+    text: &'a str,
+) -> Result<(Name, Entry, &'a str), Halt<'a>>
+    requires { IsAscending (names entries.now) }
+    ensures ok { IfOk result (λ r. HasNext (names entries.now) text.now r.0 r.1 r.2.now) }
+    ensures refused { IfErr result (λ e. (e ≡ Halt.NoMemory)
+        ⊎ HasNoNext (names entries.now) text.now) }
+{
+    let (name, verdict, parts) = read_head(alloc, text)?;
+    if !is_behind(entries, &name) {
+        return Err(Halt::At(text));
+    }
+    let (entry, behind) = read_parts(alloc, parts)?;
+    if entry.verdict(alloc)? != verdict {
+        return Err(wrong_verdict(alloc, &name, text, behind));
+    }
+    Ok((name, entry, behind))
+}
+
+// The entries of a table's text.
+fn read_entries(alloc: Global, text: &str) -> Result<Vec<(Name, Entry)>, Halt<'_>>
+    ensures ok { IfOk result (λ entries. IsValidTable entries.items
+        × IsTableText entries.items text.now) }
+    ensures refused { IfErr result (λ e. (e ≡ Halt.NoMemory) ⊎ IsNoTableText text.now) }
+{
+    let mut entries = Vec::new(alloc);
+    let mut rest = text;
+    while !rest.is_empty() {
+        let (name, entry, behind) = read_entry(alloc, entries.as_slice(), rest)?;
+        entries.push((name, entry))?;
+        rest = behind;
+    }
+    Ok(entries)
+}
+
+// The number of the line at which this rest of the text begins, counted from 1.
+fn line_number(text: &str, rest: &str) -> usize {
+    match text.strip_suffix(rest) {
+        Some(front) => 1
+            + front
+                .as_bytes()
+                .iter()
+                .filter(|byte| **byte == b'\n')
+                .count(),
+        None => 1,
+    }
+}
+
+impl Table {
+    /// The table whose text this is, as `Table::text` writes it, the verdict words included. The
+    /// fault `BadTable`, 41, names the first line, counted from 1, that can't stand after those
+    /// before it: for a wrong verdict the first line of its entry, unless the line behind the entry
+    /// can't stand there; for a last line without a line feed that line. Any other is `NoMemory`, 42.
+    pub fn read(alloc: Global, text: &str) -> Result<Table, TableFault>
+        ensures text { IfOk result (λ t. IsTableText t text.now) }
+        ensures valid { IfOk result (λ t. IsValidTable t) }
+        ensures refused { IfErr result (λ e. (e ≡ TableFault.NoMemory)
+            ⊎ IsBadTable text.now e) }
+    {
+        match read_entries(alloc, text) {
+            Ok(entries) => Ok(Table::of_entries(entries)),
+            Err(Halt::NoMemory) => Err(TableFault::NoMemory),
+            Err(Halt::At(rest)) => Err(TableFault::BadTable(line_number(text, rest))),
+        }
+    }
+}

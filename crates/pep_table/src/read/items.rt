@@ -1,0 +1,214 @@
+// Lines of one kind: extras, URLs and demanded texts.
+
+ghost use Rattle.std.specs.Prelude.{
+  ◌≡◌,
+  ◌⊎◌,
+  ◌↔◌,
+  ◌++◌,
+  ◌&&◌,
+  ◌∷◌,
+  [],
+  All,
+  IfErr,
+  IfOk,
+  IfSome,
+  IsTrue,
+  List,
+  None,
+  codes,
+  map,
+  not,
+  ℕ,
+};
+ghost use Rattle.std.specs.Char.{is_ascii_uppercase};
+ghost use Rattle.std.specs.List.{list_all};
+ghost use Rattle.pep_clause.specs.Clause.{is_clause_byte, is_demanded_text};
+ghost use Rattle.pep_require.specs.Reads.{is_url_byte};
+ghost use Rattle.pep_marker.specs.Name.{IsNormalName};
+ghost use Rattle.pep_require.specs.Requirement.{IsAscending};
+ghost use Rattle.pep_table.specs.Table.{is_url_text};
+ghost use Rattle.pep_table.specs.TableReading.{AreItems, Front, HasNoFront, kind_front};
+
+use crate::fault::TableFault;
+use crate::read::Halt;
+use crate::sorted::{Kept, Sorted};
+use pep_clause::is_clause_byte;
+use pep_marker::{MarkerFault, Name};
+use std::alloc::Global;
+
+/// A kind of lines.
+pub(crate) trait Kind {
+    ghost use Rattle.std.specs.Prelude.{List, ℕ};
+
+    /// What stands on them.
+    type Item: Kept;
+
+    /// The word of the kind.
+    ghost word: { List ℕ };
+
+    /// Holds of the texts that may stand behind it.
+    ghost is_item: { List ℕ → Type 0 };
+
+    /// What stands in front of such a text.
+    fn front() -> &'static str
+        ensures { result.now ≡ kind_front word };
+
+    /// The item of a text, if it may stand there.
+    fn item(alloc: Global, text: &str) -> Result<Option<Self::Item>, TableFault>
+        ensures some { IfOk result (λ r. IfSome r (λ x.
+            (Self.Item.text x ≡ text.now) × is_item text.now)) }
+        ensures none { IfOk result (λ r. r ≡ None → ¬ is_item text.now) }
+        ensures faults { IfErr result (λ e. e ≡ TableFault.NoMemory) };
+}
+
+/// The lines of extras.
+pub(crate) enum Extras {}
+
+/// The lines of URLs.
+pub(crate) enum Urls {}
+
+/// The lines of demanded texts.
+pub(crate) enum Texts {}
+
+/// The name whose text this is.
+pub(crate) fn listed_name(alloc: Global, text: &str) -> Result<Option<Name>, TableFault>
+    ensures some { IfOk result (λ r. IfSome r (λ x. (x ≡ text.now) × IsNormalName text.now)) }
+    ensures none { IfOk result (λ r. r ≡ None → ¬ IsNormalName text.now) }
+    ensures faults { IfErr result (λ e. e ≡ TableFault.NoMemory) }
+{
+    match Name::read(alloc, text) {
+        Ok(name) if name.text() == text => Ok(Some(name)),
+        Err(MarkerFault::NoMemory) => Err(TableFault::NoMemory),
+        _ => Ok(None),
+    }
+}
+
+impl Kind for Extras {
+    ghost use Rattle.std.specs.Prelude.{codes};
+    ghost use Rattle.pep_marker.specs.Name.{IsNormalName};
+
+    type Item = Name;
+
+    ghost word = { codes "extra" };
+
+    ghost is_item = { IsNormalName };
+
+    fn front() -> &'static str {
+        "  extra "
+    }
+
+    fn item(alloc: Global, text: &str) -> Result<Option<Name>, TableFault> {
+        listed_name(alloc, text)
+    }
+}
+
+fn has_url_bytes(text: &str) -> bool
+    ensures { result ≡ list_all is_url_byte text.now }
+{
+    text.as_bytes().iter().all(|b| 33 <= *b && *b <= 126)
+}
+
+fn is_url_text(text: &str) -> bool
+    ensures { result ≡ is_url_text text.now }
+{
+    !text.is_empty() && has_url_bytes(text)
+}
+
+fn has_demanded_bytes(text: &str) -> bool
+    ensures { result ≡ list_all (λ b. is_clause_byte b && not (is_ascii_uppercase b)) text.now }
+{
+    text.as_bytes()
+        .iter()
+        .all(|b| is_clause_byte(*b) && !b.is_ascii_uppercase())
+}
+
+fn is_demanded_text(text: &str) -> bool
+    ensures { result ≡ is_demanded_text text.now }
+{
+    !text.is_empty() && has_demanded_bytes(text)
+}
+
+impl Kind for Urls {
+    ghost use Rattle.std.specs.Prelude.{IsTrue, codes};
+    ghost use Rattle.pep_table.specs.Table.{is_url_text};
+
+    type Item = String;
+
+    ghost word = { codes "url" };
+
+    ghost is_item = { λ x. IsTrue (is_url_text x) };
+
+    fn front() -> &'static str {
+        "  url "
+    }
+
+    fn item(alloc: Global, text: &str) -> Result<Option<String>, TableFault> {
+        if is_url_text(text) {
+            Ok(Some(String::from_str(alloc, text)?))
+        } else {
+            Ok(None)
+        }
+    }
+}
+
+impl Kind for Texts {
+    ghost use Rattle.std.specs.Prelude.{IsTrue, codes};
+    ghost use Rattle.pep_clause.specs.Clause.{is_demanded_text};
+
+    type Item = String;
+
+    ghost word = { codes "text" };
+
+    ghost is_item = { λ x. IsTrue (is_demanded_text x) };
+
+    fn front() -> &'static str {
+        "  text "
+    }
+
+    fn item(alloc: Global, text: &str) -> Result<Option<String>, TableFault> {
+        if is_demanded_text(text) {
+            Ok(Some(String::from_str(alloc, text)?))
+        } else {
+            Ok(None)
+        }
+    }
+}
+
+// Whether the item stands behind the others.
+fn is_behind<T: Kept>(items: &[T], item: &T) -> bool
+    requires { IsAscending (map T.text items.now) }
+    ensures { IsTrue result ↔ IsAscending (map T.text items.now ++ T.text item.now ∷ []) }
+{
+    match items.last() {
+        Some(last) => last.cmp(item).is_lt(),
+        None => true,
+    }
+}
+
+/// The items of all lines of the kind in front, each of which stands behind the one before, and the
+/// text behind them.
+pub(crate) fn read_items<K: Kind>(
+    alloc: Global,
+    text: &str,
+) -> Result<(Sorted<K::Item>, &str), Halt<'_>>
+    ensures ok { IfOk result (λ r. Front K.word text.now r.0 r.1.now × AreItems K.is_item r.0) }
+    ensures refused { IfErr result (λ e. (e ≡ Halt.NoMemory)
+        ⊎ HasNoFront K.word (AreItems K.is_item) text.now) }
+{
+    let mut items = Vec::new(alloc);
+    let mut rest = text;
+    while let Some(line) = rest.strip_prefix(K::front()) {
+        let Some((item, behind)) = line.split_once('\n') else {
+            return Err(Halt::At(rest));
+        };
+        let Some(item) = K::item(alloc, item)? else {
+            return Err(Halt::At(rest));
+        };
+        if !is_behind(items.as_slice(), &item) {
+            return Err(Halt::At(rest));
+        }
+        items.push(item)?;
+        rest = behind;
+    }
+    Ok((Sorted::of_ascending(items), rest))
+}

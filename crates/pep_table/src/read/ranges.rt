@@ -1,0 +1,116 @@
+// The lines of ranges.
+
+ghost use Rattle.std.specs.Prelude.{
+  ◌≡◌,
+  ◌⊎◌,
+  ◌↔◌,
+  ◌++◌,
+  ◌∷◌,
+  [],
+  IfErr,
+  IfOk,
+  IfSome,
+  IsTrue,
+  None,
+  Some,
+  codes,
+  map,
+};
+ghost use Rattle.pep_clause.specs.Cut.{Cut, IsCut, cut_text};
+ghost use Rattle.pep_clause.specs.VersionSet.{IsNormal, Range};
+ghost use Rattle.pep_table.specs.TableReading.{AreRanges, Front, HasNoFront, IsRange};
+ghost use Rattle.pep_table.specs.TableText.{range_text};
+
+use crate::fault::TableFault;
+use crate::read::Halt;
+use pep_clause::{Cut, Range, VersionSet};
+use std::alloc::Global;
+
+fn cut_of(alloc: Global, text: &str) -> Result<Option<Cut>, TableFault>
+    ensures read { IfOk result (λ read. (c : Cut) → IsCut c
+        → ((read ≡ Some c) ↔ (cut_text c ≡ text.now))) }
+    ensures spelled { IfOk result (λ read. IfSome read (λ c. IsCut c)) }
+    ensures faults { IfErr result (λ e. e ≡ TableFault.NoMemory) }
+{
+    match Cut::read(alloc, text) {
+        Ok(cut) => Ok(cut),
+        Err(_) => Err(TableFault::NoMemory),
+    }
+}
+
+// The texts of the two cuts: in front of the third space, with "to" behind the second, and behind
+// it.
+fn cut_texts(text: &str) -> Option<(&str, &str)>
+    ensures some { IfSome result (λ p. text.now ≡ p.0.now ++ codes " to " ++ p.1.now) }
+    ensures none { result ≡ None → (r : Range) → IsRange r → ¬ (range_text r ≡ text.now) }
+    ensures first { IfSome result (λ p. (r : Range) → IsRange r → range_text r ≡ text.now
+        → (p.0.now ≡ cut_text r.low) × (p.1.now ≡ cut_text r.high)) }
+{
+    let (_, version) = text.split_once(' ')?;
+    let (_, rest) = version.split_once(' ')?;
+    let high = rest.strip_prefix("to ")?;
+    let low = text.strip_suffix(rest)?.strip_suffix(" ")?;
+    Some((low, high))
+}
+
+// The range of a text, if it is one's.
+fn range_of(alloc: Global, text: &str) -> Result<Option<Range>, TableFault>
+    ensures some { IfOk result (λ read. IfSome read (λ r.
+        (range_text r ≡ text.now) × IsRange r)) }
+    ensures none { IfOk result (λ read. read ≡ None → (r : Range) → IsRange r
+        → ¬ (range_text r ≡ text.now)) }
+    ensures faults { IfErr result (λ e. e ≡ TableFault.NoMemory) }
+{
+    let Some((low, high)) = cut_texts(text) else {
+        return Ok(None);
+    };
+    let Some(low) = cut_of(alloc, low)? else {
+        return Ok(None);
+    };
+    let Some(high) = cut_of(alloc, high)? else {
+        return Ok(None);
+    };
+    Ok(Range::of(low, high))
+}
+
+// Whether the range begins above the end of the others.
+fn is_behind(ranges: &[Range], range: &Range) -> bool
+    requires { IsNormal ranges.now }
+    ensures { IsTrue result ↔ IsNormal (ranges.now ++ range.now ∷ []) }
+{
+    // Its clauses tell that it is one.
+    let (low, _) = (range.low(), range.high());
+    match ranges.last() {
+        Some(last) => last.high() < low,
+        None => true,
+    }
+}
+
+/// The set of the ranges on all lines of ranges in front, and the text behind them.
+pub(crate) fn read_ranges(alloc: Global, text: &str) -> Result<(VersionSet, &str), Halt<'_>>
+    ensures ok { IfOk result (λ r. Front (codes "range") text.now (map range_text r.0) r.1.now
+        × IsNormal r.0) }
+    ensures refused { IfErr result (λ e. (e ≡ Halt.NoMemory)
+        ⊎ HasNoFront (codes "range") AreRanges text.now) }
+{
+    let mut ranges = Vec::new(alloc);
+    let mut rest = text;
+    while let Some(line) = rest.strip_prefix("  range ") {
+        let Some((range, behind)) = line.split_once('\n') else {
+            return Err(Halt::At(rest));
+        };
+        let Some(range) = range_of(alloc, range)? else {
+            return Err(Halt::At(rest));
+        };
+        if !is_behind(ranges.as_slice(), &range) {
+            return Err(Halt::At(rest));
+        }
+        ranges.push(range)?;
+        rest = behind;
+    }
+    // Each range was above the one before, so they are a set's.
+    match VersionSet::of_ranges(ranges) {
+        Some(versions) => Ok((versions, rest)),
+        None => Err(Halt::At(rest)),
+    }
+}
