@@ -19,7 +19,7 @@ pub(crate) const MACHINE: &str = "os_name = \"posix\"\nsys_platform = \"linux\"\
 
 // The word as it is given to the program: the path of a file in the folder, where it names one.
 fn word_in(rt: &HostRuntime, folder: &PathBuf, word: &str) -> Result<String, Fail> {
-    if word.ends_with(".txt") || word.ends_with(".toml") {
+    if word.ends_with(".txt") || word.ends_with(".toml") || word.ends_with(".table") {
         let path = folder.join(rt.alloc(), word)?;
         return Ok(String::from_str(rt.alloc(), path.as_str())?);
     }
@@ -220,7 +220,20 @@ fn checks_of_one_list(rt: HostRuntime) -> Result<(), Fail> {
 }
 
 // Files of several kinds, by their names.
-const FILES: [(&str, &str); 10] = [
+const FILES: [(&str, &str); 17] = [
+    ("flask.table", FLASK),
+    (
+        "bad.table",
+        "flask none\n  range before 2 to before 3.dev0\n",
+    ),
+    (
+        "touching.table",
+        "a open\n  range before 1 to before 2\n  range before 2 to end\n",
+    ),
+    ("spelled.table", "a open\n  range before 1.0 to end\n"),
+    ("two_urls.table", CONFLICT),
+    ("a.txt", "a>=1"),
+    ("not21.txt", "flask!=2.1"),
     ("demo.toml", DEMO),
     (
         "dynamic.toml",
@@ -243,7 +256,7 @@ const FILES: [(&str, &str); 10] = [
 const FLASK: &str = "flask open\n  range before 2 to before 3.dev0\n";
 
 // An environment's file, files, what is printed of them, or else the line that is told.
-const SEVERAL: [(&str, &[&str], &str, &str); 16] = [
+const SEVERAL: [(&str, &[&str], &str, &str); 23] = [
     (
         "machine.toml",
         &["one.txt", "two.txt", "three.txt"],
@@ -325,6 +338,49 @@ const SEVERAL: [(&str, &[&str], &str, &str); 16] = [
         "refused environment code 58\n",
     ),
     ("bad.txt", &["one.txt"], "", "refused environment code 52\n"),
+    (
+        "machine.toml",
+        &["not21.txt", "flask.table"],
+        "flask open\n  range before 2 to before 2.1\n  \
+         range before 2.1.post0.dev0 to before 3.dev0\n",
+        "",
+    ),
+    (
+        "machine.toml",
+        &["two_urls.table", "a.txt"],
+        "a conflict\n  url https://x.test/1\n  url https://x.test/2\n  range before 1 to end\n",
+        "",
+    ),
+    (
+        "machine.toml",
+        &["bad.table"],
+        "",
+        "refused input 1 line 1 code 57 41\n",
+    ),
+    (
+        "machine.toml",
+        &["touching.table"],
+        "",
+        "refused input 1 line 3 code 57 41\n",
+    ),
+    (
+        "machine.toml",
+        &["spelled.table"],
+        "",
+        "refused input 1 line 2 code 57 41\n",
+    ),
+    (
+        "machine.toml",
+        &["one.txt", "bad.table"],
+        "",
+        "refused input 2 line 1 code 57 41\n",
+    ),
+    (
+        "machine.toml",
+        &["flask.table", "none.table"],
+        "",
+        "refused input 2 code 58\n",
+    ),
 ];
 
 // A folder with these files, and a folder among them.
@@ -370,12 +426,34 @@ fn merges_of_several_files(rt: HostRuntime) -> Result<(), Fail> {
 }
 
 #[test]
+fn checks_of_a_table(rt: HostRuntime) -> Result<(), Fail> {
+    let folder = with_machine(&rt, "checked_table")?;
+    write_file(&rt, &folder, "flask.table", FLASK.as_bytes())?;
+    write_file(&rt, &folder, "not21.txt", b"flask!=2.1")?;
+    for &(version, line) in &[("2.0", "yes\n"), ("2.1", "no\n"), ("3.0", "no\n")] {
+        let words = [
+            "check",
+            "--env",
+            "machine.toml",
+            "flask",
+            version,
+            "flask.table",
+            "not21.txt",
+        ];
+        let it = ran(&rt, &folder, &words)?;
+        is_told(&rt, &it, line, "", u8::from(line != "yes\n"));
+    }
+    fs::remove_dir_all(&rt, folder.as_path())?;
+    Ok(())
+}
+
+#[test]
 fn files_over_the_limit(rt: HostRuntime) -> Result<(), Fail> {
     let folder = with_machine(&rt, "limit")?;
     let part = list(rt.alloc(), &[(b"#", 65535), (b"\n", 1)])?;
     let pieces: Pieces = &[(part.as_slice(), 256), (b"\n", 1)];
     let large = list(rt.alloc(), pieces)?;
-    for &name in &["large.txt", "large.toml"] {
+    for &name in &["large.txt", "large.toml", "large.table"] {
         write_file(&rt, &folder, name, large.as_slice())?;
         let it = merged(&rt, &folder, "machine.toml", &[name])?;
         is_told(&rt, &it, "", "refused input 1 code 56\n", 2);

@@ -34,6 +34,13 @@ fn codes(rt: HostRuntime) -> Result<(), Fail> {
         &rt,
         &LineFault::Undefined,
         "a marker is undefined in the environment",
+    )?;
+    assert_eq!(rt; LineFault::BadTable.code(), 41);
+    assert!(rt; LineFault::BadTable.inner_code().is_none());
+    is_told(
+        &rt,
+        &LineFault::BadTable,
+        "not a line that a table has there",
     )
 }
 
@@ -59,6 +66,7 @@ fn codes_of_causes(rt: HostRuntime) -> Result<(), Fail> {
             "a faulty argument: not a name",
         ),
         (Cause::WriteFault, 63, "a write failed"),
+        (Cause::NoRequirements, 64, "a table has no requirements"),
     ] {
         assert_eq!(rt; cause.code(), *code);
         is_told(&rt, cause, text)?;

@@ -104,6 +104,28 @@ fn lists_that_are_refused(rt: HostRuntime) -> Result<(), Fail> {
     Ok(())
 }
 
+// A table file has no lines to show, whether or not it can be opened.
+#[test]
+fn table_files(rt: HostRuntime) -> Result<(), Fail> {
+    let folder = OneFile {
+        path: "r",
+        bytes: b"a",
+    };
+    for path in &["t.table", ".table", "r/x.toml.table"] {
+        is_refused(
+            &rt,
+            &ran(rt.alloc(), &folder, path)?,
+            "refused input 1 code 64\n",
+        );
+    }
+    is_refused(
+        &rt,
+        &ran(rt.alloc(), &folder, "t.Table")?,
+        "refused input 1 code 58\n",
+    );
+    Ok(())
+}
+
 #[test]
 fn many_lines(rt: HostRuntime) -> Result<(), Fail> {
     let mut list = String::new(rt.alloc());

@@ -52,3 +52,5 @@ mod requirements;
 mod standard;
 #[cfg(test)]
 mod streams;
+#[cfg(test)]
+mod table_files;

@@ -10,8 +10,8 @@ use std::alloc::{AllocError, AllocGlobal, Global};
 use std::process::Abort;
 use std::test::Fail;
 
-// An input's kind and its text.
-type Part<'a> = (Kind, &'a str);
+/// An input's kind and its text.
+pub(crate) type Part<'a> = (Kind, &'a str);
 
 fn input(alloc: Global, kind: Kind, text: &str) -> Result<Input, Fault> {
     let bytes = Vec::from_slice(alloc, text.as_bytes())?;
@@ -27,7 +27,7 @@ fn inputs_of(alloc: Global, parts: &[Part]) -> Result<Vec<Input>, Fault> {
 }
 
 // The table of the inputs on the machine with this extra, or the line of the fault.
-fn told(alloc: Global, parts: &[Part], extra: &str) -> Result<String, Fault> {
+pub(crate) fn told(alloc: Global, parts: &[Part], extra: &str) -> Result<String, Fault> {
     let machine = machine_with(alloc, extra)?;
     let inputs = inputs_of(alloc, parts)?;
     match merge_bytes(alloc, inputs.as_slice(), &machine) {
@@ -37,7 +37,7 @@ fn told(alloc: Global, parts: &[Part], extra: &str) -> Result<String, Fault> {
 }
 
 // Whether the version of the package meets there what the inputs demand.
-fn answer(
+pub(crate) fn answer(
     alloc: Global,
     parts: &[Part],
     extra: &str,
@@ -51,14 +51,14 @@ fn answer(
     check_bytes(alloc, inputs.as_slice(), &machine, &name, &version, false)
 }
 
-const LIST: Part = (
+pub(crate) const LIST: Part = (
     Kind::List,
     "# Flask!=2.2\nflask!=2.1\nFlask<3; extra == 'dev_tools'\npytest[x]>=7.2\n",
 );
 
-const PROJECT: Part = (Kind::Project, DEMO);
+pub(crate) const PROJECT: Part = (Kind::Project, DEMO);
 
-const OTHER: Part = (
+pub(crate) const OTHER: Part = (
     Kind::Project,
     "[project.optional-dependencies]\ndev-Tools = ['pytest @ https://x.test/1']\nx = ['a', '-']\n\
      [project]\ndependencies = ['Tomli<2']\n",
@@ -83,7 +83,7 @@ const ORDERS: [&[Part]; 8] = [
 ];
 
 // Their table without an extra, and with `dev-tools`.
-const TABLES: [(&str, &str); 2] = [
+pub(crate) const TABLES: [(&str, &str); 2] = [
     (
         "",
         "flask open\n  range before 2 to before 2.1\n  range before 2.1.post0.dev0 to end\n\

@@ -1,5 +1,5 @@
 -- Which inputs are accepted in an environment, and the table of what they demand there.
-use Rattle.std.proofs.Common.{◌≡◌, ℕ, ◌⊎◌, List, [], ◌∷◌, subst, inl, inr}
+use Rattle.std.proofs.Common.{◌≡◌, ℕ, ◌⊎◌, arith, List, [], ◌∷◌, subst, inl, inr}
 use Rattle.std.specs.Prelude.{All, ◌↔◌}
 use Rattle.std.specs.List.{AllZip}
 use Rattle.std.proofs.lemmas.List.Elements.{All-cons, All-head, All-nil, All-tail}
@@ -13,15 +13,21 @@ use Rattle.pep_table.proofs.SameDemands.{same_demands}
 use Rattle.pep_table.proofs.Taking.{applying_is_table, no_demands}
 use Rattle.pep_table.specs.Demand.{ApplyingDemands, Demand, Demands, Together}
 use Rattle.pep_table.specs.Gathering.{TakesApplying}
-use Rattle.pep_table.specs.Table.{HasExactPoints, IsTable, TableParts}
+use Rattle.pep_table.specs.Table.{HasExactPoints, IsTable, IsValidTable, TableDemands}
+use Rattle.pep_table.specs.Table.{TableParts}
+use Rattle.pep_table.proofs.JoinedDemands.{joined_is_table, own_table}
+use Rattle.pep_table.proofs.OneTableOfText.{one_table_of_text}
+use Rattle.pep_table.proofs.TableBytes.{table_utf8}
 use Rattle.pep_tool.specs.declared.fault.Cause.{Cause}
 use Rattle.pep_tool.specs.declared.input.Input.{Input}
 use Rattle.pep_tool.specs.declared.input.Kind.{Kind}
 use Rattle.pep_tool.specs.declared.input.Kind.TheVariants as kind
 use Rattle.pep_tool.specs.GatheredLines.{GathersInputs}
 use Rattle.pep_tool.specs.Gathered.{AcceptsBytes, BytesDemand, Gathered, IsAccepted}
-use Rattle.pep_tool.specs.Lists.{IsListBy, IsRequirementList, Lists, content, requirement_lines}
+use Rattle.pep_tool.specs.Lists.{HoldsTable, IsListBy, IsRequirementList, Lists, content}
+use Rattle.pep_tool.specs.Lists.{requirement_lines}
 use Rattle.pep_tool.specs.Refusal.{IsOverflow, IsRefused, IsUndefinedList}
+use Rattle.pep_tool.specs.TableFiles.{IsRefusedTable, IsTableFile, by_encoding, by_size, by_text}
 use Rattle.pep_tool.proofs.DefinedMarkers.{both_markers}
 use Rattle.pep_tool.proofs.ListLemmas.{line_of_list, refused_list}
 use Rattle.pep_tool.proofs.Projects.{one_project, refused_project, undefined_project}
@@ -63,14 +69,25 @@ undefined_list e bytes c rs u s h =
     both_markers e u.undefined.requirement (subst (HasDefinedMarker e) same own.1.1)
     u.undefined.undefined
 
+refused_table : (bytes : List ℕ) (c : Cause) (t : TableParts) → IsRefusedTable bytes c →
+    ¬ IsTableFile bytes t
+refused_table bytes c t (by_size over is) file = omega (arith, over, file.size)
+refused_table bytes c t (by_encoding size not is) file =
+    not (table_utf8 t bytes file.valid file.text)
+refused_table bytes c t (by_text line size text none is) file = none t file.valid file.text
+
 refused_bytes : (e : EnvironmentParts) (k : Kind) (bytes : List ℕ) (c : Cause) → ¬ IsOverflow c →
     IsRefused e k bytes c → ¬ AcceptsBytes e k bytes
-refused_bytes e kind.List bytes c told (inl h) a =
-    refused_list bytes c a.0 told h a.1
-refused_bytes e kind.List bytes c told (inr h) a = undefined_list e bytes c a.0 h a.1 a.2
-refused_bytes e kind.Project bytes c told (inl h) a =
+refused_bytes e kind.List bytes c told (inl h) (inl a) = refused_list bytes c a.0 told h a.1
+refused_bytes e kind.List bytes c told (inr h) (inl a) = undefined_list e bytes c a.0 h a.1 a.2
+refused_bytes e kind.List bytes c told h (inr a) = absurd a.1
+refused_bytes e kind.Project bytes c told (inl h) (inl a) =
     refused_project e.extra bytes c a.0 told h a.1
-refused_bytes e kind.Project bytes c told (inr h) a = undefined_project e bytes c a.0 h a.1 a.2
+refused_bytes e kind.Project bytes c told (inr h) (inl a) =
+    undefined_project e bytes c a.0 h a.1 a.2
+refused_bytes e kind.Project bytes c told h (inr a) = absurd a.1
+refused_bytes e kind.Table bytes c told h (inl a) = absurd a.1
+refused_bytes e kind.Table bytes c told h (inr a) = refused_table bytes c a.0 h a.1
 
 pub refused_in : (e : EnvironmentParts) (i : Input) (c : Cause) → ¬ IsOverflow c →
     IsRefused e i.kind i.bytes.items c → ¬ IsAccepted e i
@@ -87,9 +104,11 @@ defined_all e old (r ∷ rs) new t =
 pub all_accepted_in : (e : EnvironmentParts) (inputs : List Input) (old new : TableParts) →
     GathersInputs e inputs old new → All (IsAccepted e) inputs
 all_accepted_in e [] old new g = All-nil (IsAccepted e)
-all_accepted_in e (i ∷ inputs) old new (mid, (rs, is, takes), more) =
-    All-cons (IsAccepted e) i inputs (rs, is, defined_all e old rs mid takes)
+all_accepted_in e (i ∷ inputs) old new (mid, inl (rs, is, takes), more) =
+    All-cons (IsAccepted e) i inputs (inl (rs, is, defined_all e old rs mid takes))
     (all_accepted_in e inputs mid new more)
+all_accepted_in e (i ∷ inputs) old new (mid, inr (t, is, joins), more) =
+    All-cons (IsAccepted e) i inputs (inr (t, is)) (all_accepted_in e inputs mid new more)
 
 -- ---- the table of what they demand
 
@@ -98,15 +117,45 @@ pub one_list : (extra : List ℕ) (k : Kind) (bytes : List ℕ) (rs qs : List Re
 one_list extra kind.List bytes rs qs h g =
     AllZip-one Reads one_requirement (requirement_lines bytes) rs qs h.requirements g.requirements
 one_list extra kind.Project bytes rs qs h g = one_project extra bytes rs qs h g
+one_list extra kind.Table bytes rs qs h g = absurd h
+
+-- bytes that are requirements are no table
+apart : (extra : List ℕ) (k : Kind) (bytes : List ℕ) (rs : List RequirementParts)
+    (t : TableParts) → Lists extra k bytes rs → HoldsTable k bytes t → ⊥
+apart extra kind.List bytes rs t h g = g
+apart extra kind.Project bytes rs t h g = g
+apart extra kind.Table bytes rs t h g = h
+
+pub one_table_in : (k : Kind) (bytes : List ℕ) (s t : TableParts) → HoldsTable k bytes s →
+    HoldsTable k bytes t → s ≡ t
+one_table_in kind.List bytes s t h g = absurd h
+one_table_in kind.Project bytes s t h g = absurd h
+one_table_in kind.Table bytes s t h g = one_table_of_text s t bytes h.text g.text h.valid g.valid
+
+holds_valid : (k : Kind) (bytes : List ℕ) (t : TableParts) → HoldsTable k bytes t → IsValidTable t
+holds_valid kind.List bytes t h = absurd h
+holds_valid kind.Project bytes t h = absurd h
+holds_valid kind.Table bytes t h = h.valid
 
 bytes_demand_in : (e : EnvironmentParts) (k : Kind) (bytes : List ℕ) (rs : List RequirementParts)
     (name : List ℕ) (d : Demand) → Lists e.extra k bytes rs →
     ApplyingDemands e rs name d ↔ BytesDemand e k bytes name d
-bytes_demand_in e k bytes rs name d is = (
-  λ h. (rs, is, h),
-  λ h. subst (λ (qs : List RequirementParts). ApplyingDemands e qs name d)
-      (one_list e.extra k bytes h.0 rs h.1 is) h.2,
-)
+bytes_demand_in e k bytes rs name d is = (λ h. inl (rs, is, h), back)
+  where
+    back : BytesDemand e k bytes name d → ApplyingDemands e rs name d
+    back (inl h) = subst (λ (qs : List RequirementParts). ApplyingDemands e qs name d)
+        (one_list e.extra k bytes h.0 rs h.1 is) h.2
+    back (inr h) = absurd (apart e.extra k bytes rs h.0 is h.1)
+
+pub table_demands_in : (e : EnvironmentParts) (k : Kind) (bytes : List ℕ) (t : TableParts)
+    (name : List ℕ) (d : Demand) → HoldsTable k bytes t →
+    TableDemands t name d ↔ BytesDemand e k bytes name d
+table_demands_in e k bytes t name d is = (λ h. inr (t, is, h), back)
+  where
+    back : BytesDemand e k bytes name d → TableDemands t name d
+    back (inl h) = absurd (apart e.extra k bytes h.0 t h.1 is)
+    back (inr h) = subst (λ (s : TableParts). TableDemands s name d)
+        (one_table_in k bytes h.0 t h.1 is) h.2
 
 none_more : (e : EnvironmentParts) (Q : Demands) (name : List ℕ) (d : Demand) →
     Q name d ↔ Together Q (Gathered e []) name d
@@ -117,23 +166,20 @@ none_more e Q name d = ((λ q. inl q), back)
     back (inr never) = absurd never
 
 input_more : (e : EnvironmentParts) (Q : Demands) (i : Input) (inputs : List Input)
-    (rs : List RequirementParts) (name : List ℕ) (d : Demand) →
-    Lists e.extra i.kind i.bytes.items rs →
-    Together (Together Q (ApplyingDemands e rs)) (Gathered e inputs) name d
+    (own : Demands) (name : List ℕ) (d : Demand) →
+    own name d ↔ BytesDemand e i.kind i.bytes.items name d →
+    Together (Together Q own) (Gathered e inputs) name d
     ↔ Together Q (Gathered e (i ∷ inputs)) name d
-input_more e Q i inputs rs name d is = (there, back)
+input_more e Q i inputs own name d same = (there, back)
   where
-    same : ApplyingDemands e rs name d ↔ BytesDemand e i.kind i.bytes.items name d
-    same = bytes_demand_in e i.kind i.bytes.items rs name d is
-
-    there : (Q name d ⊎ ApplyingDemands e rs name d) ⊎ Gathered e inputs name d →
+    there : (Q name d ⊎ own name d) ⊎ Gathered e inputs name d →
         Q name d ⊎ Gathered e (i ∷ inputs) name d
     there (inl (inl q)) = inl q
     there (inl (inr h)) = inr (inl (same.0 h))
     there (inr h) = inr (inr h)
 
     back : Q name d ⊎ Gathered e (i ∷ inputs) name d →
-        (Q name d ⊎ ApplyingDemands e rs name d) ⊎ Gathered e inputs name d
+        (Q name d ⊎ own name d) ⊎ Gathered e inputs name d
     back (inl q) = inl (inl q)
     back (inr (inl h)) = inl (inr (same.1 h))
     back (inr (inr h)) = inr h
@@ -145,12 +191,23 @@ inputs_table : (e : EnvironmentParts) (Q : Demands) (inputs : List Input) (old n
 inputs_table e Q [] old new t p g =
     same_demands Q (Together Q (Gathered e [])) new (none_more e Q) (subst (IsTable Q) g t)
     (subst (HasExactPoints Q) g p)
-inputs_table e Q (i ∷ inputs) old new t p (mid, (rs, is, takes), more) =
+inputs_table e Q (i ∷ inputs) old new t p (mid, inl (rs, is, takes), more) =
+    let own = ApplyingDemands e rs in
     let one = applying_is_table e Q old rs mid t p takes in
-    let all = inputs_table e (Together Q (ApplyingDemands e rs)) inputs mid new one.0 one.1 more in
-    same_demands (Together (Together Q (ApplyingDemands e rs)) (Gathered e inputs))
+    let all = inputs_table e (Together Q own) inputs mid new one.0 one.1 more in
+    same_demands (Together (Together Q own) (Gathered e inputs))
     (Together Q (Gathered e (i ∷ inputs))) new
-    (λ name d. input_more e Q i inputs rs name d is) all.0 all.1
+    (λ name d. input_more e Q i inputs own name d
+    (bytes_demand_in e i.kind i.bytes.items rs name d is)) all.0 all.1
+inputs_table e Q (i ∷ inputs) old new t p (mid, inr (s, is, joins), more) =
+    let own = TableDemands s in
+    let exact = own_table s (holds_valid i.kind i.bytes.items s is) in
+    let one = joined_is_table Q own old s mid t p exact.0 exact.1 joins in
+    let all = inputs_table e (Together Q own) inputs mid new one.0 one.1 more in
+    same_demands (Together (Together Q own) (Gathered e inputs))
+    (Together Q (Gathered e (i ∷ inputs))) new
+    (λ name d. input_more e Q i inputs own name d
+    (table_demands_in e i.kind i.bytes.items s name d is)) all.0 all.1
 
 -- the table of all that the inputs demand
 pub gathered_table : (e : EnvironmentParts) (inputs : List Input) (new : TableParts) →

@@ -54,7 +54,7 @@ line_taken e read line number left old mid new s g = (
 pub lines_taken : (e : EnvironmentParts) (read : List ℕ) (number : ℕ) (old new : TableParts) →
     length read ≤ input_limit → TakenSoFar e read number [] old new →
     GathersBytes e kind.List read old new
-lines_taken e read number old new size s = (s.0, all_read read number s.0 size s.1, s.2)
+lines_taken e read number old new size s = inl (s.0, all_read read number s.0 size s.1, s.2)
 
 -- the cause of a fault of a line
 pub line_refuses_in : (e : EnvironmentParts) (bytes line : List ℕ) (number : ℕ) (f : LineFault)
@@ -168,7 +168,7 @@ module _ (e : EnvironmentParts) (extra bytes : List ℕ) (rs given : List Requir
     (same : extra ≡ e.extra) (all : given ≡ rs) (is : IsProjectOf extra bytes rs) where
   pub project_taken : (old : TableParts) (r : Result TableParts Cause) →
       IfOk r (TakesApplying e old given) → IfOk r (GathersBytes e kind.Project bytes old)
-  project_taken old (Ok new) h = (
+  project_taken old (Ok new) h = inl (
     rs,
     subst (λ x. IsProjectOf x bytes rs) same is,
     subst (λ qs. TakesApplying e old qs new) all h,

@@ -17,3 +17,5 @@ pub mod RequirementLists
 pub mod AcceptedInputs
 pub mod GatheredLists
 pub mod SameInputs
+pub mod TableFileLemmas
+pub mod PrintedInputs

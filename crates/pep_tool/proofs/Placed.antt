@@ -20,6 +20,7 @@ memory_or_other (cause.BadEnvironment f) = inr (λ e. cc e)
 memory_or_other (cause.BadWords x) = inr (λ e. cc e)
 memory_or_other (cause.BadArgument f) = inr (λ e. cc e)
 memory_or_other cause.WriteFault = inr (λ e. cc e)
+memory_or_other cause.NoRequirements = inr (λ e. cc e)
 
 -- what is true of the cause, unless it is want of memory, is true of the fault in its place
 pub placed : (P : Cause → Type 0) (p : Place) (c : Cause) (f : Fault) →

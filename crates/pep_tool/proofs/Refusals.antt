@@ -60,8 +60,12 @@ memory_or f (inr h) = inr (f h)
 accepted_size : (i : Input) → i.kind ≡ kind.List → IsAccepted standard_environment i →
     length i.bytes.items ≤ input_limit
 accepted_size i e h =
-    let a : AcceptsBytes standard_environment kind.List i.bytes.items = rw e at h in
-    a.1.size
+    by (rw e at h)
+  where
+    by : AcceptsBytes standard_environment kind.List i.bytes.items →
+        length i.bytes.items ≤ input_limit
+    by (inl a) = a.1.size
+    by (inr a) = absurd a.1
 
 -- the table of a list that was read
 pub MergesInput-from_merge : {A : Type 0} (text_of : A →

@@ -8,19 +8,21 @@ use Rattle.pep_tool.specs.declared.fault.ArgumentFault.TheVariants as argument
 use Rattle.pep_tool.specs.declared.fault.Cause.{Cause}
 use Rattle.pep_tool.specs.declared.fault.Cause.TheVariants as cause
 use Rattle.pep_tool.specs.declared.fault.LineFault.{LineFault}
-use Rattle.pep_tool.specs.declared.fault.LineFault.TheVariants.{Requirement, NotUtf8, Undefined}
+use Rattle.pep_tool.specs.declared.fault.LineFault.TheVariants.{Requirement, NotUtf8, Undefined, BadTable}
 
 -- the code of a fault of a line
 abbrev pub line_code : LineFault → ℕ
 line_code (Requirement f) = require_code f
 line_code NotUtf8 = 51
 line_code Undefined = 28
+line_code BadTable = 41
 
 -- the code of the fault inside it, if there is one
 abbrev pub line_inner_code : LineFault → Option ℕ
 line_inner_code (Requirement f) = require_inner_code f
 line_inner_code NotUtf8 = None
 line_inner_code Undefined = None
+line_inner_code BadTable = None
 
 -- the code of a fault of an argument
 abbrev pub argument_code : ArgumentFault → ℕ
@@ -42,6 +44,7 @@ cause_code cause.NoMemory = 60
 cause_code (cause.BadWords x) = 61
 cause_code (cause.BadArgument f) = 62
 cause_code cause.WriteFault = 63
+cause_code cause.NoRequirements = 64
 
 -- the codes of the faults inside it, the outer one first
 abbrev pub inner_codes : Cause → List ℕ

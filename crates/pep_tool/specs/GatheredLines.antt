@@ -3,6 +3,7 @@ use Rattle.std.specs.Prelude.{◌≡◌, ℕ, ◌⊎◌, List, [], ◌∷◌}
 use Rattle.pep_marker.specs.Environment.{EnvironmentParts}
 use Rattle.pep_require.specs.Requirement.{RequirementParts}
 use Rattle.pep_table.specs.Gathering.{TakesApplying}
+use Rattle.pep_table.specs.Join.{JoinsTables}
 use Rattle.pep_table.specs.Table.{TableParts}
 use Rattle.pep_tool.specs.declared.fault.Cause.{Cause}
 use Rattle.pep_tool.specs.declared.fault.Cause.TheVariants.{NoMemory}
@@ -11,7 +12,7 @@ use Rattle.pep_tool.specs.declared.fault.LineFault.TheVariants as line_fault
 use Rattle.pep_tool.specs.declared.input.Input.{Input}
 use Rattle.pep_tool.specs.declared.input.Kind.{Kind}
 use Rattle.pep_tool.specs.LineReading.{RefusesLineBytes, RefusesList, TakesLine}
-use Rattle.pep_tool.specs.Lists.{Lists}
+use Rattle.pep_tool.specs.Lists.{HoldsTable, Lists}
 use Rattle.pep_tool.specs.Refusal.{HasUndefinedLine, IsRefused, IsUndefinedList}
 
 -- the table with what the line's requirement demands, if it applies
@@ -19,10 +20,11 @@ abbrev pub GathersLine : EnvironmentParts → List ℕ → TableParts → TableP
 GathersLine e line old new =
     (rs : List RequirementParts) × TakesLine line [] rs × TakesApplying e old rs new
 
--- .. and what the requirements of an input demand
+-- .. and what the requirements of an input demand, or its table
 abbrev pub GathersBytes : EnvironmentParts → Kind → List ℕ → TableParts → TableParts → Type 0
 GathersBytes e k bytes old new =
-    (rs : List RequirementParts) × Lists e.extra k bytes rs × TakesApplying e old rs new
+    ((rs : List RequirementParts) × Lists e.extra k bytes rs × TakesApplying e old rs new)
+    ⊎ ((t : TableParts) × HoldsTable k bytes t × JoinsTables old t new)
 
 -- .. and of inputs in turn
 abbrev pub GathersInputs : EnvironmentParts → List Input → TableParts → TableParts → Type 0

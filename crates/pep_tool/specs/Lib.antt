@@ -5,6 +5,7 @@ pub mod Project
 pub mod ProjectExtras
 pub mod EnvironmentFile
 pub mod Lists
+pub mod TableFiles
 pub mod Gathered
 pub mod Refusal
 pub mod Merge

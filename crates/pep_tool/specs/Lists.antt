@@ -11,7 +11,9 @@ use Rattle.pep_require.specs.Requirement.{RequirementParts}
 use Rattle.pep_tool.specs.declared.input.Kind.{Kind}
 use Rattle.pep_tool.specs.declared.input.Kind.TheVariants as kind
 pub use Rattle.pep_tool.specs.Limits.{input_limit}
+use Rattle.pep_table.specs.Table.{TableParts}
 use Rattle.pep_tool.specs.Project.{project_file}
+use Rattle.pep_tool.specs.TableFiles.{IsTableFile}
 
 -- ---- lists
 
@@ -52,13 +54,20 @@ IsProjectOf extra bytes rs =
 
 -- ---- inputs
 
--- the requirements of an input of this kind, read for an extra
+-- the requirements of an input of this kind, read for an extra; a table file has none
 abbrev pub Lists : List ℕ → Kind → List ℕ → List RequirementParts → Type 0
 Lists extra kind.List bytes rs = IsRequirementList bytes rs
 Lists extra kind.Project bytes rs = IsProjectOf extra bytes rs
+Lists extra kind.Table bytes rs = ⊥
+
+-- the table of an input of this kind
+abbrev pub HoldsTable : Kind → List ℕ → TableParts → Type 0
+HoldsTable kind.Table bytes t = IsTableFile bytes t
+HoldsTable _ bytes t = ⊥
 
 -- the texts of which an input has its requirements: the lines of a list, and the texts of a project
 -- file that passes its checks
 abbrev pub input_texts : List ℕ → Kind → List ℕ → List (List ℕ)
 input_texts extra kind.List bytes = requirement_lines bytes
 input_texts extra kind.Project bytes = unwrap_or (result_ok (project_file extra bytes)) []
+input_texts extra kind.Table bytes = []

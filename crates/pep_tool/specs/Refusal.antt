@@ -20,6 +20,7 @@ use Rattle.pep_tool.specs.declared.input.Kind.TheVariants as kind
 use Rattle.pep_tool.specs.Gathered.{IsAccepted}
 use Rattle.pep_tool.specs.Lists.{IsProjectOf, content, input_limit, is_skipped, lines_of}
 use Rattle.pep_tool.specs.Project.{project_file}
+use Rattle.pep_tool.specs.TableFiles.{IsRefusedTable}
 
 -- want of memory, which has no place
 abbrev pub no_memory : Fault
@@ -115,11 +116,13 @@ IsUndefinedProject e bytes c =
 -- ---- inputs
 
 -- Why bytes are refused as an input of this kind: they are no list of requirements, or no project
--- file, or one of the requirements has a marker that is undefined there.
+-- file, or one of the requirements has a marker that is undefined there; or they are no table's
+-- text.
 abbrev pub IsRefused : EnvironmentParts → Kind → List ℕ → Cause → Type 0
 IsRefused e kind.List bytes c = IsRefusedList bytes c ⊎ IsUndefinedList e bytes c
 IsRefused e kind.Project bytes c =
     IsRefusedProject e.extra bytes c ⊎ IsUndefinedProject e bytes c
+IsRefused e kind.Table bytes c = IsRefusedTable bytes c
 
 -- The fault names an input, says why it is refused, and unless the reader of URLs answered its own
 -- overflow, that input isn't accepted.

@@ -109,6 +109,11 @@ answer_status _ = 1
 abbrev pub IsUnlisted : Kind → List ℕ → Cause → Type 0
 IsUnlisted kind.List bytes c = IsRefusedList bytes c
 IsUnlisted kind.Project bytes c = IsRefusedProject [] bytes c
+IsUnlisted kind.Table bytes c = ⊥
+
+-- a table file has no requirements to show
+abbrev pub no_requirements : Fault
+no_requirements = record { place = place.Input 1; cause = cause.NoRequirements }
 
 module _ {File : Type 0} (files : Text → KnownFile) (left_of : File → Option (List ℕ))
     (device_of : File → Device) where
@@ -119,6 +124,14 @@ module _ {File : Type 0} (files : Text → KnownFile) (left_of : File → Option
     pub requirements : List RequirementParts
     pub lists : Lists [] (kind_of path) bytes requirements
     pub is_text : text ≡ listed_text requirements
+
+  -- why the lines of a file are refused: it is a table file, whatever stands in it; or it can't be
+  -- read, or what was read of it is refused
+  pub data RefusesLines (path : Text) (fault : Fault) : Type 0 where
+    by_kind : kind_of path ≡ kind.Table → fault ≡ no_requirements → RefusesLines path fault
+    by_listing : kind_of path ≢ kind.Table →
+        RefusesFile files left_of device_of (IsUnlisted (kind_of path)) path (place.Input 1) fault →
+        RefusesLines path fault
 
   -- the text is that of the table of the files in the environment of a file
   pub record MergesFiles (env : Text) (paths : List Text) (text : List ℕ) : Type 0 where
@@ -186,7 +199,6 @@ module _ {File : Type 0} (files : Text → KnownFile) (left_of : File → Option
   abbrev pub RefusesRequest : Request → Option (List ℕ) → Option (List ℕ) → Device → Fault → Type 0
   RefusesRequest standard left after input fault = RefusesInput left after input fault
   RefusesRequest (show_version version) left after input fault = RefusesVersion version fault
-  RefusesRequest (show_lines path) left after input fault =
-      RefusesFile files left_of device_of (IsUnlisted (kind_of path)) path (place.Input 1) fault
+  RefusesRequest (show_lines path) left after input fault = RefusesLines path fault
   RefusesRequest (merge_files env paths) left after input fault = RefusesFiles env paths fault
   RefusesRequest (check_version c) left after input fault = RefusesCheck c fault

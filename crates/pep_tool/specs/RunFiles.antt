@@ -23,9 +23,11 @@ use Rattle.pep_tool.specs.Refusal.{IsNumbered}
 abbrev pub read_fault : Place → Fault
 read_fault p = record { place = p; cause = cause.ReadFault }
 
--- the kind of the file with a path: one whose name ends in `.toml` is a project file
+-- the kind of the file with a path: one whose name ends in `.toml` is a project file, one whose
+-- name ends in `.table` a table file
 abbrev pub kind_of : Text → Kind
-kind_of path = if ends_with nat_eq path (codes ".toml") then kind.Project else kind.List
+kind_of path = if ends_with nat_eq path (codes ".toml") then kind.Project
+    else if ends_with nat_eq path (codes ".table") then kind.Table else kind.List
 
 -- `files` is what is known of the file with a path; of one that was opened, `left_of` is what is
 -- left of its bytes, where that is told, and `device_of` which file it is and how it was read

@@ -52,10 +52,13 @@ pub enum LineFault {
     /// 28: the requirement has a marker that is undefined in the environment.
     #[error("a marker is undefined in the environment")]
     Undefined,
+    /// 41: the line of a table file can't stand behind those before it.
+    #[error("not a line that a table has there")]
+    BadTable,
 }
 
 impl LineFault {
-    /// The code of the fault: 31 to 40, see [`RequireFault::code`], 51 or 28.
+    /// The code of the fault: 31 to 40, see [`RequireFault::code`], 51, 28 or 41.
     pub fn code(self) -> u64
         ensures { result ≡ line_code self }
     {
@@ -63,6 +66,7 @@ impl LineFault {
             LineFault::Requirement(fault) => fault.code(),
             LineFault::NotUtf8 => 51,
             LineFault::Undefined => 28,
+            LineFault::BadTable => 41,
         }
     }
 
@@ -73,7 +77,7 @@ impl LineFault {
     {
         match self {
             LineFault::Requirement(fault) => fault.inner_code(),
-            LineFault::NotUtf8 | LineFault::Undefined => None,
+            LineFault::NotUtf8 | LineFault::Undefined | LineFault::BadTable => None,
         }
     }
 }
@@ -176,6 +180,9 @@ pub enum Cause {
     /// 63: a write failed.
     #[error("a write failed")]
     WriteFault,
+    /// 64: a table file has no requirements to show.
+    #[error("a table has no requirements")]
+    NoRequirements,
 }
 
 impl Cause {
@@ -199,6 +206,7 @@ impl Cause {
             Cause::BadWords(_) => 61,
             Cause::BadArgument(_) => 62,
             Cause::WriteFault => 63,
+            Cause::NoRequirements => 64,
         }
     }
 }

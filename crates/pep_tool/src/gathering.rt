@@ -17,7 +17,8 @@ ghost use Rattle.std.specs.Prelude.{
 };
 ghost use Rattle.pep_require.specs.View.{requirement_parts};
 ghost use Rattle.pep_table.specs.Gathering.{TakesApplying};
-ghost use Rattle.pep_table.specs.Table.{HasExactPoints, IsTable};
+ghost use Rattle.pep_table.specs.Join.{JoinsTables};
+ghost use Rattle.pep_table.specs.Table.{HasExactPoints, IsTable, TableParts};
 ghost use Rattle.pep_tool.specs.GatheredLines.{
   GathersBytes,
   GathersInputs,
@@ -30,12 +31,14 @@ ghost use Rattle.pep_tool.specs.Gathered.{Gathered, IsAccepted};
 ghost use Rattle.pep_tool.specs.LineReading.{IsReadOf};
 ghost use Rattle.pep_tool.specs.Lists.{input_limit};
 ghost use Rattle.pep_tool.specs.Refusal.{IsUndefinedAt, RefusesInputs};
+ghost use Rattle.pep_tool.specs.TableFiles.{IsRefusedTable, IsTableFile};
 
 use crate::fault::{Cause, Fault, LineFault, Place, fault_in};
 use crate::input::{Input, Kind};
 use crate::lines::text_on;
 use crate::list::{INPUT_LIMIT, cut_off, line_cause};
 use crate::project::project_requirements;
+use crate::table_file::table_in;
 use pep_marker::{Environment, MarkerFault};
 use pep_require::{RequireFault, Requirement};
 use pep_table::Gathering;
@@ -160,6 +163,20 @@ fn take_project(
     take_requirements(alloc, gathering, requirements.as_slice(), environment)
 }
 
+// What is demanded so far and by a table file.
+fn take_table(alloc: Global, gathering: Gathering, bytes: &[u8]) -> Result<Gathering, Cause>
+    ensures ok { IfOk result (λ new. (t : TableParts) × IsTableFile bytes.now t
+        × JoinsTables gathering t new) }
+    ensures refused { IfErr result (λ cause. (cause ≡ Cause.NoMemory)
+        ⊎ IsRefusedTable bytes.now cause) }
+{
+    let table = table_in(alloc, bytes)?;
+    match gathering.take_table(alloc, &table) {
+        Ok(new) => Ok(new),
+        Err(_) => Err(Cause::NoMemory),
+    }
+}
+
 // What is demanded so far and by an input.
 fn take_input(
     alloc: Global,
@@ -176,6 +193,7 @@ fn take_input(
     match input.kind {
         Kind::List => take_list(alloc, gathering, bytes, environment),
         Kind::Project => take_project(alloc, gathering, bytes, environment),
+        Kind::Table => take_table(alloc, gathering, bytes),
     }
 }
 
@@ -200,17 +218,20 @@ fn take_inputs(
     Ok(gathering)
 }
 
-/// What all inputs demand in the environment, in which order, grouping and repeats of their lines
-/// don't matter: the table of the demands of those requirements that apply there (PEP 508,
-/// "Environment Markers"). An input is a list, with a requirement on each line, or a project file,
-/// of which the extra is that of the environment: see [`list_of`](crate::list_of) and
-/// [`project_of`](crate::project_of).
+/// What all inputs demand in the environment, in which order, grouping and repeats of the inputs,
+/// and of the lines of lists, don't matter: the table of the demands of those requirements that apply there (PEP 508,
+/// "Environment Markers"), and of printed tables. An input is a list, with a requirement on each
+/// line, a project file, of which the extra is that of the environment, or a table file: see
+/// [`list_of`](crate::list_of), [`project_of`](crate::project_of) and
+/// [`Table::read`](pep_table::Table::read).
 ///
 /// An input that isn't accepted is refused, with its number, counted from 1, as the place: with
 /// the fault that `list_of` or `project_of` has, or with 57 and 28 for a requirement whose marker
-/// is undefined in the environment. The first fault of the first such input is answered: each
-/// line of a list is read, judged and taken before the next one, and of a project file all texts
-/// are read before a marker is judged. Want of memory is 60, without a place.
+/// is undefined in the environment; a table file with 56 where it has more than 16,777,216 bytes,
+/// 51 where it isn't UTF-8, or 57 and 41 for the line that `Table::read` tells. The first
+/// fault of the first such input is answered: each line of a list is read, judged and taken before
+/// the next one, and of a project file all texts are read before a marker is judged. Want of memory
+/// is 60, without a place.
 pub fn gather(
     alloc: Global,
     inputs: &[Input],

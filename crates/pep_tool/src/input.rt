@@ -7,6 +7,9 @@ pub enum Kind {
     List,
     /// A project file, `pyproject.toml` (PyPA "pyproject.toml", PEP 621).
     Project,
+    /// The text of a table, as the program prints it. It was printed in the same environment, which
+    /// nothing tests.
+    Table,
 }
 
 /// An input: its kind and its bytes.

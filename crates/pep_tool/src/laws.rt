@@ -1,12 +1,13 @@
 //! Laws of the definitions.
 
-ghost use Rattle.std.specs.Prelude.{◌≡◌, ℕ, All, List};
+ghost use Rattle.std.specs.Prelude.{◌≡◌, ◌∷◌, ◌++◌, ℕ, All, List};
 ghost use Rattle.pep_marker.specs.Environment.{EnvironmentParts};
 ghost use Rattle.pep_require.specs.Requirement.{RequirementParts};
 ghost use Rattle.pep_table.specs.Demand.{HaveSameDemands};
 ghost use Rattle.pep_table.specs.Table.{HasExactPoints, IsTable, TableParts};
 ghost use Rattle.pep_tool.specs.declared.fault.Cause.{Cause};
 ghost use Rattle.pep_tool.specs.declared.input.Input.{Input};
+ghost use Rattle.pep_tool.specs.declared.input.Kind.TheVariants as Kind;
 ghost use Rattle.pep_tool.specs.Gathered.{
   Gathered,
   HaveSameLines,
@@ -33,16 +34,16 @@ pub fn one_table()
         → IsTable (Gathered f b) t → HasExactPoints (Gathered f b) t → s ≡ t }
 {}
 
-/// Inputs that have the same requirements demand the same, whatever the order and the repeats of
-/// the inputs and of their requirements, and whichever input each one stands in.
+/// Inputs that have the same requirements and the same tables demand the same, whatever the order
+/// and the repeats of the inputs and of their requirements, and whichever input each one stands in.
 pub fn same_requirements()
     ensures { (e : EnvironmentParts) (a b : List Input) → HaveSameRequirements e a b
         → HaveSameDemands (Gathered e a) (Gathered e b) }
 {}
 
-/// Accepted inputs with the same lines of lists and texts of project files demand the same,
-/// whatever the order and the repeats of the inputs and of their lines, and whichever input each
-/// line stands in.
+/// Accepted inputs with the same lines of lists, texts of project files and tables demand the same,
+/// whatever the order and the repeats of the inputs, and of the lines of lists and the texts of
+/// project files, and whichever input each of these stands in.
 pub fn same_lines()
     ensures { (e : EnvironmentParts) (a b : List Input) → All (IsAccepted e) a
         → All (IsAccepted e) b → HaveSameLines e a b
@@ -53,6 +54,14 @@ pub fn same_lines()
 pub fn one_text_of_lines()
     ensures { (e : EnvironmentParts) (a b : List Input) (x y : List ℕ) → IsMerge e a x
         → IsMerge e b y → HaveSameLines e a b → x ≡ y }
+{}
+
+/// A table that was printed of inputs stands for them: with it in their place, as a table file, the
+/// merge has the same text. By `one_text_of_lines` it may stand at any place among the others.
+pub fn printed_in_place()
+    ensures { (e : EnvironmentParts) (a b : List Input) (i : Input) (x y z : List ℕ)
+        → IsMerge e a x → i.kind ≡ Kind.Table → i.bytes.items ≡ x → IsMerge e (i ∷ b) y
+        → IsMerge e (a ++ b) z → y ≡ z }
 {}
 
 /// Bytes are one list of requirements at most.

@@ -1,4 +1,4 @@
-//! Merging lists of Python requirements into one table by package.
+//! Merging lists of Python requirements, project files and printed tables into one table by package.
 #![tactic(auto)]
 
 mod device;
@@ -16,6 +16,7 @@ mod plan;
 mod program;
 mod project;
 mod standard;
+mod table_file;
 mod write;
 
 pub use crate::device::{Bytes, Counted, Failed, Sink, Source};

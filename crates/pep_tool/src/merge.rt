@@ -29,13 +29,14 @@ pub(crate) fn text_of(alloc: Global, gathering: Gathering) -> Result<String, Fau
 
 /// The text of the table of what all inputs demand in the environment (see
 /// [`Table::text`](pep_table::Table::text)): of those requirements that apply there (PEP 508,
-/// "Environment Markers"), in which order, grouping and repeats of their lines don't matter.
+/// "Environment Markers"), and of tables that were printed, in which order, grouping and repeats of
+/// the inputs, and of the lines of lists, don't matter.
 ///
 /// An input that isn't accepted is refused, with its number, counted from 1, as the place: 56 where
 /// it has more than 16,777,216 bytes; 51 to 55 for a project file that fails a check (see
-/// [`project_of`](crate::project_of)); 57 for a line of a list or a text of a project file (see
-/// [`gather`]). The first fault of the first such input is answered. Want of memory is 60, without
-/// a place.
+/// [`project_of`](crate::project_of)); 51 for a table file that isn't UTF-8; 57 for a line of a
+/// list or of a table file, or a text of a project file (see [`gather`]). The first fault of the
+/// first such input is answered. Want of memory is 60, without a place.
 pub fn merge_bytes(
     alloc: Global,
     inputs: &[Input],

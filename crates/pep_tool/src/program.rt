@@ -55,8 +55,8 @@ const REFUSED: u8 = 2;
 ///   [`check_bytes`](crate::check_bytes)), with pre-releases wanted where `--pre` is given; status
 ///   0 for `yes`, else 1.
 ///
-/// A file whose name ends in `.toml` is a project file (PEP 621), every other file a list; E is an
-/// environment whatever its name. Of the input and of each file at most 16,777,217 bytes are read.
+/// A file whose name ends in `.toml` is a project file (PEP 621), one whose name ends in `.table` a
+/// printed table, every other file a list; E is an environment whatever its name. Of the input and of each file at most 16,777,217 bytes are read.
 /// A check reads VERSION first, then NAME. Then E is read and judged, then all files are read in
 /// their order, and then they are judged.
 ///
@@ -69,7 +69,7 @@ const REFUSED: u8 = 2;
 ///   with the file's number, and comes before any fault of the bytes of inputs.
 /// - The refusals of [`environment_of`](crate::environment_of) and of
 ///   [`merge_bytes`](crate::merge_bytes); for `lines` those of [`list_of`](crate::list_of) and
-///   [`project_of`](crate::project_of).
+///   [`project_of`](crate::project_of), and 64 for a table file, which has no requirements.
 /// - 60 for want of memory, and 63 where writing failed.
 ///
 /// A failure to write to `faults` changes nothing.

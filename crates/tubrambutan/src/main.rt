@@ -1,5 +1,5 @@
 //! The program. Without words it merges the list of requirements on standard input and prints its
-//! table; `merge` does so with lists and project files, in the environment of a file, and `check`
+//! table; `merge` does so with lists, project files and printed tables, in the environment of a file, and `check`
 //! prints whether a version meets them. `version TEXT` prints the normal text of a version, `lines
 //! FILE` the requirements of a list or a project file. A refusal is told on standard error, with
 //! status 2.

@@ -34,16 +34,16 @@ ghost use Rattle.pep_tool.specs.RunAnswers.{
   RefusesCheck,
   RefusesFiles,
   RefusesInput,
+  RefusesLines,
   RefusesRequest,
   RefusesVersion,
   answer_line,
   answer_status,
 };
-ghost use Rattle.pep_tool.specs.RunFiles.{RefusesFile, kind_of};
 ghost use Rattle.pep_tool.specs.Standard.{standard_environment};
 
 use crate::device::Source;
-use crate::fault::{Fault, Place};
+use crate::fault::{Cause, Fault, Place};
 use crate::folder::Folder;
 use crate::gathering::gather;
 use crate::input::{Input, Kind};
@@ -163,8 +163,9 @@ fn merge_input<S: Source>(alloc: Global, source: &mut S) -> Result<String, Fault
     text_of(alloc, gathering)
 }
 
-// The requirements that a file of this kind has, without an extra.
+// The requirements that a list or a project file has, without an extra.
 fn requirements_of(alloc: Global, kind: Kind, bytes: &[u8]) -> Result<Vec<Requirement>, Fault>
+    requires { kind ≢ Kind.Table }
     ensures ok { IfOk result (λ requirements.
         Lists [] kind bytes.now (map requirement_parts requirements.items)) }
     ensures refused { IfErr result (λ fault. (fault ≡ no_memory)
@@ -173,6 +174,7 @@ fn requirements_of(alloc: Global, kind: Kind, bytes: &[u8]) -> Result<Vec<Requir
     match kind {
         Kind::List => list_of(alloc, bytes),
         Kind::Project => project_of(alloc, bytes, ""),
+        Kind::Table => unreachable!(),
     }
 }
 
@@ -181,11 +183,17 @@ fn file_lines<D: Folder>(alloc: Global, folder: &D, path: &str) -> Result<String
     ensures lists { IfOk result (λ text. ListsFile (D.file_at folder.now) D.File.left
         D.File.device path.now (string_bytes text)) }
     ensures refused { IfErr result (λ fault. (fault ≡ no_memory)
-        ⊎ RefusesFile (D.file_at folder.now) D.File.left D.File.device
-        (IsUnlisted (kind_of path.now)) path.now (Place.Input 1) fault) }
+        ⊎ RefusesLines (D.file_at folder.now) D.File.left D.File.device path.now fault) }
 {
+    let kind = kind_of(path);
+    if kind == Kind::Table {
+        return Err(Fault {
+            place: Place::Input(1),
+            cause: Cause::NoRequirements,
+        });
+    }
     let bytes = read_file(alloc, folder, path, Place::Input(1))?;
-    let requirements = requirements_of(alloc, kind_of(path), bytes.as_slice())?;
+    let requirements = requirements_of(alloc, kind, bytes.as_slice())?;
     lines_text(alloc, requirements.as_slice())
 }
 

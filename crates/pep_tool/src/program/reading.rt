@@ -120,12 +120,15 @@ pub(crate) fn read_environment<D: Folder>(
     environment_of(alloc, bytes.as_slice())
 }
 
-/// The kind of the file with this path: one whose name ends in `.toml` is a project file.
+/// The kind of the file with this path: one whose name ends in `.toml` is a project file, one whose
+/// name ends in `.table` a table file.
 pub(crate) fn kind_of(path: &str) -> Kind
     ensures { result ≡ kind_of path.now }
 {
     if path.as_bytes().ends_with(b".toml") {
         Kind::Project
+    } else if path.as_bytes().ends_with(b".table") {
+        Kind::Table
     } else {
         Kind::List
     }
