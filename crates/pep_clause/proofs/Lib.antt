@@ -28,3 +28,5 @@ pub mod Written
 pub mod WrittenLemmas
 pub mod CutReading
 pub mod IncreasingRanges
+pub mod CutBytes
+pub mod CutsRead

@@ -30,42 +30,47 @@ ghost use Rattle.pep_clause.specs.Cut.{
   is_under,
   least,
 };
+ghost use Rattle.pep_clause.specs.CutBytes.{cut_bytes};
 ghost use Rattle.pep_clause.specs.CutOrder.{LiesIn, LiesStrictlyIn, SameUnder};
 ghost use Rattle.pep_clause.specs.Laws.{cut_total};
 ghost use Rattle.pep_clause.specs.OperatorTable.{before_dev, before_place, past_release};
 
 use crate::fault::ClauseFault;
-use pep_version::{Key, Phase, Version};
+use pep_version::{Key, KeyBytes, Phase, Version};
 use std::alloc::Global;
 use std::cmp::Ordering;
 use std::marker::Model;
-
-#[derive(Drop)]
-enum CutForm {
-    Before(Key),
-    After(Key),
-    Past(Key),
-    End,
-}
 
 /// A cut is a place in the order of versions (PEP 440, "Summary of permitted suffixes and relative
 /// ordering"), between those under it and the others: directly before a version and all that are
 /// the same in order, directly after them, past everything of a release, or the end of all
 /// versions.
+///
+/// A cut is held as bytes whose byte order is the order of cuts.
 #[derive(Drop)]
 pub struct Cut {
-    form: CutForm,
+    // none for the end, whose bytes are always the same
+    bytes: Option<KeyBytes>,
 }
 
+// The bytes of the end.
+const END: [u8; 9] = [0xff; 9];
+
+// The bytes of the cut under all versions, which stands before `0.dev0`.
+const LEAST: [u8; 21] = [
+    0, 0, 0, 0, 0, 0, 0, 0, 0, 0x10, 0, 0, 0, 0, 0, 0, 0, 0, 0, 0, 0,
+];
+
 impl Model for Cut {
+    ghost use Rattle.std.specs.Prelude.{option_map};
     ghost use Rattle.pep_clause.specs.Cut.{Cut};
-    ghost use Rattle.pep_clause.specs.CutView.{IsStored, cut_of};
+    ghost use Rattle.pep_clause.specs.CutView.{IsStored, stored_cut};
 
     ghost Value = { Cut };
 
-    ghost view = { λ a. cut_of a.form };
+    ghost view = { λ a. stored_cut (option_map (λ b. b.items) a.bytes) };
 
-    ghost invariant = { λ a. IsStored a.form };
+    ghost invariant = { λ a. IsStored (option_map (λ b. b.items) a.bytes) };
 }
 
 impl Cut {
@@ -96,9 +101,9 @@ impl Cut {
         ensures spelled { IfOk result (λ c. IsCut c) }
         ensures faults { IfErr result (λ e. e ≡ ClauseFault.NoMemory) }
     {
-        let suffixed = Key::with_suffixes(alloc, version, pre, post, dev)?;
+        let key = Key::with_suffixes(alloc, version, pre, post, dev)?;
         Ok(Cut {
-            form: CutForm::Before(suffixed),
+            bytes: Some(key.into_bytes()),
         })
     }
 
@@ -110,9 +115,9 @@ impl Cut {
         ensures spelled { IfOk result (λ c. IsCut c) }
         ensures faults { IfErr result (λ e. e ≡ ClauseFault.NoMemory) }
     {
-        let place = Key::of_release(alloc, epoch, release, Some(0))?;
+        let key = Key::of_release(alloc, epoch, release, Some(0))?;
         Ok(Cut {
-            form: CutForm::Before(place),
+            bytes: Some(key.into_bytes()),
         })
     }
 
@@ -123,10 +128,9 @@ impl Cut {
         ensures spelled { IfOk result (λ c. IsCut c) }
         ensures faults { IfErr result (λ e. e ≡ ClauseFault.NoMemory) }
     {
-        let place = Key::of(alloc, version)?;
-        Ok(Cut {
-            form: CutForm::After(place),
-        })
+        let mut bytes = Key::of(alloc, version)?.into_bytes();
+        bytes.push(0)?;
+        Ok(Cut { bytes: Some(bytes) })
     }
 
     /// The cut past everything of a version's release.
@@ -135,17 +139,19 @@ impl Cut {
         ensures spelled { IfOk result (λ c. IsCut c) }
         ensures faults { IfErr result (λ e. e ≡ ClauseFault.NoMemory) }
     {
-        let release = Key::of_release(alloc, version.epoch(), version.release(), None)?;
-        Ok(Cut {
-            form: CutForm::Past(release),
-        })
+        let key = Key::of_release(alloc, version.epoch(), version.release(), None)?;
+        let mut bytes = key.into_bytes();
+        // behind its release the key of a final release has four bytes
+        bytes.truncate(bytes.len() - 4);
+        bytes.push(0x60)?;
+        Ok(Cut { bytes: Some(bytes) })
     }
 
     /// The end of all versions.
     pub fn end() -> Cut
         ensures { result ≡ end }
     {
-        Cut { form: CutForm::End }
+        Cut { bytes: None }
     }
 
     /// The cut under all versions. The only fault is `NoMemory`.
@@ -153,18 +159,28 @@ impl Cut {
         ensures least { IfOk result (λ c. c ≡ least) }
         ensures faults { IfErr result (λ e. e ≡ ClauseFault.NoMemory) }
     {
-        Cut::before_dev(alloc, 0, &[0])
+        Ok(Cut {
+            bytes: Some(KeyBytes::from_slice(alloc, &LEAST)?),
+        })
     }
 
     /// Whether the version at this place is under the cut.
     pub(crate) fn is_above(&self, key: &Key) -> bool
         ensures { result ≡ is_under self.now key.now }
     {
-        match &self.form {
-            CutForm::Before(place) => key < place,
-            CutForm::After(place) => key <= place,
-            CutForm::Past(release) => key.cmp_release(release) != Ordering::Greater,
-            CutForm::End => true,
+        key.bytes().cmp(self.bytes()) == Ordering::Less
+    }
+
+    /// The bytes of the cut: those of the key of its version (see `Key::bytes`), for `after` with a 0
+    /// behind them; for `past` those of the release and 0x60; for the end nine bytes 0xff. A
+    /// version lies under a cut exactly if the bytes of its key are below these in byte order.
+    pub fn bytes(&self) -> &[u8]
+        ensures bytes { result.now ≡ cut_bytes self.now }
+        ensures spelled { IsCut self.now }
+    {
+        match &self.bytes {
+            Some(bytes) => bytes.as_slice(),
+            None => &END,
         }
     }
 
@@ -174,39 +190,21 @@ impl Cut {
         ensures spelled { IsCut self.now }
         ensures faults { IfErr result (λ e. e ≡ ClauseFault.NoMemory) }
     {
-        let form = match &self.form {
-            CutForm::Before(place) => CutForm::Before(place.copied(alloc)?),
-            CutForm::After(place) => CutForm::After(place.copied(alloc)?),
-            CutForm::Past(release) => CutForm::Past(release.copied(alloc)?),
-            CutForm::End => CutForm::End,
-        };
-        Ok(Cut { form })
+        match &self.bytes {
+            Some(bytes) => Ok(Cut {
+                bytes: Some(KeyBytes::from_slice(alloc, bytes.as_slice())?),
+            }),
+            None => Ok(Cut::end()),
+        }
     }
 
-    /// How the cuts stand: by their places, and where these tie by their kinds.
+    /// How the cuts stand: as their bytes.
     pub(crate) fn order_to(&self, other: &Cut) -> Ordering
         ensures order { result ≡ cut_cmp self.now other.now }
         ensures spelled { IsCut self.now }
         ensures other_spelled { IsCut other.now }
     {
-        match (&self.form, &other.form) {
-            (CutForm::Before(a), CutForm::Before(b)) => a.cmp(b),
-            (CutForm::Before(a), CutForm::After(b)) => a.cmp(b).then(Ordering::Less),
-            (CutForm::Before(a), CutForm::Past(b)) => a.cmp_release(b).then(Ordering::Less),
-            (CutForm::Before(_), CutForm::End) => Ordering::Less,
-            (CutForm::After(a), CutForm::Before(b)) => a.cmp(b).then(Ordering::Greater),
-            (CutForm::After(a), CutForm::After(b)) => a.cmp(b),
-            (CutForm::After(a), CutForm::Past(b)) => a.cmp_release(b).then(Ordering::Less),
-            (CutForm::After(_), CutForm::End) => Ordering::Less,
-            (CutForm::Past(a), CutForm::Before(b)) => a.cmp_release(b).then(Ordering::Greater),
-            (CutForm::Past(a), CutForm::After(b)) => a.cmp_release(b).then(Ordering::Greater),
-            (CutForm::Past(a), CutForm::Past(b)) => a.cmp_release(b),
-            (CutForm::Past(_), CutForm::End) => Ordering::Less,
-            (CutForm::End, CutForm::Before(_)) => Ordering::Greater,
-            (CutForm::End, CutForm::After(_)) => Ordering::Greater,
-            (CutForm::End, CutForm::Past(_)) => Ordering::Greater,
-            (CutForm::End, CutForm::End) => Ordering::Equal,
-        }
+        self.bytes().cmp(other.bytes())
     }
 }
 

@@ -10,6 +10,7 @@ ghost use Rattle.pep_clause.specs.Clause.{
   IsOperatorAndRun,
   clause_text,
 };
+ghost use Rattle.pep_clause.specs.CutBytes.{CutsKeepOrder};
 ghost use Rattle.pep_clause.specs.SetEquality.{SamePoints, SameVersions};
 ghost use Rattle.pep_clause.specs.Valid.{IsValidClause};
 ghost use Rattle.pep_clause.specs.VersionSet.{IsNormal, Range, is_in};
@@ -75,3 +76,9 @@ pub fn valid_clause_is_read()
     laws::text_is_read();
     laws::text_bytes();
 }
+
+/// Byte order of cuts is their order, cuts in their one spelling have bytes of their own, and a version
+/// lies under a cut exactly if its key is below the cut's bytes.
+pub fn cuts_keep_order()
+    ensures { CutsKeepOrder }
+{}

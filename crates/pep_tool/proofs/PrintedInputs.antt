@@ -1,15 +1,14 @@
 -- A table that was printed of inputs stands for them.
 use Rattle.std.proofs.Common.{◌≡◌, ℕ, ◌≤◌, ◌⊎◌, List, [], ◌∷◌, ◌++◌, length, refl, sym, subst, inl, inr}
 use Rattle.std.proofs.Common.{Option, Some, None}
-use Rattle.std.specs.Prelude.{◌↔◌, All}
+use Rattle.std.specs.Prelude.{◌↔◌}
 use Rattle.std.proofs.lemmas.List.Elements.{All-head}
 use Rattle.std.proofs.lemmas.Option.{IfSome_then}
 use Rattle.pep_marker.specs.Environment.{EnvironmentParts}
-use Rattle.pep_clause.specs.Clause.{demanded}
 use Rattle.pep_table.proofs.JoinedDemands.{ExactEntry, HasEntry, either, from_both, own_table, same_at}
 use Rattle.pep_table.proofs.JoinedDemands.{table_at, undemanded}
 use Rattle.pep_table.proofs.SameDemands.{same_demands, table_from_entries}
-use Rattle.pep_table.specs.Demand.{AdmitsBesideTexts, Demand, Demands, Together, clause, extra, url}
+use Rattle.pep_table.specs.Demand.{AdmitsBesideTexts, Demand, Demands, Together}
 use Rattle.pep_table.specs.OneText.{one_text}
 use Rattle.pep_table.specs.Table.{AdmitsPoint, EntryParts, HasExactPoints, IsEntry, IsTable}
 use Rattle.pep_table.specs.Table.{TableDemands, TableParts, entry_at}

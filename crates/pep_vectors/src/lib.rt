@@ -23,6 +23,8 @@ mod names;
 #[cfg(test)]
 mod ordered;
 #[cfg(test)]
+mod packed;
+#[cfg(test)]
 mod printed;
 #[cfg(test)]
 mod requirements;

@@ -92,10 +92,6 @@ place-version v h = record {
 pub place-of-place : (v : Version) → place_of (place_of v) ≡ place_of v
 place-of-place v = ap (λ (release : List ℕ). record v { release = release }) (short-twice v.release)
 
--- what stands at the place of a version is its own place
-pub at-place : (v w : Version) → v ≡ place_of w → place_of v ≡ v
-at-place v w at = ap place_of at ∙ place-of-place w ∙ sym at
-
 -- ---- versions that are the same in order
 
 -- a number in front, told from the list without the zeros at its end

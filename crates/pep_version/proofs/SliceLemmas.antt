@@ -178,7 +178,7 @@ pub run-whole : (xs : List ℕ) → All (λ b. is_separator b ≡ false) xs →
 run-whole xs none = parts-lower xs ∙ ap (map lower) (split-whole is_separator xs none)
 
 -- bytes of a run are ASCII, also in lower case
-word-ascii : (b : ℕ) → is_word_byte b ≡ true → b < 128
+pub word-ascii : (b : ℕ) → is_word_byte b ≡ true → b < 128
 word-ascii b h = grind (arith, nat_tests)
 
 run-all : (run : List ℕ) → is_run run ≡ true → list_all is_word_byte run ≡ true

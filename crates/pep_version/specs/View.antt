@@ -1,5 +1,5 @@
 -- What a contract sees of a stored segment and of a version's stored parts.
-use Rattle.std.specs.Prelude.{ℕ, Option, Vec, map, string_bytes}
+use Rattle.std.specs.Prelude.{ℕ, List, Option, Vec, map, string_bytes}
 use Rattle.std.specs.declared.alloc.Global.{Global}
 use Rattle.pep_version.specs.Version.{Segment, number, Version, word}
 use Rattle.pep_version.specs.declared.parts.Label.{Label}
@@ -22,4 +22,17 @@ version_of epoch release pre post dev label =
       post = post;
       dev = dev;
       label = map segment_of label.items;
+    }
+
+-- the version with these parts, the release and the label as lists
+abbrev pub version_with : ℕ → List ℕ → Option (Phase × ℕ) → Option ℕ → Option ℕ →
+    List Segment → Version
+version_with epoch release pre post dev label =
+    record {
+      epoch = epoch;
+      release = release;
+      pre = pre;
+      post = post;
+      dev = dev;
+      label = label;
     }

@@ -1,17 +1,22 @@
 // The place of a version in the order.
 
+mod bytes;
+mod read;
+mod short;
+
 ghost use Rattle.std.specs.Prelude.{
   ◌≡◌,
   ◌<◌,
   ◌++◌,
-  fold,
+  ◌↔◌,
   length,
   map,
   refl,
-  slice_index,
   string_bytes,
   IfErr,
   IfOk,
+  IfSome,
+  IsSome,
   OnOk,
 };
 ghost use Rattle.std.specs.Cmp.{
@@ -19,34 +24,41 @@ ghost use Rattle.std.specs.Cmp.{
   partial_equiv_from_equiv,
   partial_order_from_total,
 };
-ghost use Rattle.std.specs.Cmp.Lexicographic.{slice_cmp};
-ghost use Rattle.std.specs.Hash as fed;
 ghost use Rattle.std.specs.Ordering.{as_partial_cmp, eq_by_cmp};
-ghost use Rattle.pep_version.specs.Feed.{feed_pre, feed_segment, key_feed, key_feed-alike};
+ghost use Rattle.pep_version.specs.Feed.{key_feed, key_feed-alike};
+ghost use Rattle.pep_version.specs.ByteOrder.{ended};
+ghost use Rattle.pep_version.specs.KeyBytes.{
+  dev_bytes,
+  key_bytes,
+  label_bytes,
+  number_bytes,
+  place_bytes,
+  post_bytes,
+  release_number_bytes,
+  stage_bytes_of,
+};
+ghost use Rattle.pep_version.specs.KeyReading.{IsKey};
 ghost use Rattle.pep_version.specs.Laws.{version_total};
 ghost use Rattle.pep_version.specs.Order.{
-  dev_cmp,
-  phase_rank,
   place_cmp,
   place_of,
-  pre_number_of,
-  release_cmp,
   release_version,
-  segment_cmp,
   short_release,
-  stage_of,
-  suffix_cmp,
   version_cmp,
   with_suffixes,
   without_end_zeros,
 };
 ghost use Rattle.pep_version.specs.Text.{normal_text};
 ghost use Rattle.pep_version.specs.Version.{IsVersion};
-ghost use Rattle.pep_version.specs.View.{segment_of};
+ghost use Rattle.pep_version.specs.View.{segment_of, version_with};
 
 use crate::fault::VersionFault;
+pub use crate::key::bytes::KeyBytes;
+use crate::key::bytes::{push_dev, push_label, push_place, push_post, push_stage};
+pub use crate::key::read::behind_release;
+use crate::key::short::short_bytes;
 use crate::parts::{Label, Phase};
-use crate::version::{Version, label_copied};
+use crate::version::Version;
 use std::alloc::Global;
 use std::cmp::Ordering;
 use std::hash::{Hash, Hasher};
@@ -55,21 +67,22 @@ use std::marker::Model;
 /// A version's place in the order (PEP 440, "Summary of permitted suffixes and relative ordering"):
 /// one key for all versions that are the same in order, as `1.0` and `1.0.0`. The release of a key
 /// has no zeros at its end, except that its first number stays.
+///
+/// A key is held as bytes whose byte order is the order of versions.
 #[derive(Debug, Drop)]
 pub struct Key {
-    version: Version,
+    bytes: KeyBytes,
 }
 
 impl Model for Key {
-    ghost use Rattle.std.specs.Prelude.{◌≡◌};
-    ghost use Rattle.pep_version.specs.Order.{place_of};
-    ghost use Rattle.pep_version.specs.Version.{IsVersion, Version};
+    ghost use Rattle.pep_version.specs.KeyReading.{ReadsBack, version_at};
+    ghost use Rattle.pep_version.specs.Version.{Version};
 
     ghost Value = { Version };
 
-    ghost view = { λ a. a.version };
+    ghost view = { λ a. version_at a.bytes.items };
 
-    ghost invariant = { λ a. IsVersion a.version × (place_of a.version ≡ a.version) };
+    ghost invariant = { λ a. ReadsBack a.bytes.items };
 }
 
 // The release without the zeros at its end, except that its first number stays.
@@ -111,10 +124,39 @@ impl Key {
         ensures own_place { IfOk result (λ k. place_of k ≡ k) }
         ensures faults { IfErr result (λ e. e ≡ VersionFault.NoMemory) }
     {
-        let release = Vec::from_slice(alloc, short_release(version.release()))?;
-        let label = label_copied(alloc, version.label())?;
-        let version = Version::with_parts(version.epoch(), release, pre, post, dev, label);
-        Ok(Key { version })
+        let release = version.release();
+        Key::of_parts(
+            alloc,
+            version.epoch(),
+            release,
+            pre,
+            post,
+            dev,
+            version.label(),
+        )
+    }
+
+    // The place of the version with these parts, written from them.
+    fn of_parts(
+        alloc: Global,
+        epoch: u64,
+        release: &[u64],
+        pre: Option<(Phase, u64)>,
+        post: Option<u64>,
+        dev: Option<u64>,
+        label: &[Label],
+    ) -> Result<Key, VersionFault>
+        requires { IsVersion (version_with epoch release.now pre post dev (map segment_of
+            label.now)) }
+        ensures place { IfOk result (λ k. k ≡ place_of (version_with epoch release.now pre post dev
+            (map segment_of label.now))) }
+        ensures version { IfOk result (λ k. IsVersion k) }
+        ensures own_place { IfOk result (λ k. place_of k ≡ k) }
+        ensures faults { IfErr result (λ e. e ≡ VersionFault.NoMemory) }
+    {
+        let release = without_end_zeros(release);
+        let bytes = bytes_of_parts(alloc, epoch, release, pre, post, dev, label)?;
+        Ok(Key { bytes })
     }
 
     /// The place of a final release, which has a number at least, or of its developmental release
@@ -132,9 +174,27 @@ impl Key {
         ensures own_place { IfOk result (λ k. place_of k ≡ k) }
         ensures faults { IfErr result (λ e. e ≡ VersionFault.NoMemory) }
     {
-        let numbers = Vec::from_slice(alloc, short_release(release))?;
-        let version = Version::with_parts(epoch, numbers, None, None, dev, Vec::new(alloc));
-        Ok(Key { version })
+        Key::of_parts(alloc, epoch, release, None, None, dev, &[])
+    }
+
+    /// The key with these bytes, as `bytes` gives them, or `None` where no version's key has these. The
+    /// only fault is `NoMemory`.
+    pub fn read(alloc: Global, bytes: &[u8]) -> Result<Option<Key>, VersionFault>
+        ensures exactly { IfOk result (λ found. IsSome found ↔ IsKey bytes.now) }
+        ensures bytes { IfOk result (λ found. IfSome found (λ k. key_bytes k ≡ bytes.now)) }
+        ensures version { IfOk result (λ found. IfSome found (λ k. IsVersion k)) }
+        ensures own_place { IfOk result (λ found. IfSome found (λ k. place_of k ≡ k)) }
+        ensures faults { IfErr result (λ e. e ≡ VersionFault.NoMemory) }
+    {
+        let Some((version, _)) = Version::at_front(alloc, bytes)? else {
+            return Ok(None);
+        };
+        let key = Key::of(alloc, &version)?;
+        if key.bytes() == bytes {
+            Ok(Some(key))
+        } else {
+            Ok(None)
+        }
     }
 
     /// The version that stands at this place: of those that are the same in order, the one whose
@@ -145,7 +205,10 @@ impl Key {
         ensures own_place { place_of self.now ≡ self.now }
         ensures faults { IfErr result (λ e. e ≡ VersionFault.NoMemory) }
     {
-        self.version.copied(alloc)
+        match Version::at_front(alloc, self.bytes())? {
+            Some((version, _)) => Ok(version),
+            None => unreachable!(),
+        }
     }
 
     /// Appends the normal text of the version that stands at this place (PEP 440, "Normalization").
@@ -155,7 +218,8 @@ impl Key {
             ≡ string_bytes text.old ++ normal_text self.now) }
         ensures faults { IfErr result (λ e. e ≡ VersionFault.NoMemory) }
     {
-        self.version.push_text(text)
+        let version = self.version(*text.allocator())?;
+        version.push_text(text)
     }
 
     /// An equal key in storage of its own. The only fault is `NoMemory`.
@@ -165,97 +229,38 @@ impl Key {
         ensures own_place { place_of self.now ≡ self.now }
         ensures faults { IfErr result (λ e. e ≡ VersionFault.NoMemory) }
     {
-        let version = self.version.copied(alloc)?;
-        Ok(Key { version })
+        let bytes = KeyBytes::from_slice(alloc, self.bytes())?;
+        Ok(Key { bytes })
     }
 }
 
-fn number_at(release: &[u64], i: usize) -> u64
-    ensures { result ≡ slice_index release.now i }
+// The bytes of the key with these parts, whose release has no zeros at its end.
+fn bytes_of_parts(
+    alloc: Global,
+    epoch: u64,
+    release: &[u64],
+    pre: Option<(Phase, u64)>,
+    post: Option<u64>,
+    dev: Option<u64>,
+    label: &[Label],
+) -> Result<KeyBytes, VersionFault>
+    ensures bytes { IfOk result (λ b. b.items ≡ (number_bytes epoch
+        ++ ended release_number_bytes release.now) ++ (stage_bytes_of pre post dev
+        ++ (post_bytes post ++ (dev_bytes dev ++ label_bytes (map segment_of label.now))))) }
+    ensures faults { IfErr result (λ e. e ≡ VersionFault.NoMemory) }
 {
-    release.get(i).copied().unwrap_or(0)
-}
-
-fn cmp_releases(a: &[u64], b: &[u64]) -> Ordering
-    ensures { result ≡ release_cmp a.now b.now }
-{
-    'numbers: for i in 0..a.len().max(b.len()) {
-        let (m, n) = (number_at(a, i), number_at(b, i));
-        if m != n {
-            return m.cmp(&n);
+    if pre.is_none() && label.is_empty() {
+        if let Some(bytes) = short_bytes(alloc, epoch, release, post, dev) {
+            return Ok(bytes);
         }
     }
-    Ordering::Equal
-}
-
-fn phase_rank(phase: Phase) -> u8
-    ensures { result ≡ phase_rank phase }
-{
-    match phase {
-        Phase::Alpha => 1,
-        Phase::Beta => 2,
-        Phase::Rc => 3,
-    }
-}
-
-fn stage(pre: Option<(Phase, u64)>, post: Option<u64>, dev: Option<u64>) -> u8
-    ensures { result ≡ stage_of pre post dev }
-{
-    match (pre, post, dev) {
-        (Some((phase, _)), _, _) => phase_rank(phase),
-        (None, None, Some(_)) => 0,
-        _ => 4,
-    }
-}
-
-fn pre_number(pre: Option<(Phase, u64)>) -> u64
-    ensures { result ≡ pre_number_of pre }
-{
-    match pre {
-        Some((_, n)) => n,
-        None => 0,
-    }
-}
-
-fn cmp_dev(a: Option<u64>, b: Option<u64>) -> Ordering
-    ensures { result ≡ dev_cmp a b }
-{
-    match (a, b) {
-        (None, None) => Ordering::Equal,
-        (None, Some(_)) => Ordering::Greater,
-        (Some(_), None) => Ordering::Less,
-        (Some(m), Some(n)) => m.cmp(&n),
-    }
-}
-
-impl Label {
-    ghost use Rattle.std.specs.Prelude.{◌≡◌};
-    ghost use Rattle.pep_version.specs.Order.{segment_cmp};
-    ghost use Rattle.pep_version.specs.View.{segment_of};
-
-    fn order(&self, other: &Label) -> Ordering
-        ensures { result ≡ segment_cmp (segment_of self.now) (segment_of other.now) }
-    {
-        match (self, other) {
-            (Label::Word(a), Label::Word(b)) => a.cmp(b),
-            (Label::Word(_), Label::Number(_)) => Ordering::Less,
-            (Label::Number(_), Label::Word(_)) => Ordering::Greater,
-            (Label::Number(m), Label::Number(n)) => m.cmp(n),
-        }
-    }
-}
-
-fn cmp_labels(a: &[Label], b: &[Label]) -> Ordering
-    ensures { result ≡ slice_cmp segment_cmp (map segment_of a.now) (map segment_of b.now) }
-{
-    let both = a.len().min(b.len());
-    'segments: for i in 0..both {
-        let order = a[i].order(&b[i]);
-        if order != Ordering::Equal {
-            return order;
-        }
-    }
-    a.len().cmp(&b.len())
+    let mut bytes = KeyBytes::new(alloc);
+    push_place(&mut bytes, epoch, release)?;
+    push_stage(&mut bytes, pre, post, dev)?;
+    push_post(&mut bytes, post)?;
+    push_dev(&mut bytes, dev)?;
+    push_label(&mut bytes, label)?;
+    Ok(bytes)
 }
 
 impl Key {
@@ -264,25 +269,38 @@ impl Key {
     pub fn cmp_release(&self, other: &Key) -> Ordering
         ensures { result ≡ place_cmp self.now other.now }
     {
-        let (a, b) = (&self.version, &other.version);
-        a.epoch()
-            .cmp(&b.epoch())
-            .then(cmp_releases(a.release(), b.release()))
+        self.place().cmp(other.place())
     }
 
-    // The order within one release.
-    fn cmp_suffix(&self, other: &Key) -> Ordering
-        ensures { result ≡ suffix_cmp self.now other.now }
+    // The bytes of the epoch and the release.
+    fn place(&self) -> &[u8]
+        ensures bytes { result.now ≡ place_bytes self.now }
+        ensures version { IsVersion self.now }
     {
-        let (a, b) = (&self.version, &other.version);
-        let stages = stage(a.pre(), a.post(), a.dev())
-            .cmp(&stage(b.pre(), b.post(), b.dev()))
-            .then(pre_number(a.pre()).cmp(&pre_number(b.pre())));
-        let others = a.post().cmp(&b.post()).then(cmp_dev(a.dev(), b.dev()).then(cmp_labels(
-            a.label(),
-            b.label(),
-        )));
-        stages.then(others)
+        let bytes = self.bytes();
+        let suffix = behind_release(bytes);
+        &bytes[..bytes.len() - suffix.len()]
+    }
+
+    /// The bytes of the key: the epoch, the release, the phase of a pre-release, the post-release,
+    /// the developmental release and the label, one part behind the other. Of two keys the one whose
+    /// bytes are below the other's in byte order is below it, and equal keys have the same bytes.
+    pub fn bytes(&self) -> &[u8]
+        ensures bytes { result.now ≡ key_bytes self.now }
+        ensures version { IsVersion self.now }
+        ensures own_place { place_of self.now ≡ self.now }
+    {
+        self.bytes.as_slice()
+    }
+
+    /// The bytes of the key (see `bytes`) in their own storage.
+    pub fn into_bytes(self) -> KeyBytes
+        ensures bytes { result.items ≡ key_bytes self }
+        ensures version { IsVersion self }
+        ensures own_place { place_of self ≡ self }
+    {
+        let Key { bytes } = self;
+        bytes
     }
 }
 
@@ -320,11 +338,7 @@ impl Ord for Key {
     ghost matches_eq = { λ a b. refl };
 
     fn cmp(&self, other: &Key) -> Ordering {
-        let place = self.cmp_release(other);
-        if place != Ordering::Equal {
-            return place;
-        }
-        self.cmp_suffix(other)
+        self.bytes().cmp(other.bytes())
     }
 }
 
@@ -339,43 +353,6 @@ fn without_end_zeros(release: &[u64]) -> &[u64]
     short
 }
 
-fn hash_pre<H: Hasher>(pre: Option<(Phase, u64)>, state: &mut H)
-    ensures { state.new ≡ fold H.write state.old (feed_pre pre) }
-{
-    match pre {
-        None => state.write_u8(0),
-        Some((phase, n)) => {
-            state.write_u8(phase_rank(phase));
-            state.write_u64(n);
-        }
-    }
-}
-
-fn hash_segment<H: Hasher>(segment: &Label, state: &mut H)
-    ensures { state.new ≡ fold H.write state.old (feed_segment (segment_of segment.now)) }
-{
-    match segment {
-        Label::Number(n) => {
-            state.write_u8(0);
-            state.write_u64(*n);
-        }
-        Label::Word(word) => {
-            state.write_u8(1);
-            word.hash(state);
-        }
-    }
-}
-
-fn hash_label<H: Hasher>(label: &[Label], state: &mut H)
-    ensures { state.new
-        ≡ fold H.write state.old (fed.slice feed_segment (map segment_of label.now)) }
-{
-    state.write_usize(label.len());
-    for segment in label {
-        hash_segment(segment, state);
-    }
-}
-
 impl Hash for Key {
     ghost hash_input = { key_feed };
 
@@ -383,11 +360,6 @@ impl Hash for Key {
 
     #[tactic(auto, unfolding(crate::specs::Feed::key_feed))]
     fn hash<H: Hasher>(&self, state: &mut H) {
-        state.write_u64(self.version.epoch());
-        without_end_zeros(self.version.release()).hash(state);
-        hash_pre(self.version.pre(), state);
-        self.version.post().hash(state);
-        self.version.dev().hash(state);
-        hash_label(self.version.label(), state);
+        state.write(self.bytes());
     }
 }

@@ -1,8 +1,10 @@
 //! Laws of the definitions.
 
-ghost use Rattle.std.specs.Prelude.{◌≡◌, ◌<◌, ◌↔◌, ℕ, IsTrue, List, length};
+ghost use Rattle.std.specs.Prelude.{◌≡◌, ◌<◌, ◌↔◌, ◌++◌, ℕ, IsTrue, List, length};
 ghost use Rattle.std.specs.Cmp.{IsTotalOrder};
 ghost use Rattle.std.specs.List.{list_all};
+ghost use Rattle.pep_version.specs.KeyBytes.{KeysKeepOrder, PartsKeepOrder, key_bytes, place_bytes};
+ghost use Rattle.pep_version.specs.KeyReading.{IsKey, ReadsBack, behind_place, read_version, version_at};
 ghost use Rattle.pep_version.specs.Order.{Same, place_of, version_cmp};
 ghost use Rattle.pep_version.specs.Spelling.{Spells, SpellsAny};
 ghost use Rattle.pep_version.specs.Text.{is_text_byte, normal_text};
@@ -43,4 +45,29 @@ pub fn text_is_read()
 /// 440, "Normalization").
 pub fn text_bytes()
     ensures { (v : Version) → IsVersion v → IsTrue (list_all is_text_byte (normal_text v)) }
+{}
+
+/// Byte order of each part of a key is its step of the order of versions, and in no part do one
+/// value's bytes begin another's (PEP 440, "Summary of permitted suffixes and relative ordering").
+pub fn parts_keep_order()
+    ensures { PartsKeepOrder }
+{}
+
+/// Byte order of keys is the order of versions, no key begins another, and two versions have one
+/// key exactly if they have one place (PEP 440, "Summary of permitted suffixes and relative
+/// ordering").
+pub fn keys_keep_order()
+    ensures { KeysKeepOrder }
+{}
+
+/// The place of a version is read back from the front of bytes that begin with its key, and what
+/// stands behind the key, or behind its epoch and release, is what is left of them; bytes are a key
+/// exactly if the version read from them has them for its key.
+pub fn key_is_read()
+    ensures place { (v : Version) → IsVersion v → version_at (key_bytes v) ≡ place_of v }
+    ensures front { (v : Version) (rest : List ℕ) → IsVersion v
+        → read_version (key_bytes v ++ rest) ≡ (place_of v, rest) }
+    ensures behind_release { (v : Version) (rest : List ℕ) → IsVersion v
+        → behind_place (place_bytes v ++ rest) ≡ rest }
+    ensures is_key { (bytes : List ℕ) → IsKey bytes ↔ ReadsBack bytes }
 {}

@@ -17,7 +17,7 @@ mod version;
 
 pub use crate::bytes::is_separator;
 pub use crate::fault::VersionFault;
-pub use crate::key::Key;
+pub use crate::key::{Key, KeyBytes, behind_release};
 pub use crate::parts::{Label, Phase};
 pub use crate::space::{trimmed, without_trailing_space};
 pub use crate::split::first_part;

@@ -1,23 +1,13 @@
 // How a cut is written.
 
 ghost use Rattle.std.specs.Prelude.{◌≡◌, ◌++◌, string_bytes, IfErr, IfOk, OnOk};
-ghost use Rattle.pep_version.specs.Text.{normal_text};
+ghost use Rattle.pep_version.specs.KeyReading.{behind_place};
+ghost use Rattle.pep_clause.specs.CutView.{cut_word};
 
-use crate::cut::{Cut, CutForm};
+use crate::cut::Cut;
 use crate::fault::ClauseFault;
-use pep_version::Key;
+use pep_version::{Version, behind_release};
 use std::alloc::Global;
-
-// Appends the word, and behind it the normal text of the version at this place.
-fn push_place(text: &mut String, word: &str, place: &Key) -> Result<(), ClauseFault>
-    ensures ok { OnOk result (string_bytes text.new
-        ≡ string_bytes text.old ++ (word.now ++ normal_text place.now)) }
-    ensures faults { IfErr result (λ e. e ≡ ClauseFault.NoMemory) }
-{
-    text.push_str(word)?;
-    place.push_text(text)?;
-    Ok(())
-}
 
 impl Cut {
     ghost use Rattle.pep_clause.specs.Cut.{cut_text};
@@ -40,11 +30,25 @@ impl Cut {
             ≡ string_bytes text.old ++ cut_text self.now) }
         ensures faults { IfErr result (λ e. e ≡ ClauseFault.NoMemory) }
     {
-        match &self.form {
-            CutForm::Before(place) => push_place(text, "before ", place),
-            CutForm::After(place) => push_place(text, "after ", place),
-            CutForm::Past(release) => push_place(text, "past ", release),
-            CutForm::End => Ok(text.push_str("end")?),
+        if self.bytes.is_none() {
+            return Ok(text.push_str("end")?);
         }
+        let Some((version, rest)) = Version::at_front(*text.allocator(), self.bytes())? else {
+            unreachable!();
+        };
+        text.push_str(word(self.bytes(), rest))?;
+        version.push_text(text)?;
+        Ok(())
+    }
+}
+
+// The word of a cut with these bytes, of which the last ones stand behind the key of its version.
+fn word(bytes: &[u8], rest: &[u8]) -> &'static str
+    ensures { result.now ≡ cut_word (behind_place bytes.now) rest.now }
+{
+    match (behind_release(bytes), rest) {
+        ([0x60, ..], _) => "past ",
+        (_, []) => "before ",
+        _ => "after ",
     }
 }

@@ -1,5 +1,10 @@
-use Rattle.std.proofs.Common.{rules}
+use Rattle.std.proofs.Common.{◌∙◌}
+use Rattle.pep_version.specs.ByteOrder.{byte_cmp}
+use Rattle.pep_clause.proofs.CutsRead.{bytes-order}
 use Rattle.pep_clause.proofs.cut.Cut.order_to.Goals as goal
 
-pub returns-in-Before-Past-clause-order : goal.returns-in-Before-Past-clause-order
-returns-in-Before-Past-clause-order c = search rules
+pub returns-clause-order : goal.returns-clause-order
+returns-clause-order c =
+    c.cmp.ensures ∙ (λ i. byte_cmp (c.bytes.ensures.bytes i) (c.bytes-2.ensures.bytes i))
+    ∙ bytes-order c.args.self.now c.args.other.now c.bytes.ensures.spelled
+    c.bytes-2.ensures.spelled

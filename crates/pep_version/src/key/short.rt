@@ -1,0 +1,130 @@
+// Keys of versions without a pre-release and a label, as most cuts of specifiers are: they are
+// written in an array, which is then given its length.
+
+ghost use Rattle.std.specs.Prelude.{
+  ◌≡◌,
+  ◌≤◌,
+  ◌+◌,
+  ◌++◌,
+  ◌∷◌,
+  [],
+  None,
+  length,
+  take,
+  IfSome,
+  IsSome,
+};
+ghost use Rattle.pep_version.specs.ByteOrder.{ended};
+ghost use Rattle.pep_version.specs.KeyBytes.{
+  dev_bytes,
+  label_bytes,
+  number_bytes,
+  post_bytes,
+  release_number_bytes,
+  stage_bytes_of,
+};
+
+use crate::key::bytes::{INLINE, KeyBytes};
+use std::alloc::Global;
+
+// Writes the bytes there, and gives where they end, unless there is no room.
+fn put(buffer: &mut [u8; INLINE], at: usize, bytes: &[u8]) -> Option<usize>
+    ensures front { IfSome result (λ end. take end buffer.new ≡ take at buffer.old ++ bytes.now) }
+    ensures end { IfSome result (λ end. end ≡ at + length bytes.now) }
+    ensures within { IfSome result (λ end. end ≤ length buffer.new) }
+    ensures room { at + length bytes.now ≤ length buffer.old → IsSome result }
+{
+    let end = at.checked_add(bytes.len())?;
+    if end > buffer.len() {
+        return None;
+    }
+    buffer[at..end].copy_from_slice(bytes);
+    Some(end)
+}
+
+// A byte and a number behind it.
+fn put_marked(buffer: &mut [u8; INLINE], at: usize, mark: u8, n: u64) -> Option<usize>
+    ensures front { IfSome result (λ end. take end buffer.new
+        ≡ take at buffer.old ++ (mark ∷ number_bytes n)) }
+    ensures end { IfSome result (λ end. end ≡ at + 9) }
+    ensures within { IfSome result (λ end. end ≤ length buffer.new) }
+    ensures room { at + 9 ≤ length buffer.old → IsSome result }
+{
+    let [a, b, c, d, e, f, g, h] = n.to_be_bytes();
+    put(buffer, at, &[mark, a, b, c, d, e, f, g, h])
+}
+
+// The numbers of a release and the byte behind them.
+fn put_release(buffer: &mut [u8; INLINE], at: usize, release: &[u64]) -> Option<usize>
+    ensures front { IfSome result (λ end. take end buffer.new
+        ≡ take at buffer.old ++ ended release_number_bytes release.now) }
+    ensures end { IfSome result (λ end.
+        end ≡ at + length (ended release_number_bytes release.now)) }
+    ensures within { IfSome result (λ end. end ≤ length buffer.new) }
+    ensures room { at + length (ended release_number_bytes release.now) ≤ length buffer.old
+        → IsSome result }
+{
+    let mut end = at;
+    for n in release {
+        end = put_marked(buffer, end, 1, *n)?;
+    }
+    put(buffer, end, &[0])
+}
+
+// What stands behind the release.
+fn put_suffix(
+    buffer: &mut [u8; INLINE],
+    at: usize,
+    post: Option<u64>,
+    dev: Option<u64>,
+) -> Option<usize>
+    ensures front { IfSome result (λ end. take end buffer.new ≡ take at buffer.old
+        ++ (stage_bytes_of None post dev ++ (post_bytes post ++ (dev_bytes dev ++ label_bytes [])))) }
+    ensures within { IfSome result (λ end. end ≤ length buffer.new) }
+    ensures room { at + length (stage_bytes_of None post dev
+        ++ (post_bytes post ++ (dev_bytes dev ++ label_bytes []))) ≤ length buffer.old
+        → IsSome result }
+{
+    match (post, dev) {
+        (None, None) => put(buffer, at, &[0x50, 0, 1, 0]),
+        (None, Some(n)) => {
+            let end = put(buffer, at, &[0x10, 0])?;
+            let end = put_marked(buffer, end, 0, n)?;
+            put(buffer, end, &[0])
+        }
+        (Some(number), None) => {
+            let end = put(buffer, at, &[0x50])?;
+            let end = put_marked(buffer, end, 1, number)?;
+            put(buffer, end, &[1, 0])
+        }
+        (Some(number), Some(n)) => {
+            let end = put(buffer, at, &[0x50])?;
+            let end = put_marked(buffer, end, 1, number)?;
+            let end = put_marked(buffer, end, 0, n)?;
+            put(buffer, end, &[0])
+        }
+    }
+}
+
+/// The bytes of the key with these parts, whose release has no zeros at its end, unless they are
+/// too many to lie in the value.
+pub(crate) fn short_bytes(
+    alloc: Global,
+    epoch: u64,
+    release: &[u64],
+    post: Option<u64>,
+    dev: Option<u64>,
+) -> Option<KeyBytes>
+    ensures bytes { IfSome result (λ b. b.items ≡ (number_bytes epoch
+        ++ ended release_number_bytes release.now) ++ (stage_bytes_of None post dev
+        ++ (post_bytes post ++ (dev_bytes dev ++ label_bytes [])))) }
+    ensures fits { length ((number_bytes epoch
+        ++ ended release_number_bytes release.now) ++ (stage_bytes_of None post dev
+        ++ (post_bytes post ++ (dev_bytes dev ++ label_bytes [])))) ≤ INLINE → IsSome result }
+{
+    let mut buffer = [0; INLINE];
+    let behind = put(&mut buffer, 0, &epoch.to_be_bytes())?;
+    let behind = put_release(&mut buffer, behind, release)?;
+    let end = put_suffix(&mut buffer, behind, post, dev)?;
+    Some(KeyBytes::from_buf_and_len(alloc, buffer, end))
+}
