@@ -9,7 +9,6 @@ pub mod SameVersions
 pub mod CutOrderLemmas
 pub mod JoinedPoints
 pub mod NormalJoined
-pub mod FinalVersion
 pub mod Rows
 pub mod OrderRows
 pub mod NextPlace
@@ -21,11 +20,6 @@ pub mod PrefixPlace
 pub mod PrefixRows
 pub mod RaisedRelease
 pub mod SetLemmas
-pub mod OperatorLemmas
-pub mod OneAnswer
-pub mod ReadLemmas
-pub mod Written
-pub mod WrittenLemmas
 pub mod CutReading
 pub mod IncreasingRanges
 pub mod CutBytes

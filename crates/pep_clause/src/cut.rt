@@ -35,7 +35,7 @@ ghost use Rattle.pep_clause.specs.CutOrder.{LiesIn, LiesStrictlyIn, SameUnder};
 ghost use Rattle.pep_clause.specs.Laws.{cut_total};
 ghost use Rattle.pep_clause.specs.OperatorTable.{before_dev, before_place, past_release};
 
-use crate::fault::ClauseFault;
+use clauses::ClauseFault;
 use pep_version::{Key, KeyBytes, Phase, Version};
 use std::alloc::Global;
 use std::cmp::Ordering;

@@ -9,7 +9,7 @@ ghost use Rattle.pep_clause.specs.OperatorTable.{range};
 ghost use Rattle.pep_clause.specs.SetEquality.{same_range, same_range-equiv};
 
 use crate::cut::Cut;
-use crate::fault::ClauseFault;
+use clauses::ClauseFault;
 use pep_version::Key;
 use std::alloc::Global;
 use std::cmp::Ordering;

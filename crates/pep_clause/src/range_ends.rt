@@ -30,7 +30,7 @@ ghost use Rattle.pep_clause.specs.OperatorTable.{
 };
 
 use crate::cut::Cut;
-use crate::fault::ClauseFault;
+use clauses::ClauseFault;
 use pep_version::{Phase, Version};
 use std::alloc::Global;
 

@@ -23,11 +23,11 @@ ghost use Rattle.std.specs.List.{AllByRecursion};
 ghost use Rattle.std.specs.Cmp.{partial_equiv_from_equiv};
 ghost use Rattle.std.specs.declared.cmp.Ordering.TheVariants.{Less};
 ghost use Rattle.pep_version.specs.Version.{IsVersion, Version};
-ghost use Rattle.pep_clause.specs.Admits.{admits};
-ghost use Rattle.pep_clause.specs.Clause.{at_least, at_most, compatible, demanded_text, excluding};
-ghost use Rattle.pep_clause.specs.Clause.{excluding_prefix, greater_than, less_than, matching};
-ghost use Rattle.pep_clause.specs.Clause.{matching_prefix, prefix_of};
-ghost use Rattle.pep_clause.specs.ClauseView.{IsStored, clause_of};
+ghost use Rattle.clauses.specs.Admits.{admits};
+ghost use Rattle.clauses.specs.Clause.{at_least, at_most, compatible, demanded_text, excluding};
+ghost use Rattle.clauses.specs.Clause.{excluding_prefix, greater_than, less_than, matching};
+ghost use Rattle.clauses.specs.Clause.{matching_prefix, prefix_of};
+ghost use Rattle.clauses.specs.ClauseView.{IsStored, clause_of};
 ghost use Rattle.pep_clause.specs.Cut.{Cut, IsCut, cut_cmp};
 ghost use Rattle.pep_clause.specs.Inhabited.{HasVersionUnlessEmpty};
 ghost use Rattle.pep_clause.specs.Joined.{all_within, are_within, joined, row_joined};
@@ -36,9 +36,8 @@ ghost use Rattle.pep_clause.specs.SetEquality.{SameVersions, same_ranges, same_r
 ghost use Rattle.pep_clause.specs.VersionSet.{In, IsIncreasing, IsNormal, all_versions, cuts, is_in};
 ghost use Rattle.pep_clause.specs.VersionSet.{is_point};
 
-use crate::clause::{Clause, ClauseForm};
+use clauses::{Clause, ClauseFault, ClauseForm};
 use crate::cut::Cut;
-use crate::fault::ClauseFault;
 use crate::range::Range;
 use crate::range_ends::{greater_from, less_to, matching_to, next, prefix_end};
 use pep_version::{Key, Version};

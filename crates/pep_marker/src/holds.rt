@@ -3,9 +3,9 @@
 ghost use Rattle.std.specs.Prelude.{◌≡◌, ◌⊎◌, ◌&&◌, ◌||◌, IfErr, IfOk, MatchOption, Ok, Some};
 ghost use Rattle.pep_version.specs.Spelling.{Spells};
 ghost use Rattle.pep_version.specs.Version as version;
-ghost use Rattle.pep_clause.specs.Admits.{admits};
-ghost use Rattle.pep_clause.specs.Clause as clause;
-ghost use Rattle.pep_clause.specs.Clause.{ClauseOf};
+ghost use Rattle.clauses.specs.Admits.{admits};
+ghost use Rattle.clauses.specs.Clause as clause;
+ghost use Rattle.clauses.specs.Clause.{ClauseOf};
 ghost use Rattle.pep_marker.specs.Holds.{
   Compares,
   ComparesVersions,
@@ -25,7 +25,7 @@ use crate::environment::{Environment, Variable};
 use crate::fault::MarkerFault;
 use crate::marker::{Marker, Operand, Operator, Tree};
 use crate::normal::Normal;
-use pep_clause::{Clause, ClauseFault, Op};
+use clauses::{Clause, ClauseFault, Op};
 use pep_version::{Version, VersionFault};
 use std::alloc::Global;
 

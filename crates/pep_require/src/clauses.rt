@@ -11,7 +11,7 @@ ghost use Rattle.pep_require.specs.LineParts.{
 
 use crate::fault::RequireFault;
 use crate::front::{behind, pieces, stripped};
-use pep_clause::{Clause, ClauseFault, Op, clause_run};
+use clauses::{Clause, ClauseFault, Op, clause_run};
 use pep_version::first_part;
 use std::alloc::Global;
 

@@ -1,4 +1,4 @@
-use pep_clause::ClauseFault;
+use clauses::ClauseFault;
 use pep_marker::MarkerFault;
 use std::alloc::{AllocError, AllocFailed};
 use thiserror::Error;

@@ -7,7 +7,7 @@ ghost use Rattle.pep_require.specs.Requirement.{HasUndefinedMarker, MarkerSays};
 ghost use Rattle.pep_require.specs.View.{requirement_parts, target_parts};
 
 use crate::url_text::UrlText;
-use pep_clause::Clause;
+use clauses::Clause;
 use pep_marker::{Environment, Marker, MarkerFault, Name};
 use std::alloc::Global;
 

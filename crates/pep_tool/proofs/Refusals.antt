@@ -19,21 +19,21 @@ use Rattle.pep_version.specs.Spelling.{Reads}
 use Rattle.pep_version.specs.Version.{Version}
 use Rattle.pep_version.specs.declared.fault.VersionFault.{VersionFault}
 use Rattle.pep_version.specs.declared.fault.VersionFault.TheVariants as version_fault
-use Rattle.pep_tool.specs.declared.fault.Fault.{Fault}
-use Rattle.pep_tool.specs.declared.fault.Place.TheVariants as place
-use Rattle.pep_tool.specs.declared.input.Input.{Input}
-use Rattle.pep_tool.specs.declared.input.Kind.{Kind}
-use Rattle.pep_tool.specs.declared.input.Kind.TheVariants as kind
-use Rattle.pep_tool.specs.Device.{Device}
-use Rattle.pep_tool.specs.FaultLine.{fault_line}
-use Rattle.pep_tool.specs.Folder.{KnownFile}
-use Rattle.pep_tool.specs.Gathered.{AcceptsBytes, Gathered, IsAccepted}
-use Rattle.pep_tool.specs.InnerFault.{fault_of_name, fault_of_version}
-use Rattle.pep_tool.specs.ListedText.{listed_text}
-use Rattle.pep_tool.specs.Lists.{Lists, input_limit}
-use Rattle.pep_tool.specs.Merge.{IsMerge}
-use Rattle.pep_tool.specs.Refusal.{IsRefused, RefusesInputs, no_memory}
-use Rattle.pep_tool.specs.Plan.{Asks, CheckRequest, Request, check_version}
+use Rattle.faults.specs.declared.fault.Fault.{Fault}
+use Rattle.faults.specs.declared.fault.Place.TheVariants as place
+use Rattle.inputs.specs.declared.input.Input.{Input}
+use Rattle.inputs.specs.declared.input.Kind.{Kind}
+use Rattle.inputs.specs.declared.input.Kind.TheVariants as kind
+use Rattle.devices.specs.Device.{Device}
+use Rattle.faults.specs.FaultLine.{fault_line}
+use Rattle.devices.specs.Folder.{KnownFile}
+use Rattle.inputs.specs.Gathered.{AcceptsBytes, Gathered, IsAccepted}
+use Rattle.faults.specs.InnerFault.{fault_of_name, fault_of_version}
+use Rattle.inputs.specs.ListedText.{listed_text}
+use Rattle.inputs.specs.Lists.{Lists, input_limit}
+use Rattle.inputs.specs.Merge.{IsMerge}
+use Rattle.inputs.specs.Refusal.{IsRefused, RefusesInputs, no_memory}
+use Rattle.command_line.specs.Plan.{Asks, CheckRequest, Request, check_version}
 use Rattle.pep_tool.specs.Run.{Refuses, Tells, TellsRefusal, by_memory, by_output, by_request}
 use Rattle.pep_tool.specs.Run.{write_fault}
 use Rattle.pep_tool.specs.RunAnswers.{Answers, ChecksFiles, ListsFile, MergesFiles, MergesInput}

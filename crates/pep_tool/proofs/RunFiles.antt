@@ -10,15 +10,15 @@ use Rattle.std.specs.Prelude.{◌↔◌, IsErrOf, IsTrue}
 use Rattle.clap.specs.Words.{Text}
 use Rattle.pep_table.proofs.EntryPlaces.{whole}
 use Rattle.pep_table.proofs.FirstFault.{next_mapped}
-use Rattle.pep_tool.specs.declared.fault.Cause.{Cause}
-use Rattle.pep_tool.specs.declared.fault.Fault.{Fault}
-use Rattle.pep_tool.specs.declared.fault.Place.{Place}
-use Rattle.pep_tool.specs.declared.fault.Place.TheVariants as place
-use Rattle.pep_tool.specs.declared.input.Input.{Input}
-use Rattle.pep_tool.specs.Device.{Device}
-use Rattle.pep_tool.specs.Folder.{KnownFile}
-use Rattle.pep_tool.specs.Lists.{input_limit}
-use Rattle.pep_tool.specs.Refusal.{no_memory}
+use Rattle.faults.specs.declared.fault.Cause.{Cause}
+use Rattle.faults.specs.declared.fault.Fault.{Fault}
+use Rattle.faults.specs.declared.fault.Place.{Place}
+use Rattle.faults.specs.declared.fault.Place.TheVariants as place
+use Rattle.inputs.specs.declared.input.Input.{Input}
+use Rattle.devices.specs.Device.{Device}
+use Rattle.devices.specs.Folder.{KnownFile}
+use Rattle.inputs.specs.Lists.{input_limit}
+use Rattle.inputs.specs.Refusal.{no_memory}
 use Rattle.pep_tool.specs.RunFiles.{CannotRead, CannotReadOne, IsOpened, ReadsFile, ReadsInput}
 use Rattle.pep_tool.specs.RunFiles.{ReadsInputs, RefusesFile, by_bytes, by_reading, read_fault}
 use Rattle.pep_tool.specs.RunFiles.{unread}

@@ -2,14 +2,14 @@
 use Rattle.std.specs.Prelude.{◌≡◌, ◌⊎◌, ℕ, IsTrue, false, List, Option}
 use Rattle.std.specs.Io.KnownBytes.{Appends}
 use Rattle.clap.specs.Words.{Text}
-use Rattle.pep_tool.specs.declared.fault.Cause.TheVariants as cause
-use Rattle.pep_tool.specs.declared.fault.Fault.{Fault}
-use Rattle.pep_tool.specs.declared.fault.Place.TheVariants as place
-use Rattle.pep_tool.specs.Device.{Device}
-use Rattle.pep_tool.specs.FaultLine.{fault_line}
-use Rattle.pep_tool.specs.Folder.{KnownFile}
-use Rattle.pep_tool.specs.Plan.{AskNothing, Asks, IsBadWords, Request}
-use Rattle.pep_tool.specs.Refusal.{no_memory}
+use Rattle.faults.specs.declared.fault.Cause.TheVariants as cause
+use Rattle.faults.specs.declared.fault.Fault.{Fault}
+use Rattle.faults.specs.declared.fault.Place.TheVariants as place
+use Rattle.devices.specs.Device.{Device}
+use Rattle.faults.specs.FaultLine.{fault_line}
+use Rattle.devices.specs.Folder.{KnownFile}
+use Rattle.command_line.specs.Plan.{AskNothing, Asks, IsBadWords, Request}
+use Rattle.inputs.specs.Refusal.{no_memory}
 use Rattle.pep_tool.specs.RunAnswers.{Answers, RefusesRequest}
 
 -- writing the answer failed

@@ -15,23 +15,23 @@ use Rattle.pep_version.specs.Text.{normal_text}
 use Rattle.pep_version.specs.Version.{Version}
 use Rattle.pep_version.specs.declared.fault.VersionFault.{VersionFault}
 use Rattle.pep_version.specs.declared.fault.VersionFault.TheVariants as version_fault
-use Rattle.pep_tool.specs.declared.fault.ArgumentFault.TheVariants as argument
-use Rattle.pep_tool.specs.declared.fault.Cause.{Cause}
-use Rattle.pep_tool.specs.declared.fault.Cause.TheVariants as cause
-use Rattle.pep_tool.specs.declared.fault.Fault.{Fault}
-use Rattle.pep_tool.specs.declared.fault.Place.TheVariants as place
-use Rattle.pep_tool.specs.declared.input.Input.{Input}
-use Rattle.pep_tool.specs.declared.input.Kind.{Kind}
-use Rattle.pep_tool.specs.declared.input.Kind.TheVariants as kind
-use Rattle.pep_tool.specs.Device.{Device}
-use Rattle.pep_tool.specs.Folder.{KnownFile}
-use Rattle.pep_tool.specs.Gathered.{Gathered, IsAccepted}
-use Rattle.pep_tool.specs.ListedText.{listed_text}
-use Rattle.pep_tool.specs.Lists.{Lists, input_limit}
-use Rattle.pep_tool.specs.Merge.{IsMerge}
-use Rattle.pep_tool.specs.Plan.{CheckRequest, Request, check_version, merge_files, show_lines}
-use Rattle.pep_tool.specs.Plan.{show_version, standard}
-use Rattle.pep_tool.specs.Refusal.{BlamesInput, IsRefused, IsRefusedList, IsRefusedProject}
+use Rattle.faults.specs.declared.fault.ArgumentFault.TheVariants as argument
+use Rattle.faults.specs.declared.fault.Cause.{Cause}
+use Rattle.faults.specs.declared.fault.Cause.TheVariants as cause
+use Rattle.faults.specs.declared.fault.Fault.{Fault}
+use Rattle.faults.specs.declared.fault.Place.TheVariants as place
+use Rattle.inputs.specs.declared.input.Input.{Input}
+use Rattle.inputs.specs.declared.input.Kind.{Kind}
+use Rattle.inputs.specs.declared.input.Kind.TheVariants as kind
+use Rattle.devices.specs.Device.{Device}
+use Rattle.devices.specs.Folder.{KnownFile}
+use Rattle.inputs.specs.Gathered.{Gathered, IsAccepted}
+use Rattle.inputs.specs.ListedText.{listed_text}
+use Rattle.inputs.specs.Lists.{Lists, input_limit}
+use Rattle.inputs.specs.Merge.{IsMerge}
+use Rattle.command_line.specs.Plan.{CheckRequest, Request, check_version, merge_files, show_lines}
+use Rattle.command_line.specs.Plan.{show_version, standard}
+use Rattle.inputs.specs.Refusal.{BlamesInput, IsRefused, IsRefusedList, IsRefusedProject}
 use Rattle.pep_tool.specs.RunFiles.{CannotReadOne, ReadsEnvironment, ReadsFile, ReadsInputs}
 use Rattle.pep_tool.specs.RunFiles.{RefusesEnvironment, RefusesFile, kind_of, read_fault}
 use Rattle.pep_tool.specs.Standard.{standard_environment}

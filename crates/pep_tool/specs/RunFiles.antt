@@ -5,19 +5,19 @@ use Rattle.std.specs.Io.KnownBytes.{Consumes, IsAtEnd, Keeps}
 use Rattle.std.specs.List.{AllZip, ends_with}
 use Rattle.clap.specs.Words.{Text}
 use Rattle.pep_marker.specs.Environment.{EnvironmentParts}
-use Rattle.pep_tool.specs.declared.fault.Cause.{Cause}
-use Rattle.pep_tool.specs.declared.fault.Cause.TheVariants as cause
-use Rattle.pep_tool.specs.declared.fault.Fault.{Fault}
-use Rattle.pep_tool.specs.declared.fault.Place.{Place}
-use Rattle.pep_tool.specs.declared.fault.Place.TheVariants as place
-use Rattle.pep_tool.specs.declared.input.Input.{Input}
-use Rattle.pep_tool.specs.declared.input.Kind.{Kind}
-use Rattle.pep_tool.specs.declared.input.Kind.TheVariants as kind
-use Rattle.pep_tool.specs.Device.{Device}
-use Rattle.pep_tool.specs.EnvironmentFile.{environment_file}
-use Rattle.pep_tool.specs.Folder.{KnownFile}
-use Rattle.pep_tool.specs.Lists.{input_limit}
-use Rattle.pep_tool.specs.Refusal.{IsNumbered}
+use Rattle.faults.specs.declared.fault.Cause.{Cause}
+use Rattle.faults.specs.declared.fault.Cause.TheVariants as cause
+use Rattle.faults.specs.declared.fault.Fault.{Fault}
+use Rattle.faults.specs.declared.fault.Place.{Place}
+use Rattle.faults.specs.declared.fault.Place.TheVariants as place
+use Rattle.inputs.specs.declared.input.Input.{Input}
+use Rattle.inputs.specs.declared.input.Kind.{Kind}
+use Rattle.inputs.specs.declared.input.Kind.TheVariants as kind
+use Rattle.devices.specs.Device.{Device}
+use Rattle.inputs.specs.EnvironmentFile.{environment_file}
+use Rattle.devices.specs.Folder.{KnownFile}
+use Rattle.inputs.specs.Lists.{input_limit}
+use Rattle.inputs.specs.Refusal.{IsNumbered}
 
 -- what lies in this place can't be opened, or reading it failed
 abbrev pub read_fault : Place → Fault

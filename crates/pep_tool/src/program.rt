@@ -14,19 +14,19 @@ ghost use Rattle.std.specs.Prelude.{
   string_bytes,
 };
 ghost use Rattle.std.specs.Io.KnownBytes.{Keeps};
-ghost use Rattle.pep_tool.specs.Device.{Device, IsFresh};
-ghost use Rattle.pep_tool.specs.Folder.{unknown_files};
-ghost use Rattle.pep_tool.specs.Lists.{input_limit};
-ghost use Rattle.pep_tool.specs.Plan.{Asks, standard};
+ghost use Rattle.devices.specs.Device.{Device, IsFresh};
+ghost use Rattle.devices.specs.Folder.{unknown_files};
+ghost use Rattle.inputs.specs.Lists.{input_limit};
+ghost use Rattle.command_line.specs.Plan.{Asks, standard};
 ghost use Rattle.pep_tool.specs.Run.{PrintsAnswer, Refuses, Tells, TellsRefusal, WritesLine};
 
 mod answers;
 mod reading;
 
-use crate::device::{Counted, Sink, Source};
-use crate::fault::Fault;
-use crate::folder::{Disk, Folder};
-use crate::plan::plan_of;
+use devices::{Counted, Sink, Source};
+use faults::Fault;
+use devices::{Disk, Folder};
+use command_line::plan_of;
 use crate::write::write_text;
 use answers::reply_to;
 use std::alloc::Global;

@@ -1,10 +1,10 @@
 //! The environment of the program where none is handed in.
 
 ghost use Rattle.std.specs.Prelude.{◌≡◌, IfErr, IfOk};
-ghost use Rattle.pep_tool.specs.Refusal.{no_memory};
+ghost use Rattle.inputs.specs.Refusal.{no_memory};
 ghost use Rattle.pep_tool.specs.Standard.{standard_environment};
 
-use crate::fault::Fault;
+use faults::Fault;
 use pep_marker::{Environment, MarkerFault};
 use std::alloc::Global;
 

@@ -1,10 +1,10 @@
 //! Writing a text to the end.
 
 ghost use Rattle.std.specs.Prelude.{◌≡◌, IfErr, is_err};
-ghost use Rattle.pep_tool.specs.Device.{IsFresh, WritesText};
+ghost use Rattle.devices.specs.Device.{IsFresh, WritesText};
 
-use crate::device::Sink;
-use crate::fault::{Cause, Fault, Place};
+use devices::{Sink, push_all};
+use faults::{Cause, Fault, Place};
 
 /// Writes the whole text, in as many calls as the sink wants.
 ///
@@ -20,18 +20,11 @@ pub fn write_text<W: Sink>(sink: &mut W, text: &str) -> Result<(), Fault>
           Cause.WriteFault;
     }) }
 {
-    let bytes = text.as_bytes();
-    let mut done = 0;
-    while done < bytes.len() {
-        match sink.push(&bytes[done..]) {
-            Ok(count) => done += count,
-            Err(_) => {
-                return Err(Fault {
-                    place: Place::Nowhere,
-                    cause: Cause::WriteFault,
-                });
-            }
-        }
+    match push_all(sink, text.as_bytes()) {
+        Ok(()) => Ok(()),
+        Err(_) => Err(Fault {
+            place: Place::Nowhere,
+            cause: Cause::WriteFault,
+        }),
     }
-    Ok(())
 }

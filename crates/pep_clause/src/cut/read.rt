@@ -6,7 +6,7 @@ ghost use Rattle.pep_version.specs.Version.{IsVersion, Version};
 ghost use Rattle.pep_clause.specs.Cut.{Cut, IsCut, cut_text};
 
 use crate::cut::Cut;
-use crate::fault::ClauseFault;
+use clauses::ClauseFault;
 use pep_version::{Version, VersionFault};
 use std::alloc::Global;
 

@@ -5,7 +5,7 @@ ghost use Rattle.pep_version.specs.KeyReading.{behind_place};
 ghost use Rattle.pep_clause.specs.CutView.{cut_word};
 
 use crate::cut::Cut;
-use crate::fault::ClauseFault;
+use clauses::ClauseFault;
 use pep_version::{Version, behind_release};
 use std::alloc::Global;
 

@@ -18,11 +18,11 @@ ghost use Rattle.std.specs.Prelude.{
 };
 ghost use Rattle.pep_require.specs.View.{requirement_parts};
 ghost use Rattle.pep_table.specs.Table.{HasExactPoints, IsTable};
-ghost use Rattle.pep_tool.specs.Device.{Device, IsFresh};
-ghost use Rattle.pep_tool.specs.Gathered.{Gathered, IsAccepted};
-ghost use Rattle.pep_tool.specs.Lists.{Lists, input_limit};
-ghost use Rattle.pep_tool.specs.Plan.{request, standard};
-ghost use Rattle.pep_tool.specs.Refusal.{RefusesInputs, no_memory};
+ghost use Rattle.devices.specs.Device.{Device, IsFresh};
+ghost use Rattle.inputs.specs.Gathered.{Gathered, IsAccepted};
+ghost use Rattle.inputs.specs.Lists.{Lists, input_limit};
+ghost use Rattle.command_line.specs.Plan.{request, standard};
+ghost use Rattle.inputs.specs.Refusal.{RefusesInputs, no_memory};
 ghost use Rattle.pep_tool.specs.RunAnswers.{
   Answers,
   ChecksFiles,
@@ -42,16 +42,16 @@ ghost use Rattle.pep_tool.specs.RunAnswers.{
 };
 ghost use Rattle.pep_tool.specs.Standard.{standard_environment};
 
-use crate::device::Source;
-use crate::fault::{Cause, Fault, Place};
-use crate::folder::Folder;
-use crate::gathering::gather;
-use crate::input::{Input, Kind};
-use crate::lines::{lines_text, list_of};
-use crate::merge::{check_bytes, merge_bytes, text_of};
-use crate::plan::Plan;
+use devices::Source;
+use faults::{Cause, Fault, Place};
+use devices::Folder;
+use inputs::gather;
+use inputs::{Input, Kind};
+use inputs::{lines_text, list_of};
+use inputs::{check_bytes, merge_bytes, text_of};
+use command_line::Plan;
 use crate::program::reading::{kind_of, read_all, read_environment, read_file, read_inputs};
-use crate::project::project_of;
+use inputs::project_of;
 use crate::standard::standard_environment;
 use pep_marker::Name;
 use pep_require::Requirement;

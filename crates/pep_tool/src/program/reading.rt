@@ -15,9 +15,9 @@ ghost use Rattle.std.specs.Prelude.{
   string_bytes,
 };
 ghost use Rattle.std.specs.Io.KnownBytes.{Consumes, IsAtEnd};
-ghost use Rattle.pep_tool.specs.Device.{Device, IsFresh};
-ghost use Rattle.pep_tool.specs.Lists.{input_limit};
-ghost use Rattle.pep_tool.specs.Refusal.{no_memory};
+ghost use Rattle.devices.specs.Device.{Device, IsFresh};
+ghost use Rattle.inputs.specs.Lists.{input_limit};
+ghost use Rattle.inputs.specs.Refusal.{no_memory};
 ghost use Rattle.pep_tool.specs.RunFiles.{
   CannotRead,
   CannotReadOne,
@@ -29,11 +29,11 @@ ghost use Rattle.pep_tool.specs.RunFiles.{
   read_fault,
 };
 
-use crate::device::Source;
-use crate::environment_file::environment_of;
-use crate::fault::{Cause, Fault, Place};
-use crate::folder::{Folder, OpenFault};
-use crate::input::{Input, Kind};
+use devices::Source;
+use inputs::environment_of;
+use faults::{Cause, Fault, Place};
+use devices::{Folder, OpenFault};
+use inputs::{Input, Kind};
 use pep_marker::Environment;
 use std::alloc::Global;
 

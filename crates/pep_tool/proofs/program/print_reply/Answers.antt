@@ -1,6 +1,6 @@
 use Rattle.std.proofs.Common.{map, string_bytes}
 use Rattle.std.proofs.lemmas.Result.{err_from_is_err_and}
-use Rattle.pep_tool.specs.Plan.{request}
+use Rattle.command_line.specs.Plan.{request}
 use Rattle.pep_tool.proofs.Refusals.{refuses_request, refuses_write}
 use Rattle.pep_tool.proofs.program.print_reply.Goals as goal
 

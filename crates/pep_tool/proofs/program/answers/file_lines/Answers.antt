@@ -1,8 +1,8 @@
 use Rattle.std.proofs.Common.{◌≢◌, ap, map, rules, string_bytes}
 use Rattle.std.proofs.lemmas.Result.{err_from_is_err_and}
 use Rattle.pep_require.specs.View.{requirement_parts}
-use Rattle.pep_tool.specs.declared.fault.Place.TheVariants.{Input}
-use Rattle.pep_tool.specs.declared.input.Kind.TheVariants as kind
+use Rattle.faults.specs.declared.fault.Place.TheVariants.{Input}
+use Rattle.inputs.specs.declared.input.Kind.TheVariants as kind
 use Rattle.pep_tool.specs.RunAnswers.{IsUnlisted, by_listing}
 use Rattle.pep_tool.specs.RunFiles.{kind_of}
 use Rattle.pep_tool.proofs.Refusals.{lists_file, memory_or}

@@ -2,9 +2,9 @@ use Rattle.std.proofs.Common.{IfOk, [], ◌∷◌, subst}
 use Rattle.std.specs.Prelude.{All}
 use Rattle.pep_marker.specs.Environment.{EnvironmentParts}
 use Rattle.pep_table.specs.Table.{HasExactPoints, IsTable}
-use Rattle.pep_tool.specs.declared.input.Input.{Input}
-use Rattle.pep_tool.specs.declared.input.Kind.TheVariants as kind
-use Rattle.pep_tool.specs.Gathered.{Gathered, IsAccepted}
+use Rattle.inputs.specs.declared.input.Input.{Input}
+use Rattle.inputs.specs.declared.input.Kind.TheVariants as kind
+use Rattle.inputs.specs.Gathered.{Gathered, IsAccepted}
 use Rattle.pep_tool.proofs.program.answers.gather_list.Goals as goal
 
 pub returns-clause-accepted : goal.returns-clause-accepted

@@ -1,9 +1,9 @@
 use Rattle.std.proofs.Common.{refl, rules, string_bytes, [], ◌∷◌}
 use Rattle.std.proofs.lemmas.Result.{err_from_is_err_and}
-use Rattle.pep_tool.specs.declared.input.Input.{Input}
-use Rattle.pep_tool.specs.declared.input.Kind.TheVariants as kind
+use Rattle.inputs.specs.declared.input.Input.{Input}
+use Rattle.inputs.specs.declared.input.Kind.TheVariants as kind
 use Rattle.pep_tool.specs.Standard.{standard_environment}
-use Rattle.pep_tool.proofs.MergeLemmas.{merges}
+use Rattle.inputs.proofs.MergeLemmas.{merges}
 use Rattle.pep_tool.proofs.Refusals.{MergesInput-from_merge, merge_refused}
 use Rattle.pep_tool.proofs.program.answers.merge_input.Goals as goal
 

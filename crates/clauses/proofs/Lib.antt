@@ -1,0 +1,6 @@
+pub mod FinalVersion
+pub mod OperatorLemmas
+pub mod OneAnswer
+pub mod ReadLemmas
+pub mod Written
+pub mod WrittenLemmas

@@ -1,0 +1,6 @@
+pub mod Clause
+pub mod Valid
+pub mod Admits
+pub mod Operator
+pub mod ClauseView
+pub mod Code

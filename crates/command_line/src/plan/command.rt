@@ -1,0 +1,138 @@
+//! The command line, as `clap` reads it. Its texts of help and usage are for people, and no clause
+//! speaks of them.
+
+ghost use Rattle.std.specs.Prelude.{◌≡◌, IfOk, false};
+ghost use Rattle.clap.specs.Words.{app_of, rule_of};
+ghost use Rattle.clap.specs.declared.builder.command.Command.TheViews.{out-Command};
+ghost use Rattle.command_line.specs.Plan.{
+  check_command,
+  environment_option,
+  files_argument,
+  lines_command,
+  merge_command,
+  pre_flag,
+  program,
+  text_argument,
+  version_command,
+};
+
+use clap::{Arg, ArgAction, Command};
+use std::alloc::{AllocError, Global};
+
+// A text that has to be there.
+fn text_argument<'a>(alloc: Global, name: &'a str, help: &'a str) -> Arg<'a>
+    ensures rule { rule_of result ≡ text_argument name.now }
+    ensures local { result.global ≡ false }
+{
+    Arg::new(alloc, name)
+        .required(true)
+        .action(ArgAction::Set)
+        .help(help)
+}
+
+// The paths of one file or more.
+fn files_argument<'a>(alloc: Global, help: &'a str) -> Arg<'a>
+    ensures rule { rule_of result ≡ files_argument }
+    ensures local { result.global ≡ false }
+{
+    Arg::new(alloc, "FILE")
+        .required(true)
+        .num_args(1..)
+        .action(ArgAction::Append)
+        .help(help)
+}
+
+// The option `--env E`, which has to be there.
+fn environment_option<'a>(alloc: Global) -> Arg<'a>
+    ensures rule { rule_of result ≡ environment_option }
+    ensures local { result.global ≡ false }
+{
+    Arg::new(alloc, "env")
+        .long("env")
+        .value_name("E")
+        .required(true)
+        .action(ArgAction::Set)
+        .help("The path of the environment: a TOML file with a text for each variable of PEP 508")
+}
+
+// The flag `--pre`.
+fn pre_flag<'a>(alloc: Global) -> Arg<'a>
+    ensures rule { rule_of result ≡ pre_flag }
+    ensures local { result.global ≡ false }
+{
+    Arg::new(alloc, "pre")
+        .long("pre")
+        .action(ArgAction::SetTrue)
+        .help("Takes a pre-release too")
+}
+
+fn version_command<'a>(alloc: Global) -> Result<Command<'a>, AllocError>
+    ensures shape { IfOk result (λ c. app_of c ≡ version_command) }
+    ensures local { IfOk result (λ c. (out-Command c).has_globals ≡ false) }
+{
+    let text = text_argument(alloc, "TEXT", "A version, in any spelling of PEP 440");
+    Command::new(alloc, "version")
+        .about("Prints the normal text of a version")
+        .arg(text)
+}
+
+fn lines_command<'a>(alloc: Global) -> Result<Command<'a>, AllocError>
+    ensures shape { IfOk result (λ c. app_of c ≡ lines_command) }
+    ensures local { IfOk result (λ c. (out-Command c).has_globals ≡ false) }
+{
+    let file = text_argument(alloc, "FILE", "The path of a list or of a project file");
+    Command::new(alloc, "lines")
+        .about("Prints the requirements of a file, one on each line")
+        .arg(file)
+}
+
+fn merge_command<'a>(alloc: Global) -> Result<Command<'a>, AllocError>
+    ensures shape { IfOk result (λ c. app_of c ≡ merge_command) }
+    ensures local { IfOk result (λ c. (out-Command c).has_globals ≡ false) }
+{
+    let environment = environment_option(alloc);
+    let files = files_argument(
+        alloc,
+        "The paths of the files whose requirements are merged",
+    );
+    Command::new(alloc, "merge")
+        .about("Merges the requirements of files, and prints their table")
+        .arg(environment)?
+        .arg(files)
+}
+
+fn check_command<'a>(alloc: Global) -> Result<Command<'a>, AllocError>
+    ensures shape { IfOk result (λ c. app_of c ≡ check_command) }
+    ensures local { IfOk result (λ c. (out-Command c).has_globals ≡ false) }
+{
+    let environment = environment_option(alloc);
+    let pre = pre_flag(alloc);
+    let name = text_argument(alloc, "NAME", "The name of a package");
+    let version = text_argument(alloc, "VERSION", "A version of it");
+    let files = files_argument(
+        alloc,
+        "The paths of the files whose requirements it has to meet",
+    );
+    Command::new(alloc, "check")
+        .about("Prints whether a version meets the requirements of files: yes, no or conflict")
+        .arg(environment)?
+        .arg(pre)?
+        .arg(name)?
+        .arg(version)?
+        .arg(files)
+}
+
+/// The program with all its commands.
+pub(crate) fn program<'a>(alloc: Global) -> Result<Command<'a>, AllocError>
+    ensures { IfOk result (λ c. app_of c ≡ program) }
+{
+    Command::new(alloc, "tubrambutan")
+        .about("Merges Python requirements; without words, the list on standard input")
+        .bin_name("tubrambutan")?
+        .no_binary_name(true)
+        .subcommand_required(true)
+        .subcommand(version_command(alloc)?)?
+        .subcommand(lines_command(alloc)?)?
+        .subcommand(merge_command(alloc)?)?
+        .subcommand(check_command(alloc)?)
+}

@@ -1,0 +1,4 @@
+pub mod Code
+pub mod InnerFault
+pub mod FaultLine
+pub mod NoMemory

@@ -1,0 +1,224 @@
+-- Which inputs are accepted in an environment, and the table of what they demand there.
+use Rattle.std.proofs.Common.{◌≡◌, ℕ, ◌⊎◌, arith, List, [], ◌∷◌, subst, inl, inr}
+use Rattle.std.specs.Prelude.{All, ◌↔◌}
+use Rattle.std.specs.List.{AllZip}
+use Rattle.std.proofs.lemmas.List.Elements.{All-cons, All-head, All-nil, All-tail}
+use Rattle.pep_marker.specs.Environment.{EnvironmentParts}
+use Rattle.pep_require.proofs.ExtrasLaws.{AllZip-one}
+use Rattle.pep_require.proofs.LineLaws.{one_requirement}
+use Rattle.pep_require.specs.Reads.{Reads}
+use Rattle.pep_require.specs.Requirement.{HasDefinedMarker}
+use Rattle.pep_require.specs.Requirement.{RequirementParts}
+use Rattle.pep_table.proofs.SameDemands.{same_demands}
+use Rattle.pep_table.proofs.Taking.{applying_is_table, no_demands}
+use Rattle.pep_table.specs.Demand.{ApplyingDemands, Demand, Demands, Together}
+use Rattle.pep_table.specs.Gathering.{TakesApplying}
+use Rattle.pep_table.specs.Table.{HasExactPoints, IsTable, IsValidTable, TableDemands}
+use Rattle.pep_table.specs.Table.{TableParts}
+use Rattle.pep_table.proofs.JoinedDemands.{joined_is_table, own_table}
+use Rattle.pep_table.proofs.OneTableOfText.{one_table_of_text}
+use Rattle.pep_table.proofs.TableBytes.{table_utf8}
+use Rattle.faults.specs.declared.fault.Cause.{Cause}
+use Rattle.inputs.specs.declared.input.Input.{Input}
+use Rattle.inputs.specs.declared.input.Kind.{Kind}
+use Rattle.inputs.specs.declared.input.Kind.TheVariants as kind
+use Rattle.inputs.specs.GatheredLines.{GathersInputs}
+use Rattle.inputs.specs.Gathered.{AcceptsBytes, BytesDemand, Gathered, IsAccepted}
+use Rattle.inputs.specs.Lists.{HoldsTable, IsListBy, IsRequirementList, Lists, content}
+use Rattle.inputs.specs.Lists.{requirement_lines}
+use Rattle.inputs.specs.Refusal.{IsOverflow, IsRefused, IsUndefinedList}
+use Rattle.inputs.specs.TableFiles.{IsRefusedTable, IsTableFile, by_encoding, by_size, by_text}
+use Rattle.inputs.proofs.DefinedMarkers.{both_markers}
+use Rattle.inputs.proofs.ListLemmas.{line_of_list, refused_list}
+use Rattle.inputs.proofs.Projects.{one_project, refused_project, undefined_project}
+
+-- ---- refused inputs are not accepted
+
+-- what a line is read as, with a marker that is defined
+abbrev ReadsDefined : EnvironmentParts → List ℕ → RequirementParts → Type 0
+ReadsDefined e x r = Reads x r × HasDefinedMarker e r
+
+zip_defined : (e : EnvironmentParts) (xs : List (List ℕ)) (rs : List RequirementParts) →
+    AllZip Reads xs rs → All (HasDefinedMarker e) rs → AllZip (ReadsDefined e) xs rs
+zip_defined e [] [] z h = tt
+zip_defined e [] (r ∷ rs) z h = absurd z
+zip_defined e (x ∷ xs) [] z h = absurd z
+zip_defined e (x ∷ xs) (r ∷ rs) z h = (
+  (z.0, All-head (HasDefinedMarker e) r rs h),
+  zip_defined e xs rs z.1 (All-tail (HasDefinedMarker e) r rs h),
+)
+
+list_defined : (e : EnvironmentParts) (bytes : List ℕ) (rs : List RequirementParts) →
+    IsRequirementList bytes rs → All (HasDefinedMarker e) rs → IsListBy (ReadsDefined e) bytes rs
+list_defined e bytes rs s h = record {
+  size = s.size;
+  short = s.short;
+  texts = s.texts;
+  requirements = zip_defined e (requirement_lines bytes) rs s.requirements h;
+}
+
+-- a list with an undefined line
+undefined_list : (e : EnvironmentParts) (bytes : List ℕ) (c : Cause) (rs : List RequirementParts) →
+    IsUndefinedList e bytes c → IsRequirementList bytes rs → All (HasDefinedMarker e) rs → ⊥
+undefined_list e bytes c rs u s h =
+    let good = line_of_list {reads = ReadsDefined e} bytes u.numbered.before u.line
+    u.numbered.behind rs u.numbered.whole (list_defined e bytes rs s h) in
+    let own = good.requirement u.undefined.kept in
+    let same : own.0 ≡ u.undefined.requirement =
+    one_requirement (content u.line) own.0 u.undefined.requirement own.1.0 u.undefined.reads in
+    both_markers e u.undefined.requirement (subst (HasDefinedMarker e) same own.1.1)
+    u.undefined.undefined
+
+refused_table : (bytes : List ℕ) (c : Cause) (t : TableParts) → IsRefusedTable bytes c →
+    ¬ IsTableFile bytes t
+refused_table bytes c t (by_size over is) file = omega (arith, over, file.size)
+refused_table bytes c t (by_encoding size not is) file =
+    not (table_utf8 t bytes file.valid file.text)
+refused_table bytes c t (by_text line size text none is) file = none t file.valid file.text
+
+refused_bytes : (e : EnvironmentParts) (k : Kind) (bytes : List ℕ) (c : Cause) → ¬ IsOverflow c →
+    IsRefused e k bytes c → ¬ AcceptsBytes e k bytes
+refused_bytes e kind.List bytes c told (inl h) (inl a) = refused_list bytes c a.0 told h a.1
+refused_bytes e kind.List bytes c told (inr h) (inl a) = undefined_list e bytes c a.0 h a.1 a.2
+refused_bytes e kind.List bytes c told h (inr a) = absurd a.1
+refused_bytes e kind.Project bytes c told (inl h) (inl a) =
+    refused_project e.extra bytes c a.0 told h a.1
+refused_bytes e kind.Project bytes c told (inr h) (inl a) =
+    undefined_project e bytes c a.0 h a.1 a.2
+refused_bytes e kind.Project bytes c told h (inr a) = absurd a.1
+refused_bytes e kind.Table bytes c told h (inl a) = absurd a.1
+refused_bytes e kind.Table bytes c told h (inr a) = refused_table bytes c a.0 h a.1
+
+pub refused_in : (e : EnvironmentParts) (i : Input) (c : Cause) → ¬ IsOverflow c →
+    IsRefused e i.kind i.bytes.items c → ¬ IsAccepted e i
+refused_in e i c told h = refused_bytes e i.kind i.bytes.items c told h
+
+-- ---- inputs that are taken are accepted
+
+defined_all : (e : EnvironmentParts) (old : TableParts) (rs : List RequirementParts)
+    (new : TableParts) → TakesApplying e old rs new → All (HasDefinedMarker e) rs
+defined_all e old [] new t = All-nil (HasDefinedMarker e)
+defined_all e old (r ∷ rs) new t =
+    All-cons (HasDefinedMarker e) r rs (t.1, t.2) (defined_all e t.0 rs new t.4)
+
+pub all_accepted_in : (e : EnvironmentParts) (inputs : List Input) (old new : TableParts) →
+    GathersInputs e inputs old new → All (IsAccepted e) inputs
+all_accepted_in e [] old new g = All-nil (IsAccepted e)
+all_accepted_in e (i ∷ inputs) old new (mid, inl (rs, is, takes), more) =
+    All-cons (IsAccepted e) i inputs (inl (rs, is, defined_all e old rs mid takes))
+    (all_accepted_in e inputs mid new more)
+all_accepted_in e (i ∷ inputs) old new (mid, inr (t, is, joins), more) =
+    All-cons (IsAccepted e) i inputs (inr (t, is)) (all_accepted_in e inputs mid new more)
+
+-- ---- the table of what they demand
+
+pub one_list : (extra : List ℕ) (k : Kind) (bytes : List ℕ) (rs qs : List RequirementParts) →
+    Lists extra k bytes rs → Lists extra k bytes qs → rs ≡ qs
+one_list extra kind.List bytes rs qs h g =
+    AllZip-one Reads one_requirement (requirement_lines bytes) rs qs h.requirements g.requirements
+one_list extra kind.Project bytes rs qs h g = one_project extra bytes rs qs h g
+one_list extra kind.Table bytes rs qs h g = absurd h
+
+-- bytes that are requirements are no table
+apart : (extra : List ℕ) (k : Kind) (bytes : List ℕ) (rs : List RequirementParts)
+    (t : TableParts) → Lists extra k bytes rs → HoldsTable k bytes t → ⊥
+apart extra kind.List bytes rs t h g = g
+apart extra kind.Project bytes rs t h g = g
+apart extra kind.Table bytes rs t h g = h
+
+pub one_table_in : (k : Kind) (bytes : List ℕ) (s t : TableParts) → HoldsTable k bytes s →
+    HoldsTable k bytes t → s ≡ t
+one_table_in kind.List bytes s t h g = absurd h
+one_table_in kind.Project bytes s t h g = absurd h
+one_table_in kind.Table bytes s t h g = one_table_of_text s t bytes h.text g.text h.valid g.valid
+
+holds_valid : (k : Kind) (bytes : List ℕ) (t : TableParts) → HoldsTable k bytes t → IsValidTable t
+holds_valid kind.List bytes t h = absurd h
+holds_valid kind.Project bytes t h = absurd h
+holds_valid kind.Table bytes t h = h.valid
+
+bytes_demand_in : (e : EnvironmentParts) (k : Kind) (bytes : List ℕ) (rs : List RequirementParts)
+    (name : List ℕ) (d : Demand) → Lists e.extra k bytes rs →
+    ApplyingDemands e rs name d ↔ BytesDemand e k bytes name d
+bytes_demand_in e k bytes rs name d is = (λ h. inl (rs, is, h), back)
+  where
+    back : BytesDemand e k bytes name d → ApplyingDemands e rs name d
+    back (inl h) = subst (λ (qs : List RequirementParts). ApplyingDemands e qs name d)
+        (one_list e.extra k bytes h.0 rs h.1 is) h.2
+    back (inr h) = absurd (apart e.extra k bytes rs h.0 is h.1)
+
+pub table_demands_in : (e : EnvironmentParts) (k : Kind) (bytes : List ℕ) (t : TableParts)
+    (name : List ℕ) (d : Demand) → HoldsTable k bytes t →
+    TableDemands t name d ↔ BytesDemand e k bytes name d
+table_demands_in e k bytes t name d is = (λ h. inr (t, is, h), back)
+  where
+    back : BytesDemand e k bytes name d → TableDemands t name d
+    back (inl h) = absurd (apart e.extra k bytes h.0 t h.1 is)
+    back (inr h) = subst (λ (s : TableParts). TableDemands s name d)
+        (one_table_in k bytes h.0 t h.1 is) h.2
+
+none_more : (e : EnvironmentParts) (Q : Demands) (name : List ℕ) (d : Demand) →
+    Q name d ↔ Together Q (Gathered e []) name d
+none_more e Q name d = ((λ q. inl q), back)
+  where
+    back : Q name d ⊎ Gathered e [] name d → Q name d
+    back (inl q) = q
+    back (inr never) = absurd never
+
+input_more : (e : EnvironmentParts) (Q : Demands) (i : Input) (inputs : List Input)
+    (own : Demands) (name : List ℕ) (d : Demand) →
+    own name d ↔ BytesDemand e i.kind i.bytes.items name d →
+    Together (Together Q own) (Gathered e inputs) name d
+    ↔ Together Q (Gathered e (i ∷ inputs)) name d
+input_more e Q i inputs own name d same = (there, back)
+  where
+    there : (Q name d ⊎ own name d) ⊎ Gathered e inputs name d →
+        Q name d ⊎ Gathered e (i ∷ inputs) name d
+    there (inl (inl q)) = inl q
+    there (inl (inr h)) = inr (inl (same.0 h))
+    there (inr h) = inr (inr h)
+
+    back : Q name d ⊎ Gathered e (i ∷ inputs) name d →
+        (Q name d ⊎ own name d) ⊎ Gathered e inputs name d
+    back (inl q) = inl (inl q)
+    back (inr (inl h)) = inl (inr (same.1 h))
+    back (inr (inr h)) = inr h
+
+inputs_table : (e : EnvironmentParts) (Q : Demands) (inputs : List Input) (old new : TableParts) →
+    IsTable Q old → HasExactPoints Q old → GathersInputs e inputs old new →
+    IsTable (Together Q (Gathered e inputs)) new
+    × HasExactPoints (Together Q (Gathered e inputs)) new
+inputs_table e Q [] old new t p g =
+    same_demands Q (Together Q (Gathered e [])) new (none_more e Q) (subst (IsTable Q) g t)
+    (subst (HasExactPoints Q) g p)
+inputs_table e Q (i ∷ inputs) old new t p (mid, inl (rs, is, takes), more) =
+    let own = ApplyingDemands e rs in
+    let one = applying_is_table e Q old rs mid t p takes in
+    let all = inputs_table e (Together Q own) inputs mid new one.0 one.1 more in
+    same_demands (Together (Together Q own) (Gathered e inputs))
+    (Together Q (Gathered e (i ∷ inputs))) new
+    (λ name d. input_more e Q i inputs own name d
+    (bytes_demand_in e i.kind i.bytes.items rs name d is)) all.0 all.1
+inputs_table e Q (i ∷ inputs) old new t p (mid, inr (s, is, joins), more) =
+    let own = TableDemands s in
+    let exact = own_table s (holds_valid i.kind i.bytes.items s is) in
+    let one = joined_is_table Q own old s mid t p exact.0 exact.1 joins in
+    let all = inputs_table e (Together Q own) inputs mid new one.0 one.1 more in
+    same_demands (Together (Together Q own) (Gathered e inputs))
+    (Together Q (Gathered e (i ∷ inputs))) new
+    (λ name d. input_more e Q i inputs own name d
+    (table_demands_in e i.kind i.bytes.items s name d is)) all.0 all.1
+
+-- the table of all that the inputs demand
+pub gathered_table : (e : EnvironmentParts) (inputs : List Input) (new : TableParts) →
+    GathersInputs e inputs [] new →
+    IsTable (Gathered e inputs) new × HasExactPoints (Gathered e inputs) new
+gathered_table e inputs new g =
+    let all = inputs_table e (λ name d. ⊥) inputs [] new no_demands.0 no_demands.1 g in
+    same_demands (Together (λ name d. ⊥) (Gathered e inputs)) (Gathered e inputs) new
+    (λ name d. (back name d, λ w. inr w)) all.0 all.1
+  where
+    back : (name : List ℕ) (d : Demand) → ⊥ ⊎ Gathered e inputs name d →
+        Gathered e inputs name d
+    back name d (inl q) = absurd q
+    back name d (inr w) = w

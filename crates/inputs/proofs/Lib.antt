@@ -1,0 +1,17 @@
+pub mod Documents
+pub mod DefinedMarkers
+pub mod Placed
+pub mod ReadTexts
+pub mod Projects
+pub mod ProjectExtras
+pub mod ProjectTexts
+pub mod EnvironmentPairs
+pub mod ListLemmas
+pub mod MergeLemmas
+pub mod LineTexts
+pub mod RequirementLists
+pub mod AcceptedInputs
+pub mod GatheredLists
+pub mod SameInputs
+pub mod TableFileLemmas
+pub mod PrintedInputs

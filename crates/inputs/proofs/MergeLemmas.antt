@@ -1,0 +1,40 @@
+-- What merging inputs gives, from the table of what they demand.
+use Rattle.std.proofs.Common.{ℕ, List, Option, Some, None, Result, Ok, Err, IfOk}
+use Rattle.std.specs.Prelude.{All, IfSome}
+use Rattle.pep_marker.specs.Environment.{EnvironmentParts}
+use Rattle.pep_table.proofs.Verdicts.{verdict_of_demands}
+use Rattle.pep_table.specs.Demand.{Demand, Demands}
+use Rattle.pep_table.specs.Table.{EntryParts, HasExactPoints, IsEntry, IsTable, IsValidEntry}
+use Rattle.pep_table.specs.Table.{TableParts, entry_at}
+use Rattle.pep_table.specs.TableLaws.{entry_valid}
+use Rattle.pep_table.specs.TableText.{IsTableText, Shows}
+use Rattle.pep_table.specs.Verdict.{IsVerdict}
+use Rattle.pep_table.specs.declared.verdict.Verdict.{Verdict}
+use Rattle.inputs.specs.declared.input.Input.{Input}
+use Rattle.inputs.specs.Gathered.{Gathered, IsAccepted}
+use Rattle.inputs.specs.Merge.{IsMerge, ShowsVerdicts}
+
+shown : (Q : Demand → Type 0) (o : Option EntryParts) → IfSome o IsValidEntry →
+    IfSome o (IsEntry Q) → IfSome o (λ e. (w : Verdict) → Shows e w → IsVerdict Q w)
+shown Q None valid h = tt
+shown Q (Some e) valid h = λ w shows. verdict_of_demands Q e w valid h shows
+
+-- a table shows the verdicts on the demands of which it is the table
+pub shows_verdicts : (Q : Demands) (t : TableParts) → IsTable Q t → ShowsVerdicts Q t
+shows_verdicts Q t h name =
+    shown (Q name) (entry_at t name) (entry_valid t name h.valid) (h.entries name)
+
+-- the text of the table of what inputs demand is their merge
+pub merges : {A E : Type 0} (text_of : A → List ℕ) (e : EnvironmentParts) (inputs : List Input)
+    (t : TableParts) (r : Result A E) → All (IsAccepted e) inputs →
+    IsTable (Gathered e inputs) t → HasExactPoints (Gathered e inputs) t →
+    IfOk r (λ text. IsTableText t (text_of text)) → IfOk r (λ text. IsMerge e inputs (text_of text))
+merges text_of e inputs t (Err fault) accepted is points has = tt
+merges text_of e inputs t (Ok text) accepted is points has = record {
+  accepted = accepted;
+  table = t;
+  is_table = is;
+  points = points;
+  text = has;
+  verdicts = shows_verdicts (Gathered e inputs) t is;
+}

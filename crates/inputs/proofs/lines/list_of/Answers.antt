@@ -1,0 +1,10 @@
+use Rattle.faults.specs.declared.fault.Place.TheVariants.{Input}
+use Rattle.inputs.specs.Refusal.{IsRefusedList}
+use Rattle.inputs.proofs.Placed.{placed}
+use Rattle.inputs.proofs.lines.list_of.Goals as goal
+
+pub returns-in-Err-clause-refused : goal.returns-in-Err-clause-refused
+returns-in-Err-clause-refused c =
+    placed (IsRefusedList c.args.bytes.now) (Input 1) c.in-Err.cause c.fault_in.result
+    c.in-Err.ensures.refused
+    c.fault_in.ensures.cause c.fault_in.ensures.memory c.fault_in.ensures.place

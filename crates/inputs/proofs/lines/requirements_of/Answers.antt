@@ -1,0 +1,22 @@
+use Rattle.std.proofs.Common.{◌++◌, ◌∙◌, sym, refl, arith}
+use Rattle.std.proofs.lemmas.List.{take-append-drop}
+use Rattle.std.proofs.lemmas.Result.{IfErr-weaker}
+use Rattle.inputs.proofs.lines.requirements_of.Goals as goal
+
+pub returns-then-bytes-le-INPUT_LIMIT-clause-refused :
+    goal.returns-then-bytes-le-INPUT_LIMIT-clause-refused
+returns-then-bytes-le-INPUT_LIMIT-clause-refused c =
+    IfErr-weaker c.requirements_read.result _ _ (λ cause refuses.
+    refuses c.args.bytes.now refl) c.requirements_read.ensures.refused
+
+pub returns-else-bytes-le-INPUT_LIMIT-clause-refused :
+    goal.returns-else-bytes-le-INPUT_LIMIT-clause-refused
+returns-else-bytes-le-INPUT_LIMIT-clause-refused c =
+    let goes = sym (take-append-drop 16777216 c.args.bytes.now)
+    ∙ (λ i. sym c.split_at.ensures.front i ++ sym c.split_at.ensures.back i) in
+    IfErr-weaker c.requirements_read-else-bytes-le-INPUT_LIMIT.result _ _
+    (λ cause refuses. refuses c.args.bytes.now (
+      omega (arith, c.if-bytes-le-INPUT_LIMIT.false),
+      (c.split_at.result.1.now, goes),
+    ))
+    c.requirements_read-else-bytes-le-INPUT_LIMIT.ensures.refused

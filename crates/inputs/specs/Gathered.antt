@@ -1,0 +1,62 @@
+-- Which inputs are accepted in an environment, and what all of them demand there.
+use Rattle.std.specs.Prelude.{ℕ, ◌⊎◌, ◌↔◌, List, [], ◌∷◌, All, Contains}
+use Rattle.pep_marker.specs.Environment.{EnvironmentParts}
+use Rattle.pep_require.specs.Requirement.{HasDefinedMarker, RequirementParts}
+use Rattle.pep_table.specs.Demand.{ApplyingDemands, Demands}
+use Rattle.pep_table.specs.Table.{TableDemands, TableParts}
+use Rattle.inputs.specs.declared.input.Input.{Input}
+use Rattle.inputs.specs.declared.input.Kind.{Kind}
+use Rattle.inputs.specs.Lists.{HoldsTable, Lists, input_texts}
+
+-- the bytes are requirements, and each of them has a marker that is true or false there; or they
+-- are the text of a table
+abbrev pub AcceptsBytes : EnvironmentParts → Kind → List ℕ → Type 0
+AcceptsBytes e k bytes =
+    ((rs : List RequirementParts) × Lists e.extra k bytes rs × All (HasDefinedMarker e) rs)
+    ⊎ ((t : TableParts) × HoldsTable k bytes t)
+
+abbrev pub IsAccepted : EnvironmentParts → Input → Type 0
+IsAccepted e i = AcceptsBytes e i.kind i.bytes.items
+
+-- what the bytes demand: what those of their requirements demand that apply there, or what their
+-- table gives
+abbrev pub BytesDemand : EnvironmentParts → Kind → List ℕ → Demands
+BytesDemand e k bytes name d =
+    ((rs : List RequirementParts) × Lists e.extra k bytes rs × ApplyingDemands e rs name d)
+    ⊎ ((t : TableParts) × HoldsTable k bytes t × TableDemands t name d)
+
+-- the set of the demands of all inputs
+abbrev pub Gathered : EnvironmentParts → List Input → Demands
+Gathered e [] name d = ⊥
+Gathered e (i ∷ inputs) name d =
+    BytesDemand e i.kind i.bytes.items name d ⊎ Gathered e inputs name d
+
+-- ---- inputs that demand the same
+
+-- one of the inputs has the requirement
+abbrev pub HasRequirement : EnvironmentParts → List Input → RequirementParts → Type 0
+HasRequirement e inputs r = (i : Input) × Contains inputs i
+    × ((rs : List RequirementParts) × Lists e.extra i.kind i.bytes.items rs × Contains rs r)
+
+-- one of the inputs is the text of the table
+abbrev pub HasTable : List Input → TableParts → Type 0
+HasTable inputs t = (i : Input) × Contains inputs i × HoldsTable i.kind i.bytes.items t
+
+-- the inputs have the same requirements and the same tables, in whatever order and grouping, and
+-- however often
+abbrev pub HaveSameRequirements : EnvironmentParts → List Input → List Input → Type 0
+HaveSameRequirements e a b =
+    ((r : RequirementParts) → HasRequirement e a r ↔ HasRequirement e b r)
+    × ((t : TableParts) → HasTable a t ↔ HasTable b t)
+
+-- one of the inputs has the text: a list as a line, without what is dropped at its ends, a project
+-- file among the texts that are asked for
+abbrev pub HasLine : EnvironmentParts → List Input → List ℕ → Type 0
+HasLine e inputs line = (i : Input) × Contains inputs i
+    × Contains (input_texts e.extra i.kind i.bytes.items) line
+
+-- the inputs have the same lines and the same tables, in whatever order and grouping, and however
+-- often; empty lines and comments apart
+abbrev pub HaveSameLines : EnvironmentParts → List Input → List Input → Type 0
+HaveSameLines e a b = ((line : List ℕ) → HasLine e a line ↔ HasLine e b line)
+    × ((t : TableParts) → HasTable a t ↔ HasTable b t)

@@ -1,0 +1,14 @@
+pub mod Limits
+pub mod Texts
+pub mod Document
+pub mod Project
+pub mod ProjectExtras
+pub mod EnvironmentFile
+pub mod Lists
+pub mod TableFiles
+pub mod Gathered
+pub mod Refusal
+pub mod Merge
+pub mod LineReading
+pub mod GatheredLines
+pub mod ListedText

@@ -1,0 +1,73 @@
+-- The requirements of an input: a list, with a requirement on each line, or a project file.
+use Rattle.std.specs.Prelude.{◌≡◌, ℕ, ◌≤◌, Bool, not, ◌||◌, ◌==◌, List, [], length, map, filter}
+use Rattle.std.specs.Prelude.{All}
+use Rattle.std.specs.Prelude.{IsUtf8, Ok, unwrap_or}
+use Rattle.std.specs.Result.{result_ok}
+use Rattle.std.specs.List.{AllZip, slice_split}
+use Rattle.std.specs.Str.Lines.{strip_carriage_return}
+use Rattle.pep_marker.specs.Runs.{begins, without_outer_blanks}
+use Rattle.pep_require.specs.Reads.{Reads, line_limit}
+use Rattle.pep_require.specs.Requirement.{RequirementParts}
+use Rattle.inputs.specs.declared.input.Kind.{Kind}
+use Rattle.inputs.specs.declared.input.Kind.TheVariants as kind
+pub use Rattle.inputs.specs.Limits.{input_limit}
+use Rattle.pep_table.specs.Table.{TableParts}
+use Rattle.inputs.specs.Project.{project_file}
+use Rattle.inputs.specs.TableFiles.{IsTableFile}
+
+-- ---- lists
+
+-- the bytes between line feeds
+abbrev pub lines_of : List ℕ → List (List ℕ)
+lines_of bytes = slice_split (λ b. b == 10) bytes
+
+-- a line without a carriage return at its end, and then without white space at both ends
+abbrev pub content : List ℕ → List ℕ
+content line = without_outer_blanks (strip_carriage_return line)
+
+-- empty lines and comments are skipped
+abbrev pub is_skipped : List ℕ → Bool
+is_skipped x = length x == 0 || begins (λ b. b == 35) x
+
+-- the lines that are requirements
+abbrev pub requirement_lines : List ℕ → List (List ℕ)
+requirement_lines bytes = filter (λ x. not (is_skipped x)) (map content (lines_of bytes))
+
+-- the bytes are a list of these requirements, one a line, by what a line is read as
+pub record IsListBy (reads : List ℕ → RequirementParts → Type 0) (bytes : List ℕ)
+    (rs : List RequirementParts) : Type 0 where
+  pub size : length bytes ≤ input_limit
+  pub short : All (λ line. length line ≤ line_limit) (lines_of bytes)
+  pub texts : All IsUtf8 (lines_of bytes)
+  pub requirements : AllZip reads (requirement_lines bytes) rs
+
+-- .. a requirement each (PEP 508, "Grammar")
+abbrev pub IsRequirementList : List ℕ → List RequirementParts → Type 0
+IsRequirementList bytes rs = IsListBy Reads bytes rs
+
+-- ---- project files
+
+-- the bytes are a project file whose texts are these requirements, in an extra's environment
+abbrev pub IsProjectOf : List ℕ → List ℕ → List RequirementParts → Type 0
+IsProjectOf extra bytes rs =
+    (texts : List (List ℕ)) × (project_file extra bytes ≡ Ok texts) × AllZip Reads texts rs
+
+-- ---- inputs
+
+-- the requirements of an input of this kind, read for an extra; a table file has none
+abbrev pub Lists : List ℕ → Kind → List ℕ → List RequirementParts → Type 0
+Lists extra kind.List bytes rs = IsRequirementList bytes rs
+Lists extra kind.Project bytes rs = IsProjectOf extra bytes rs
+Lists extra kind.Table bytes rs = ⊥
+
+-- the table of an input of this kind
+abbrev pub HoldsTable : Kind → List ℕ → TableParts → Type 0
+HoldsTable kind.Table bytes t = IsTableFile bytes t
+HoldsTable _ bytes t = ⊥
+
+-- the texts of which an input has its requirements: the lines of a list, and the texts of a project
+-- file that passes its checks
+abbrev pub input_texts : List ℕ → Kind → List ℕ → List (List ℕ)
+input_texts extra kind.List bytes = requirement_lines bytes
+input_texts extra kind.Project bytes = unwrap_or (result_ok (project_file extra bytes)) []
+input_texts extra kind.Table bytes = []

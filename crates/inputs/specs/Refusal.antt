@@ -1,0 +1,137 @@
+-- What a refusal says of the inputs: which of them is at fault, which line of it, and why. Nothing
+-- else is answered.
+use Rattle.std.specs.Prelude.{◌≡◌, ◌≢◌, ℕ, ◌+◌, ◌<◌, ◌≤◌, ◌⊎◌, false, List, ◌∷◌, ◌++◌, length}
+use Rattle.std.specs.Prelude.{IsUtf8, Ok, Err}
+use Rattle.pep_marker.specs.Environment.{EnvironmentParts}
+use Rattle.pep_require.specs.LineParts.{RefusesLine}
+use Rattle.pep_require.specs.Reads.{Reads, line_limit}
+use Rattle.pep_require.specs.Requirement.{HasUndefinedMarker, RequirementParts}
+use Rattle.pep_require.specs.declared.fault.RequireFault.{RequireFault}
+use Rattle.pep_require.specs.declared.fault.RequireFault.TheVariants as require
+use Rattle.faults.specs.declared.fault.Cause.{Cause}
+use Rattle.faults.specs.declared.fault.Cause.TheVariants as cause
+use Rattle.faults.specs.declared.fault.Fault.{Fault}
+use Rattle.faults.specs.declared.fault.LineFault.{LineFault}
+use Rattle.faults.specs.declared.fault.LineFault.TheVariants as line_fault
+use Rattle.faults.specs.declared.fault.Place.TheVariants as place
+pub use Rattle.faults.specs.NoMemory.{no_memory}
+use Rattle.inputs.specs.declared.input.Input.{Input}
+use Rattle.inputs.specs.declared.input.Kind.{Kind}
+use Rattle.inputs.specs.declared.input.Kind.TheVariants as kind
+use Rattle.inputs.specs.Gathered.{IsAccepted}
+use Rattle.inputs.specs.Lists.{IsProjectOf, content, input_limit, is_skipped, lines_of}
+use Rattle.inputs.specs.Project.{project_file}
+use Rattle.inputs.specs.TableFiles.{IsRefusedTable}
+
+-- the element with this number, counted from 1
+pub record IsNumbered {A : Type 0} (xs : List A) (number : ℕ) (x : A) : Type 0 where
+  pub before : List A
+  pub behind : List A
+  pub whole : xs ≡ before ++ x ∷ behind
+  pub counted : number ≡ length before + 1
+
+-- ---- bytes that are no list of requirements
+
+-- Why a line is refused: it is longer than a line may be; or else it isn't UTF-8; or else it isn't
+-- skipped, and its content is refused as a requirement.
+pub data IsRefusedLine (line : List ℕ) (fault : LineFault) : Type 0 where
+  by_length : line_limit < length line → fault ≡ line_fault.Requirement require.LineTooLong →
+      IsRefusedLine line fault
+  by_encoding : length line ≤ line_limit → ¬ IsUtf8 line → fault ≡ line_fault.NotUtf8 →
+      IsRefusedLine line fault
+  by_content : (f : RequireFault) → length line ≤ line_limit → IsUtf8 line →
+      is_skipped (content line) ≡ false
+      → f ≢ require.NoMemory → RefusesLine (content line) f → fault ≡ line_fault.Requirement f →
+      IsRefusedLine line fault
+
+-- Why bytes are refused as a list: they are more than a list may have, or the line with this number
+-- is refused.
+pub data IsRefusedList (bytes : List ℕ) (c : Cause) : Type 0 where
+  by_size : input_limit < length bytes → c ≡ cause.TooLarge → IsRefusedList bytes c
+  by_line : (number : ℕ) (line : List ℕ) (fault : LineFault) →
+      IsNumbered (lines_of bytes) number line
+      → IsRefusedLine line fault → c ≡ cause.Line number fault →
+      IsRefusedList bytes c
+
+-- the reader of URLs answered its own overflow, of which nothing is known
+abbrev pub IsOverflow : Cause → Type 0
+IsOverflow c =
+    (number : ℕ) × (c ≡ cause.Line number (line_fault.Requirement require.UrlOverflow))
+
+-- ---- requirements that are undefined in an environment
+
+-- the line is one that a list may have, and its requirement has a marker that is undefined there
+pub record HasUndefinedLine (e : EnvironmentParts) (line : List ℕ) : Type 0 where
+  pub short : length line ≤ line_limit
+  pub text : IsUtf8 line
+  pub kept : is_skipped (content line) ≡ false
+  pub requirement : RequirementParts
+  pub reads : Reads (content line) requirement
+  pub undefined : HasUndefinedMarker e requirement
+
+-- the cause names such a line
+pub record IsUndefinedList (e : EnvironmentParts) (bytes : List ℕ) (c : Cause) : Type 0 where
+  pub number : ℕ
+  pub line : List ℕ
+  pub numbered : IsNumbered (lines_of bytes) number line
+  pub undefined : HasUndefinedLine e line
+  pub is : c ≡ cause.Line number line_fault.Undefined
+
+-- ---- project files
+
+-- the cause names a text that is refused as a requirement, by its number
+pub record IsRefusedText (texts : List (List ℕ)) (c : Cause) : Type 0 where
+  pub number : ℕ
+  pub text : List ℕ
+  pub numbered : IsNumbered texts number text
+  pub reason : RequireFault
+  pub known : reason ≢ require.NoMemory
+  pub refuses : RefusesLine text reason
+  pub is : c ≡ cause.Line number (line_fault.Requirement reason)
+
+-- Why bytes are refused as a project file, for an extra: a check of the file fails, or one of its
+-- texts is refused.
+pub data IsRefusedProject (extra bytes : List ℕ) (c : Cause) : Type 0 where
+  by_check : project_file extra bytes ≡ Err c → IsRefusedProject extra bytes c
+  by_text : (texts : List (List ℕ)) → project_file extra bytes ≡ Ok texts →
+      IsRefusedText texts c → IsRefusedProject extra bytes c
+
+-- the cause names a requirement whose marker is undefined there, by its number
+pub record IsUndefinedAt (e : EnvironmentParts) (rs : List RequirementParts) (c : Cause) : Type 0
+  where
+    pub number : ℕ
+    pub requirement : RequirementParts
+    pub numbered : IsNumbered rs number requirement
+    pub undefined : HasUndefinedMarker e requirement
+    pub is : c ≡ cause.Line number line_fault.Undefined
+
+-- .. of a project file, all of whose texts are requirements
+abbrev pub IsUndefinedProject : EnvironmentParts → List ℕ → Cause → Type 0
+IsUndefinedProject e bytes c =
+    (rs : List RequirementParts) × IsProjectOf e.extra bytes rs × IsUndefinedAt e rs c
+
+-- ---- inputs
+
+-- Why bytes are refused as an input of this kind: they are no list of requirements, or no project
+-- file, or one of the requirements has a marker that is undefined there; or they are no table's
+-- text.
+abbrev pub IsRefused : EnvironmentParts → Kind → List ℕ → Cause → Type 0
+IsRefused e kind.List bytes c = IsRefusedList bytes c ⊎ IsUndefinedList e bytes c
+IsRefused e kind.Project bytes c =
+    IsRefusedProject e.extra bytes c ⊎ IsUndefinedProject e bytes c
+IsRefused e kind.Table bytes c = IsRefusedTable bytes c
+
+-- The fault names an input, says why it is refused, and unless the reader of URLs answered its own
+-- overflow, that input isn't accepted.
+pub record BlamesInput (e : EnvironmentParts) (inputs : List Input) (fault : Fault) : Type 0 where
+  pub number : ℕ
+  pub input : Input
+  pub numbered : IsNumbered inputs number input
+  pub lies : fault.place ≡ place.Input number
+  pub refused : IsRefused e input.kind input.bytes.items fault.cause
+  pub not_accepted : ¬ IsOverflow fault.cause → ¬ IsAccepted e input
+
+-- Why inputs are refused with this fault: one of them is at fault, or memory is wanting, of which
+-- nothing is said.
+abbrev pub RefusesInputs : EnvironmentParts → List Input → Fault → Type 0
+RefusesInputs e inputs fault = (fault ≡ no_memory) ⊎ BlamesInput e inputs fault

@@ -1,0 +1,98 @@
+//! Laws of the definitions.
+
+ghost use Rattle.std.specs.Prelude.{◌≡◌, ◌∷◌, ◌++◌, ℕ, All, List};
+ghost use Rattle.pep_marker.specs.Environment.{EnvironmentParts};
+ghost use Rattle.pep_require.specs.Requirement.{RequirementParts};
+ghost use Rattle.pep_table.specs.Demand.{HaveSameDemands};
+ghost use Rattle.pep_table.specs.Table.{HasExactPoints, IsTable, TableParts};
+ghost use Rattle.faults.specs.declared.fault.Cause.{Cause};
+ghost use Rattle.inputs.specs.declared.input.Input.{Input};
+ghost use Rattle.inputs.specs.declared.input.Kind.TheVariants as Kind;
+ghost use Rattle.inputs.specs.Gathered.{
+  Gathered,
+  HaveSameLines,
+  HaveSameRequirements,
+  IsAccepted,
+};
+ghost use Rattle.inputs.specs.Lists.{IsProjectOf, IsRequirementList};
+ghost use Rattle.inputs.specs.Merge.{IsMerge};
+ghost use Rattle.inputs.specs.Refusal.{IsOverflow, IsRefused, IsRefusedList, IsRefusedProject};
+
+/// Inputs that demand the same have one text, whatever the order, the grouping and the repeats of
+/// their lines.
+pub fn one_text()
+    ensures { (e f : EnvironmentParts) (a b : List Input) (x y : List ℕ) → IsMerge e a x
+        → IsMerge f b y → HaveSameDemands (Gathered e a) (Gathered f b) → x ≡ y }
+{}
+
+/// What inputs demand has one table, whatever the order, the grouping and the repeats of their
+/// lines.
+pub fn one_table()
+    ensures { (e f : EnvironmentParts) (a b : List Input) (s t : TableParts)
+        → HaveSameDemands (Gathered e a) (Gathered f b)
+        → IsTable (Gathered e a) s → HasExactPoints (Gathered e a) s
+        → IsTable (Gathered f b) t → HasExactPoints (Gathered f b) t → s ≡ t }
+{}
+
+/// Inputs that have the same requirements and the same tables demand the same, whatever the order
+/// and the repeats of the inputs and of their requirements, and whichever input each one stands in.
+pub fn same_requirements()
+    ensures { (e : EnvironmentParts) (a b : List Input) → HaveSameRequirements e a b
+        → HaveSameDemands (Gathered e a) (Gathered e b) }
+{}
+
+/// Accepted inputs with the same lines of lists, texts of project files and tables demand the same,
+/// whatever the order and the repeats of the inputs, and of the lines of lists and the texts of
+/// project files, and whichever input each of these stands in.
+pub fn same_lines()
+    ensures { (e : EnvironmentParts) (a b : List Input) → All (IsAccepted e) a
+        → All (IsAccepted e) b → HaveSameLines e a b
+        → HaveSameDemands (Gathered e a) (Gathered e b) }
+{}
+
+/// .. and so their merges have one text.
+pub fn one_text_of_lines()
+    ensures { (e : EnvironmentParts) (a b : List Input) (x y : List ℕ) → IsMerge e a x
+        → IsMerge e b y → HaveSameLines e a b → x ≡ y }
+{}
+
+/// A table that was printed of inputs stands for them: with it in their place, as a table file, the
+/// merge has the same text. By `one_text_of_lines` it may stand at any place among the others.
+pub fn printed_in_place()
+    ensures { (e : EnvironmentParts) (a b : List Input) (i : Input) (x y z : List ℕ)
+        → IsMerge e a x → i.kind ≡ Kind.Table → i.bytes.items ≡ x → IsMerge e (i ∷ b) y
+        → IsMerge e (a ++ b) z → y ≡ z }
+{}
+
+/// Bytes are one list of requirements at most.
+pub fn one_list()
+    ensures { (bytes : List ℕ) (rs qs : List RequirementParts) → IsRequirementList bytes rs
+        → IsRequirementList bytes qs → rs ≡ qs }
+{}
+
+/// Bytes that are refused as a list of requirements are the list of none. Of an overflow of the
+/// reader of URLs, nothing is known.
+pub fn refused_list_is_not_read()
+    ensures { (bytes : List ℕ) (c : Cause) (rs : List RequirementParts) → ¬ IsOverflow c
+        → IsRefusedList bytes c → ¬ IsRequirementList bytes rs }
+{}
+
+/// Bytes are a project file of one list of requirements at most, for an extra.
+pub fn one_project()
+    ensures { (extra bytes : List ℕ) (rs qs : List RequirementParts) → IsProjectOf extra bytes rs
+        → IsProjectOf extra bytes qs → rs ≡ qs }
+{}
+
+/// Bytes that are refused as a project file, for an extra, have no requirements for it. Of an
+/// overflow of the reader of URLs, nothing is known.
+pub fn refused_project_is_not_read()
+    ensures { (extra bytes : List ℕ) (c : Cause) (rs : List RequirementParts) → ¬ IsOverflow c
+        → IsRefusedProject extra bytes c → ¬ IsProjectOf extra bytes rs }
+{}
+
+/// An input that is refused in an environment, with whatever cause, isn't accepted there. Of an
+/// overflow of the reader of URLs, nothing is known.
+pub fn refused_is_not_accepted()
+    ensures { (e : EnvironmentParts) (i : Input) (c : Cause) → ¬ IsOverflow c
+        → IsRefused e i.kind i.bytes.items c → ¬ IsAccepted e i }
+{}

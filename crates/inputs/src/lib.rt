@@ -1,0 +1,20 @@
+//! Lists, project files, environment files and printed tables, read and merged into one table.
+#![tactic(auto)]
+
+mod document;
+mod environment_file;
+mod gathering;
+mod input;
+pub mod laws;
+mod lines;
+mod list;
+mod merge;
+mod project;
+mod table_file;
+
+pub use crate::environment_file::environment_of;
+pub use crate::gathering::gather;
+pub use crate::input::{Input, Kind};
+pub use crate::lines::{lines_text, list_of};
+pub use crate::merge::{check_bytes, merge_bytes, text_of};
+pub use crate::project::project_of;

@@ -1,0 +1,206 @@
+//! Project files: the requirements that `pyproject.toml` has (PyPA "pyproject.toml", PEP 621).
+
+ghost use Rattle.std.specs.Prelude.{
+  ◌≡◌,
+  ◌⊎◌,
+  [],
+  Err,
+  IfErr,
+  IfOk,
+  None,
+  Ok,
+  OnOk,
+  Some,
+  codes,
+  map,
+};
+ghost use Rattle.std.specs.List.{AllZip};
+ghost use Rattle.toml.specs.View.{table_view};
+ghost use Rattle.pep_marker.specs.Name.{name_of, normalized};
+ghost use Rattle.pep_require.specs.Reads.{Reads};
+ghost use Rattle.pep_require.specs.View.{requirement_parts};
+ghost use Rattle.inputs.specs.Lists.{IsProjectOf};
+ghost use Rattle.inputs.specs.Project.{
+  checks_dynamic,
+  extra_at,
+  extras_at,
+  extras_of,
+  has_text,
+  project_texts,
+};
+ghost use Rattle.inputs.specs.Document.{required};
+ghost use Rattle.inputs.specs.ProjectExtras.{HasExtraTexts};
+ghost use Rattle.inputs.specs.Refusal.{IsRefusedProject, IsRefusedText, no_memory};
+ghost use Rattle.inputs.specs.Texts.{lent_texts};
+
+use crate::document::{read_document, texts_at, texts_of};
+use faults::{Cause, Fault, LineFault, Place, fault_in};
+use crate::list::line_cause;
+use pep_marker::{MarkerFault, Name, norm_of};
+use pep_require::Requirement;
+use std::alloc::Global;
+use std::collections::BTreeSet;
+use toml::Table;
+
+/// The requirements of a project file, which is at most 16,777,216 bytes of TOML: those of
+/// `project.dependencies`, and then, unless the extra is the empty text, those of the extra's array
+/// in `project.optional-dependencies` (PyPA "pyproject.toml", "dependencies" and
+/// "optional-dependencies"). Names of extras are compared when normalized (PEP 503, "Normalized
+/// Names"); of an extra that the file doesn't have there are none.
+///
+/// The fault is that of input 1, by the first check that fails: 56 for more bytes; 51 where they
+/// aren't UTF-8; 52 where they are no TOML document; 53 without a key `project`; 55 where `project`
+/// is no table, or has a `dynamic` that is no array of texts; 54 where `dynamic` names
+/// `dependencies`, or, unless the extra is the empty text, `optional-dependencies`; 55 where
+/// `dependencies` is no array of texts, or `optional-dependencies` is no table of such arrays,
+/// under keys that are names, all different when normalized. Then 57 with the fault of a text,
+/// which is counted from 1 through both arrays (see [`Requirement::read`]). Want of memory, 60,
+/// has no place.
+pub fn project_of(alloc: Global, bytes: &[u8], extra: &str) -> Result<Vec<Requirement>, Fault>
+    ensures ok { IfOk result (λ requirements.
+        IsProjectOf extra.now bytes.now (map requirement_parts requirements.items)) }
+    ensures refused { IfErr result (λ fault. (fault ≡ no_memory)
+        ⊎ ((fault.place ≡ Place.Input 1)
+        × IsRefusedProject extra.now bytes.now fault.cause)) }
+{
+    match project_requirements(alloc, bytes, extra) {
+        Ok(requirements) => Ok(requirements),
+        Err(cause) => Err(fault_in(Place::Input(1), cause)),
+    }
+}
+
+/// The same, with the cause alone.
+pub(crate) fn project_requirements(
+    alloc: Global,
+    bytes: &[u8],
+    extra: &str,
+) -> Result<Vec<Requirement>, Cause>
+    ensures ok { IfOk result (λ requirements.
+        IsProjectOf extra.now bytes.now (map requirement_parts requirements.items)) }
+    ensures refused { IfErr result (λ cause. (cause ≡ Cause.NoMemory)
+        ⊎ IsRefusedProject extra.now bytes.now cause) }
+{
+    let document = read_document(alloc, bytes)?;
+    let texts = project_texts(alloc, &document, extra)?;
+    requirements_of(alloc, texts.as_slice())
+}
+
+// The requirements that texts are.
+fn requirements_of(alloc: Global, texts: &[&str]) -> Result<Vec<Requirement>, Cause>
+    ensures ok { IfOk result (λ requirements.
+        AllZip Reads (lent_texts texts.now) (map requirement_parts requirements.items)) }
+    ensures refused { IfErr result (λ cause. (cause ≡ Cause.NoMemory)
+        ⊎ IsRefusedText (lent_texts texts.now) cause) }
+{
+    let mut requirements = Vec::with_capacity(alloc, texts.len())?;
+    let mut number: u64 = 0;
+    for text in texts {
+        number += 1;
+        match Requirement::read(alloc, text) {
+            Ok(requirement) => requirements.push(requirement)?,
+            Err(fault) => return Err(line_cause(number, LineFault::Requirement(fault))),
+        }
+    }
+    Ok(requirements)
+}
+
+// The texts of `dependencies`, and behind them those of the extra's array.
+fn project_texts<'a>(alloc: Global, document: &'a Table, extra: &str) -> Result<Vec<&'a str>, Cause>
+    ensures ok { IfOk result (λ texts.
+        project_texts extra.now (table_view document.now) ≡ Ok (lent_texts texts.items)) }
+    ensures refused { IfErr result (λ cause. (cause ≡ Cause.NoMemory)
+        ⊎ (project_texts extra.now (table_view document.now) ≡ Err cause)) }
+{
+    let Some(found) = document.get("project") else {
+        return Err(Cause::NoProject);
+    };
+    let Some(project) = found.as_table() else {
+        return Err(Cause::WrongShape);
+    };
+    check_dynamic(alloc, project, extra)?;
+    let mut texts = texts_at(alloc, project, "dependencies")?;
+    let optional = extra_texts(alloc, project, extra)?;
+    texts.extend_from_slice(optional.as_slice())?;
+    Ok(texts)
+}
+
+// Refuses a project that doesn't say here what is asked for.
+fn check_dynamic(alloc: Global, project: &Table, extra: &str) -> Result<(), Cause>
+    ensures ok { OnOk result (checks_dynamic extra.now (table_view project.now) ≡ Ok tt) }
+    ensures refused { IfErr result (λ cause. (cause ≡ Cause.NoMemory)
+        ⊎ (checks_dynamic extra.now (table_view project.now) ≡ Err cause)) }
+{
+    let dynamic = texts_at(alloc, project, "dynamic")?;
+    if has_text(dynamic.as_slice(), "dependencies") {
+        return Err(Cause::Dynamic);
+    }
+    if !extra.is_empty() && has_text(dynamic.as_slice(), "optional-dependencies") {
+        return Err(Cause::Dynamic);
+    }
+    Ok(())
+}
+
+// Whether the text is one of these.
+fn has_text(texts: &[&str], wanted: &str) -> bool
+    ensures { result ≡ has_text wanted.now (lent_texts texts.now) }
+{
+    texts.contains(&wanted)
+}
+
+// The texts of the extra's array in `optional-dependencies`, all of which is checked.
+fn extra_texts<'a>(alloc: Global, project: &'a Table, extra: &str) -> Result<Vec<&'a str>, Cause>
+    ensures ok { IfOk result (λ texts. HasExtraTexts
+        (extras_at (codes "optional-dependencies") (table_view project.now)) (normalized extra.now)
+        (lent_texts texts.items)) }
+    ensures refused { IfErr result (λ cause. (cause ≡ Cause.NoMemory)
+        ⊎ (extras_at (codes "optional-dependencies") (table_view project.now) ≡ Err cause)) }
+{
+    let Some(found) = project.get("optional-dependencies") else {
+        return Ok(Vec::new(alloc));
+    };
+    let Some(extras) = found.as_table() else {
+        return Err(Cause::WrongShape);
+    };
+    let Ok(wanted) = norm_of(alloc, extra) else {
+        return Err(Cause::NoMemory);
+    };
+    wanted_texts(alloc, extras, wanted.as_str())
+}
+
+// The texts of the array whose normalized key is the wanted one, and none where there is no such
+// key.
+fn wanted_texts<'a>(alloc: Global, extras: &'a Table, wanted: &str) -> Result<Vec<&'a str>, Cause>
+    ensures ok { IfOk result (λ texts. HasExtraTexts
+        (required Cause.WrongShape (extras_of (table_view extras.now))) wanted.now
+        (lent_texts texts.items)) }
+    ensures refused { IfErr result (λ cause. (cause ≡ Cause.NoMemory)
+        ⊎ ((cause ≡ Cause.WrongShape) × (extras_of (table_view extras.now) ≡ None))) }
+{
+    let mut names = BTreeSet::new(alloc);
+    let mut found = Vec::new(alloc);
+    for (key, value) in extras.iter() {
+        let name = extra_name(alloc, key)?;
+        let is_wanted = name.text() == wanted;
+        if !names.insert(name)? {
+            return Err(Cause::WrongShape);
+        }
+        let texts = texts_of(alloc, value)?;
+        if is_wanted {
+            found = texts;
+        }
+    }
+    Ok(found)
+}
+
+// The name that a key is.
+fn extra_name(alloc: Global, key: &str) -> Result<Name, Cause>
+    ensures ok { IfOk result (λ name. name_of key.now ≡ Some name) }
+    ensures refused { IfErr result (λ cause. (cause ≡ Cause.NoMemory)
+        ⊎ ((cause ≡ Cause.WrongShape) × (name_of key.now ≡ None))) }
+{
+    match Name::read(alloc, key) {
+        Ok(name) => Ok(name),
+        Err(MarkerFault::BadName) => Err(Cause::WrongShape),
+        Err(_) => Err(Cause::NoMemory),
+    }
+}

@@ -1,5 +1,0 @@
-use Rattle.std.proofs.Common.{rules}
-use Rattle.pep_tool.proofs.device.Counted.new.Goals as goal
-
-pub returns : goal.returns
-returns c = search rules

@@ -1,5 +1,0 @@
-use Rattle.std.proofs.Common.{rules}
-use Rattle.pep_tool.proofs.fault.Cause.code.Goals as goal
-
-pub returns-in-WriteFault : goal.returns-in-WriteFault
-returns-in-WriteFault c = search rules

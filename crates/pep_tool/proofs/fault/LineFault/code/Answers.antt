@@ -1,5 +1,0 @@
-use Rattle.std.proofs.Common.{rules}
-use Rattle.pep_tool.proofs.fault.LineFault.code.Goals as goal
-
-pub returns-in-NotUtf8 : goal.returns-in-NotUtf8
-returns-in-NotUtf8 c = search rules

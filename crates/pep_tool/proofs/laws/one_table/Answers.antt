@@ -1,7 +1,0 @@
-use Rattle.pep_table.specs.OneText as texts
-use Rattle.pep_tool.specs.Gathered.{Gathered}
-use Rattle.pep_tool.proofs.laws.one_table.Goals as goal
-
-pub returns : goal.returns
-returns c = λ e f a b s t same is points it others.
-    texts.same_table_of (Gathered e a) (Gathered f b) s t same is points it others

@@ -1,8 +1,0 @@
-use Rattle.pep_table.specs.OneText as laws
-use Rattle.pep_tool.specs.Gathered.{Gathered}
-use Rattle.pep_tool.proofs.laws.one_text.Goals as goal
-
-pub returns : goal.returns
-returns c = λ e f a b x y m n same.
-    laws.one_text (Gathered e a) (Gathered f b) m.table n.table x y same m.is_table m.points
-    n.is_table n.points m.text n.text

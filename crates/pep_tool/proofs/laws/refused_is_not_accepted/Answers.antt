@@ -1,5 +1,0 @@
-use Rattle.pep_tool.proofs.AcceptedInputs.{refused_in}
-use Rattle.pep_tool.proofs.laws.refused_is_not_accepted.Goals as goal
-
-pub returns : goal.returns
-returns c = refused_in
