@@ -8,10 +8,10 @@ ghost use Rattle.faults.specs.NoMemory.{no_memory};
 mod command;
 mod met;
 
-use faults::{Cause, Fault, Place};
 use clap::Error;
 use clap::error::ErrorKind;
 use command::program;
+use faults::{Cause, Fault, Place};
 use met::plan_met;
 use std::alloc::Global;
 

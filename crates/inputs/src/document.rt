@@ -5,8 +5,8 @@ ghost use Rattle.toml.specs.View.{items_view, table_view, view};
 ghost use Rattle.inputs.specs.Document.{document_of, texts_at, texts_of, texts_of_items};
 ghost use Rattle.inputs.specs.Texts.{lent_texts};
 
-use faults::Cause;
 use crate::list::INPUT_LIMIT;
+use faults::Cause;
 use std::alloc::Global;
 use toml::{Table, Value};
 

@@ -33,12 +33,12 @@ ghost use Rattle.inputs.specs.Lists.{input_limit};
 ghost use Rattle.inputs.specs.Refusal.{IsUndefinedAt, RefusesInputs};
 ghost use Rattle.inputs.specs.TableFiles.{IsRefusedTable, IsTableFile};
 
-use faults::{Cause, Fault, LineFault, Place, fault_in};
 use crate::input::{Input, Kind};
 use crate::lines::text_on;
 use crate::list::{INPUT_LIMIT, cut_off, line_cause};
 use crate::project::project_requirements;
 use crate::table_file::table_in;
+use faults::{Cause, Fault, LineFault, Place, fault_in};
 use pep_marker::{Environment, MarkerFault};
 use pep_require::{RequireFault, Requirement};
 use pep_table::Gathering;

@@ -32,8 +32,8 @@ ghost use Rattle.inputs.specs.LineReading.{
   some_parts,
 };
 
-use faults::{Cause, Fault, LineFault, Place, fault_in};
 use crate::list::{INPUT_LIMIT, LINE_LIMIT, content, cut_off, is_skipped, line_cause};
+use faults::{Cause, Fault, LineFault, Place, fault_in};
 use pep_require::{RequireFault, Requirement};
 use pep_version::first_part;
 use std::alloc::Global;

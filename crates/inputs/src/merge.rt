@@ -8,9 +8,9 @@ ghost use Rattle.inputs.specs.Gathered.{Gathered, IsAccepted};
 ghost use Rattle.inputs.specs.Merge.{IsMerge};
 ghost use Rattle.inputs.specs.Refusal.{RefusesInputs, no_memory};
 
-use faults::Fault;
 use crate::gathering::gather;
 use crate::input::Input;
+use faults::Fault;
 use pep_marker::{Environment, Name};
 use pep_table::{Answer, Gathering, TableFault};
 use pep_version::Version;

@@ -34,8 +34,8 @@ ghost use Rattle.inputs.specs.Refusal.{IsRefusedProject, IsRefusedText, no_memor
 ghost use Rattle.inputs.specs.Texts.{lent_texts};
 
 use crate::document::{read_document, texts_at, texts_of};
-use faults::{Cause, Fault, LineFault, Place, fault_in};
 use crate::list::line_cause;
+use faults::{Cause, Fault, LineFault, Place, fault_in};
 use pep_marker::{MarkerFault, Name, norm_of};
 use pep_require::Requirement;
 use std::alloc::Global;

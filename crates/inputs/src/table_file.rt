@@ -3,8 +3,8 @@
 ghost use Rattle.std.specs.Prelude.{◌≡◌, ◌⊎◌, ℕ, IfErr, IfOk};
 ghost use Rattle.inputs.specs.TableFiles.{IsRefusedTable, IsTableFile};
 
-use faults::{Cause, LineFault};
 use crate::list::INPUT_LIMIT;
+use faults::{Cause, LineFault};
 use pep_table::{Table, TableFault};
 use std::alloc::Global;
 

@@ -10,9 +10,9 @@ use Rattle.pep_version.specs.Laws.{version_total}
 use Rattle.pep_version.specs.Order.{is_below, is_same, place_of, public_version, suffix_cmp}
 use Rattle.pep_version.specs.Order.{version_cmp}
 use Rattle.pep_version.specs.Version.{IsVersion, Segment, Version, is_empty}
-use Rattle.clauses.specs.Admits.{admits}
+use Rattle.specifiers.specs.Admits.{admits}
 use Rattle.pep_clause.proofs.Between.{less_told, not_below_itself}
-use Rattle.clauses.specs.Clause.{at_most, excluding, greater_than, less_than, matching}
+use Rattle.specifiers.specs.Clause.{at_most, excluding, greater_than, less_than, matching}
 use Rattle.pep_clause.specs.Cut.{after, cut_cmp, end, is_under, least}
 use Rattle.pep_clause.proofs.UnderCut.{is_under-cut_cmp}
 use Rattle.pep_clause.specs.OperatorTable.{before_place, greater_from, less_to, matching_to, next}

@@ -8,7 +8,7 @@ use Rattle.pep_version.proofs.NormalTexts.{normal-spells}
 use Rattle.pep_version.specs.Spelling.{Spells, SpellsAny}
 use Rattle.pep_version.specs.Text.{normal_text}
 use Rattle.pep_version.specs.Version.{IsVersion, Version}
-use Rattle.clauses.specs.Clause.{Prefix}
+use Rattle.specifiers.specs.Clause.{Prefix}
 use Rattle.pep_clause.specs.Cut.{Cut, IsCut, before, after, past, end, cut_text, final_version}
 use Rattle.pep_clause.specs.OperatorTable.{past_release}
 

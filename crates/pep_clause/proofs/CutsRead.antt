@@ -10,7 +10,7 @@ use Rattle.pep_version.specs.Version.{IsVersion, Version}
 use Rattle.pep_version.specs.View.{version_with}
 use Rattle.pep_version.specs.declared.parts.Phase.{Phase}
 use Rattle.pep_version.specs.declared.parts.Phase.TheVariants.{Alpha, Beta, Rc}
-use Rattle.clauses.specs.Clause.{Prefix, prefix_of}
+use Rattle.specifiers.specs.Clause.{Prefix, prefix_of}
 use Rattle.pep_clause.specs.Cut.{Cut, IsCut, before, after, past, end, cut_cmp, cut_text, end_rank}
 use Rattle.pep_clause.specs.Cut.{final_version}
 use Rattle.pep_version.proofs.KeyLoops.{front_of}

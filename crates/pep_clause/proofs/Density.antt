@@ -21,7 +21,7 @@ use Rattle.pep_version.specs.Order.{suffix_cmp}
 use Rattle.pep_version.specs.Version.{Fits, IsSegment, IsVersion, Segment, SegmentFits, number}
 use Rattle.pep_version.specs.Version.{Version, is_word, is_word_byte, word}
 use Rattle.pep_clause.proofs.Between.{not_below_itself}
-use Rattle.clauses.specs.Clause.{Prefix}
+use Rattle.specifiers.specs.Clause.{Prefix}
 use Rattle.pep_clause.specs.Cut.{Cut, IsCut, before, after, past, end, cut_cmp, cut_version}
 use Rattle.pep_clause.specs.Cut.{final_version, is_under}
 use Rattle.pep_clause.specs.Inhabited.{HasVersionUnlessEmpty}

@@ -8,7 +8,7 @@ use Rattle.pep_version.specs.Laws.{then_first, then_second}
 use Rattle.pep_version.proofs.PlaceLemmas.{place_of-same, short_release-tied}
 use Rattle.pep_version.specs.Order.{place_of, release_cmp, suffix_cmp, version_cmp}
 use Rattle.pep_version.specs.Version.{IsVersion, Version}
-use Rattle.clauses.specs.Clause.{Prefix}
+use Rattle.specifiers.specs.Clause.{Prefix}
 use Rattle.pep_clause.specs.Cut.{Cut, IsCut, before, after, past, end, cut_cmp, final_version}
 
 three_tied : (e r s : Ordering) → e ≡ Equal → r ≡ Equal → s ≡ Equal →

@@ -11,9 +11,9 @@ use Rattle.std.specs.declared.cmp.Ordering.{Ordering}
 use Rattle.std.specs.declared.cmp.Ordering.TheVariants.{Less, Equal, Greater}
 use Rattle.pep_version.specs.Order.{release_cmp, suffix_cmp}
 use Rattle.pep_version.specs.Version.{Fits, IsVersion, Version}
-use Rattle.clauses.specs.Admits.{begins_padded, has_prefix}
+use Rattle.specifiers.specs.Admits.{begins_padded, has_prefix}
 use Rattle.pep_version.proofs.Connectives.{by_answer}
-use Rattle.clauses.specs.Clause.{Prefix}
+use Rattle.specifiers.specs.Clause.{Prefix}
 use Rattle.pep_clause.specs.Cut.{final_version, is_under}
 use Rattle.pep_clause.proofs.LeastCut.{none-under_least}
 use Rattle.pep_clause.specs.OperatorTable.{before_dev, before_prefix, last, prefix_end}

@@ -11,9 +11,9 @@ use Rattle.std.specs.Prelude.{if◌then◌else◌}
 use Rattle.std.specs.declared.cmp.Ordering.TheVariants.{Less}
 use Rattle.pep_version.specs.Order.{is_below, place_of, short_release, without_end_zeros}
 use Rattle.pep_version.specs.Version.{Fits, IsVersion, Version, is_empty}
-use Rattle.clauses.specs.Admits.{admits, begins_padded, compatible_prefix, has_prefix}
+use Rattle.specifiers.specs.Admits.{admits, begins_padded, compatible_prefix, has_prefix}
 use Rattle.pep_clause.proofs.Between.{below-not_above, less_told}
-use Rattle.clauses.specs.Clause.{Prefix, compatible, excluding_prefix, matching_prefix}
+use Rattle.specifiers.specs.Clause.{Prefix, compatible, excluding_prefix, matching_prefix}
 use Rattle.pep_clause.specs.Cut.{IsCut, before, end, cut_cmp, final_version, is_under}
 use Rattle.pep_clause.specs.Laws.{cut_total}
 use Rattle.pep_clause.proofs.UnderCut.{is_under-cut_cmp}
@@ -29,7 +29,7 @@ use Rattle.pep_clause.proofs.Rows.{is_below-public}
 use Rattle.pep_version.proofs.PlaceLemmas.{place-version}
 use Rattle.pep_version.proofs.Connectives.{and_first, and_not_parts}
 use Rattle.pep_clause.proofs.OrderRows.{next_fits}
-use Rattle.clauses.proofs.FinalVersion.{IsVersion-release}
+use Rattle.specifiers.proofs.FinalVersion.{IsVersion-release}
 use Rattle.pep_version.specs.Laws.{positive}
 
 -- ---- the cuts are in their one spelling

@@ -18,10 +18,10 @@ use Rattle.pep_version.specs.Order.{dev_cmp, is_below, place_cmp, phase_rank, pl
 use Rattle.pep_version.specs.Order.{pre_number_of, public_version, release_cmp, segment_cmp}
 use Rattle.pep_version.specs.Order.{short_release, stage_of, suffix_cmp, without_end_zeros}
 use Rattle.pep_version.specs.Version.{IsVersion, Segment, Version}
-use Rattle.clauses.specs.Admits.{admits}
+use Rattle.specifiers.specs.Admits.{admits}
 use Rattle.pep_clause.proofs.Between.{not_above-test}
 use Rattle.pep_version.proofs.Connectives.{by_answer, or-false, and-true}
-use Rattle.clauses.specs.Clause.{Prefix, at_least, less_than}
+use Rattle.specifiers.specs.Clause.{Prefix, at_least, less_than}
 use Rattle.pep_clause.specs.Cut.{Cut, IsCut, before, after, past, end, cut_cmp, final_version}
 use Rattle.pep_clause.specs.Cut.{is_under, least}
 use Rattle.pep_clause.proofs.LeastCut.{none-below_least, none-under_least}

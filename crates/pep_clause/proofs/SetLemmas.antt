@@ -7,19 +7,19 @@ use Rattle.std.specs.declared.cmp.Ordering.TheVariants.{Less, Equal, Greater}
 use Rattle.pep_version.specs.Order.{place_of}
 use Rattle.pep_version.proofs.ListLemmas.{is_empty-length}
 use Rattle.pep_version.specs.Version.{IsVersion, Version}
-use Rattle.clauses.specs.declared.clause.ClauseForm.{ClauseForm}
-use Rattle.clauses.specs.declared.clause.ClauseForm.TheVariants as stored
-use Rattle.clauses.specs.declared.fault.ClauseFault.{ClauseFault}
-use Rattle.clauses.specs.Admits.{admits}
-use Rattle.clauses.specs.Clause.{Clause, compatible, matching, matching_prefix, excluding}
-use Rattle.clauses.specs.Clause.{excluding_prefix, at_most, at_least, less_than, greater_than}
-use Rattle.clauses.specs.Clause.{demanded, demanded_text}
-use Rattle.clauses.specs.ClauseView.{IsStored, clause_of}
+use Rattle.specifiers.specs.declared.clause.ClauseForm.{ClauseForm}
+use Rattle.specifiers.specs.declared.clause.ClauseForm.TheVariants as stored
+use Rattle.specifiers.specs.declared.fault.ClauseFault.{ClauseFault}
+use Rattle.specifiers.specs.Admits.{admits}
+use Rattle.specifiers.specs.Clause.{Clause, compatible, matching, matching_prefix, excluding}
+use Rattle.specifiers.specs.Clause.{excluding_prefix, at_most, at_least, less_than, greater_than}
+use Rattle.specifiers.specs.Clause.{demanded, demanded_text}
+use Rattle.specifiers.specs.ClauseView.{IsStored, clause_of}
 use Rattle.pep_clause.proofs.Density.{normal-has_version}
 use Rattle.pep_clause.specs.Inhabited.{HasVersionUnlessEmpty}
 use Rattle.pep_clause.proofs.LeastCut.{IsNormal-all_versions, none-under_least}
 use Rattle.pep_clause.specs.OperatorTable.{set_of}
-use Rattle.clauses.specs.Valid.{IsValidClause}
+use Rattle.specifiers.specs.Valid.{IsValidClause}
 use Rattle.pep_clause.specs.VersionSet.{In, IsNormal, Range, all_versions, is_in}
 use Rattle.pep_clause.proofs.ClauseRows.{at_most-normal, at_most-row, excluding-normal}
 use Rattle.pep_clause.proofs.ClauseRows.{excluding-row, greater_than-normal, greater_than-row}

@@ -14,7 +14,7 @@ use Rattle.pep_version.specs.Laws.{place_total}
 use Rattle.pep_version.specs.Order.{dev_cmp, is_below, is_same, phase_rank, place_cmp}
 use Rattle.pep_version.specs.Order.{public_version, segment_cmp, without_dev, without_post}
 use Rattle.pep_version.specs.Version.{Fits, IsVersion, NumbersFit, Segment, Version, is_pre_release}
-use Rattle.clauses.specs.Admits.{is_post_release_of, is_pre_release_of}
+use Rattle.specifiers.specs.Admits.{is_post_release_of, is_pre_release_of}
 use Rattle.pep_clause.specs.Cut.{is_under}
 use Rattle.pep_clause.specs.OperatorTable.{before_place, greater_from, last, less_to, with_dev}
 use Rattle.pep_clause.proofs.NextPlace.{behind, done-under, last_post_not_below, next_by, parts}

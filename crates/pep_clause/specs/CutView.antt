@@ -3,7 +3,7 @@
 use Rattle.std.specs.Prelude.{◌≡◌, ◌==◌, ℕ, List, [], ◌∷◌, Option, Some, None, codes, if◌then◌else◌}
 use Rattle.pep_version.specs.KeyReading.{behind_place, read_version}
 use Rattle.pep_version.specs.Version.{Version}
-use Rattle.clauses.specs.Clause.{prefix_of}
+use Rattle.specifiers.specs.Clause.{prefix_of}
 use Rattle.pep_clause.specs.Cut.{Cut, IsCut, before, after, past, end}
 use Rattle.pep_clause.specs.CutBytes.{cut_bytes}
 

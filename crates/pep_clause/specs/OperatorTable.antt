@@ -8,10 +8,10 @@ use Rattle.pep_version.specs.declared.parts.Phase.{Phase}
 use Rattle.pep_version.specs.declared.parts.Phase.TheVariants.{Alpha, Beta, Rc}
 use Rattle.pep_version.specs.Order.{place_of, short_release, without_dev, without_post, without_pre}
 use Rattle.pep_version.specs.Version.{Version, is_empty, is_pre_release}
-use Rattle.clauses.specs.Admits.{compatible_prefix}
-use Rattle.clauses.specs.Clause.{Clause, Prefix, compatible, matching, matching_prefix}
-use Rattle.clauses.specs.Clause.{excluding, excluding_prefix, at_most, at_least, less_than}
-use Rattle.clauses.specs.Clause.{greater_than, demanded}
+use Rattle.specifiers.specs.Admits.{compatible_prefix}
+use Rattle.specifiers.specs.Clause.{Clause, Prefix, compatible, matching, matching_prefix}
+use Rattle.specifiers.specs.Clause.{excluding, excluding_prefix, at_most, at_least, less_than}
+use Rattle.specifiers.specs.Clause.{greater_than, demanded}
 use Rattle.pep_clause.specs.Cut.{Cut, before, after, past, end, cut_cmp, final_version, least}
 use Rattle.pep_clause.specs.VersionSet.{Range}
 

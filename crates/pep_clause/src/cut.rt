@@ -35,8 +35,8 @@ ghost use Rattle.pep_clause.specs.CutOrder.{LiesIn, LiesStrictlyIn, SameUnder};
 ghost use Rattle.pep_clause.specs.Laws.{cut_total};
 ghost use Rattle.pep_clause.specs.OperatorTable.{before_dev, before_place, past_release};
 
-use clauses::ClauseFault;
 use pep_version::{Key, KeyBytes, Phase, Version};
+use specifiers::ClauseFault;
 use std::alloc::Global;
 use std::cmp::Ordering;
 use std::marker::Model;

@@ -7,7 +7,7 @@ ghost use Rattle.pep_clause.specs.CutBytes.{CutsKeepOrder};
 ghost use Rattle.pep_clause.specs.SetEquality.{SamePoints, SameVersions};
 ghost use Rattle.pep_clause.specs.VersionSet.{IsNormal, Range, is_in};
 
-pub use clauses::laws::{
+pub use specifiers::laws::{
     clause_text_is_read, clause_text_run, one_answer, one_clause, valid_clause_is_read,
 };
 

@@ -1,4 +1,4 @@
-//! Version specifier clauses, cuts and version sets, by PEP 440. Clauses stand in the crate below.
+//! Version specifier clauses, cuts and version sets, by PEP 440. Clauses stand in the crate `specifiers`.
 #![tactic(auto)]
 
 mod cut;
@@ -10,4 +10,4 @@ mod set;
 pub use crate::cut::Cut;
 pub use crate::range::Range;
 pub use crate::set::VersionSet;
-pub use clauses::{Clause, ClauseFault, Op, clause_run, is_clause_byte};
+pub use specifiers::{Clause, ClauseFault, Op, clause_run, is_clause_byte};

@@ -9,8 +9,8 @@ ghost use Rattle.pep_clause.specs.OperatorTable.{range};
 ghost use Rattle.pep_clause.specs.SetEquality.{same_range, same_range-equiv};
 
 use crate::cut::Cut;
-use clauses::ClauseFault;
 use pep_version::Key;
+use specifiers::ClauseFault;
 use std::alloc::Global;
 use std::cmp::Ordering;
 use std::marker::Model;

@@ -30,8 +30,8 @@ ghost use Rattle.pep_clause.specs.OperatorTable.{
 };
 
 use crate::cut::Cut;
-use clauses::ClauseFault;
 use pep_version::{Phase, Version};
+use specifiers::ClauseFault;
 use std::alloc::Global;
 
 // The number above, unless this is the largest.

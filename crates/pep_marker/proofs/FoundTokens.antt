@@ -14,10 +14,10 @@ use Rattle.pep_marker.specs.declared.environment.Variable.TheVariants as var
 use Rattle.std.specs.Prelude.{codes, bytes_eq, find, not, nat_lt, option_map}
 use Rattle.std.specs.Prelude.{if◌then◌else◌}
 use Rattle.std.specs.List.{prefix_len}
-use Rattle.clauses.proofs.OperatorLemmas.{operator_shape}
-use Rattle.clauses.specs.Clause.{operator_of, operator_text}
-use Rattle.clauses.specs.declared.op.Op.{Op}
-use Rattle.clauses.specs.declared.op.Op.TheVariants as op
+use Rattle.specifiers.proofs.OperatorLemmas.{operator_shape}
+use Rattle.specifiers.specs.Clause.{operator_of, operator_text}
+use Rattle.specifiers.specs.declared.op.Op.{Op}
+use Rattle.specifiers.specs.declared.op.Op.TheVariants as op
 use Rattle.pep_marker.specs.Environment.{variable_name, variable_of, variables}
 use Rattle.pep_marker.specs.declared.environment.Variable.{Variable}
 use Rattle.pep_marker.specs.Marker.{Token, open_parenthesis, close_parenthesis, and_word, or_word}

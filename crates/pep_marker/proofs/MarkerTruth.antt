@@ -7,12 +7,12 @@ use Rattle.pep_version.specs.Version.{Version}
 use Rattle.pep_version.specs.declared.fault.VersionFault.{VersionFault}
 use Rattle.pep_version.specs.declared.fault.VersionFault.TheVariants as read
 use Rattle.pep_version.proofs.OneVersion.{one-version}
-use Rattle.clauses.specs.Admits.{admits}
-use Rattle.clauses.specs.Clause.{Clause, ClauseOf}
-use Rattle.clauses.specs.declared.fault.ClauseFault.{ClauseFault}
-use Rattle.clauses.specs.declared.fault.ClauseFault.TheVariants as made
-use Rattle.clauses.specs.declared.op.Op.{Op}
-use Rattle.clauses.proofs.OneAnswer.{one-answer, one-clause-of}
+use Rattle.specifiers.specs.Admits.{admits}
+use Rattle.specifiers.specs.Clause.{Clause, ClauseOf}
+use Rattle.specifiers.specs.declared.fault.ClauseFault.{ClauseFault}
+use Rattle.specifiers.specs.declared.fault.ClauseFault.TheVariants as made
+use Rattle.specifiers.specs.declared.op.Op.{Op}
+use Rattle.specifiers.proofs.OneAnswer.{one-answer, one-clause-of}
 use Rattle.pep_marker.specs.Environment.{EnvironmentParts}
 use Rattle.pep_marker.specs.Holds.{Compares, Evaluates, Truth, both, is_extra}
 use Rattle.pep_marker.specs.Holds.{operand_value, plain_truth}

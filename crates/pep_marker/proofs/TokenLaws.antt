@@ -5,9 +5,9 @@ use Rattle.std.proofs.Common.{ap, subst, ◌∙◌, arith, append_assoc, length-
 use Rattle.std.proofs.Math.Seq.{drop-append_seam}
 use Rattle.std.specs.Prelude.{codes, bytes_eq, not, nat_lt, nat_eq, ◌⊎◌}
 use Rattle.std.specs.List.{list_all, prefix_len}
-use Rattle.clauses.specs.Clause.{operator_text}
-use Rattle.clauses.specs.declared.op.Op.{Op}
-use Rattle.clauses.specs.declared.op.Op.TheVariants as op
+use Rattle.specifiers.specs.Clause.{operator_text}
+use Rattle.specifiers.specs.declared.op.Op.{Op}
+use Rattle.specifiers.specs.declared.op.Op.TheVariants as op
 use Rattle.pep_marker.specs.Environment.{variable_name}
 use Rattle.pep_marker.specs.declared.environment.Variable.{Variable}
 use Rattle.pep_marker.specs.declared.environment.Variable.TheVariants as var

@@ -5,7 +5,7 @@ use Rattle.std.proofs.lemmas.List.{append-nil}
 use Rattle.std.proofs.lemmas.List.Folds.{list_all-append}
 use Rattle.std.specs.Prelude.{codes, ◌⊎◌}
 use Rattle.std.specs.List.{list_all, list_any}
-use Rattle.clauses.specs.declared.op.Op.TheVariants as op
+use Rattle.specifiers.specs.declared.op.Op.TheVariants as op
 use Rattle.pep_marker.specs.Marker.{Token, open_parenthesis, close_parenthesis, and_word, or_word}
 use Rattle.pep_marker.specs.Marker.{operand, operator, Operand, variable, text, Operator, is_in}
 use Rattle.pep_marker.specs.Marker.{version_operator, is_not_in, is_quote, is_quotable}

@@ -9,11 +9,11 @@ use Rattle.std.specs.Str.{str_to_ascii_lowercase}
 use Rattle.std.specs.declared.cmp.Ordering.{Ordering}
 use Rattle.pep_version.specs.Spelling.{Spells}
 use Rattle.pep_version.specs.Version.{Version}
-use Rattle.clauses.specs.Admits.{admits}
-use Rattle.clauses.specs.Clause.{Clause, ClauseOf}
-use Rattle.clauses.specs.declared.op.Op.{Op}
-use Rattle.clauses.specs.declared.op.Op.TheVariants.{Compatible, Equal, NotEqual, AtMost}
-use Rattle.clauses.specs.declared.op.Op.TheVariants.{AtLeast, Less, More, Exact}
+use Rattle.specifiers.specs.Admits.{admits}
+use Rattle.specifiers.specs.Clause.{Clause, ClauseOf}
+use Rattle.specifiers.specs.declared.op.Op.{Op}
+use Rattle.specifiers.specs.declared.op.Op.TheVariants.{Compatible, Equal, NotEqual, AtMost}
+use Rattle.specifiers.specs.declared.op.Op.TheVariants.{AtLeast, Less, More, Exact}
 use Rattle.pep_marker.specs.declared.environment.Variable.TheVariants.{Extra}
 use Rattle.pep_marker.specs.Environment.{EnvironmentParts, value_of}
 use Rattle.pep_marker.specs.Marker.{Operand, variable, text, Operator, version_operator, is_in}

@@ -3,9 +3,9 @@ use Rattle.std.specs.Prelude.{◌≡◌, ℕ, suc, ◌+◌, ◌≤◌, Bool, tru
 use Rattle.std.specs.Prelude.{List, [], ◌∷◌, ◌++◌, length, codes}
 use Rattle.std.specs.Char.{is_ascii_alphanumeric}
 use Rattle.std.specs.List.{list_all}
-use Rattle.clauses.specs.Clause.{operator_text}
-use Rattle.clauses.specs.declared.op.Op.{Op}
-use Rattle.clauses.specs.declared.op.Op.TheVariants.{Equal, Less, More}
+use Rattle.specifiers.specs.Clause.{operator_text}
+use Rattle.specifiers.specs.declared.op.Op.{Op}
+use Rattle.specifiers.specs.declared.op.Op.TheVariants.{Equal, Less, More}
 use Rattle.pep_marker.specs.declared.environment.Variable.{Variable}
 use Rattle.pep_marker.specs.Environment.{variable_name}
 use Rattle.pep_marker.specs.Runs.{IsBlank, begins}

@@ -3,7 +3,7 @@ use Rattle.std.specs.Prelude.{ℕ, ◌+◌, ◌&&◌, ◌||◌, ◌==◌, Bool, 
 use Rattle.std.specs.Prelude.{take, drop, codes, bytes_eq, Option, Some, None, option_map}
 use Rattle.std.specs.Prelude.{if◌then◌else◌}
 use Rattle.std.specs.List.{prefix_len}
-use Rattle.clauses.specs.Clause.{operator_of, operator_text}
+use Rattle.specifiers.specs.Clause.{operator_of, operator_text}
 use Rattle.pep_marker.specs.Environment.{variable_of}
 use Rattle.pep_marker.specs.Marker.{Token, open_parenthesis, close_parenthesis, and_word, or_word}
 use Rattle.pep_marker.specs.Marker.{operand, operator, variable, text, version_operator, is_in}

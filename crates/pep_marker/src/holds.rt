@@ -3,9 +3,9 @@
 ghost use Rattle.std.specs.Prelude.{◌≡◌, ◌⊎◌, ◌&&◌, ◌||◌, IfErr, IfOk, MatchOption, Ok, Some};
 ghost use Rattle.pep_version.specs.Spelling.{Spells};
 ghost use Rattle.pep_version.specs.Version as version;
-ghost use Rattle.clauses.specs.Admits.{admits};
-ghost use Rattle.clauses.specs.Clause as clause;
-ghost use Rattle.clauses.specs.Clause.{ClauseOf};
+ghost use Rattle.specifiers.specs.Admits.{admits};
+ghost use Rattle.specifiers.specs.Clause as clause;
+ghost use Rattle.specifiers.specs.Clause.{ClauseOf};
 ghost use Rattle.pep_marker.specs.Holds.{
   Compares,
   ComparesVersions,
@@ -25,8 +25,8 @@ use crate::environment::{Environment, Variable};
 use crate::fault::MarkerFault;
 use crate::marker::{Marker, Operand, Operator, Tree};
 use crate::normal::Normal;
-use clauses::{Clause, ClauseFault, Op};
 use pep_version::{Version, VersionFault};
+use specifiers::{Clause, ClauseFault, Op};
 use std::alloc::Global;
 
 // True, false, or undefined.

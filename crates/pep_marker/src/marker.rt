@@ -4,7 +4,7 @@ mod read;
 mod text;
 
 use crate::environment::Variable;
-use clauses::Op;
+use specifiers::Op;
 
 /// One side of a comparison: a variable, or a text that stood in quotes.
 #[derive(Drop)]

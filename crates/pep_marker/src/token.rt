@@ -15,7 +15,7 @@ use crate::environment::Variable;
 use crate::fault::MarkerFault;
 use crate::marker::Operator;
 use crate::runs::blank_run;
-use clauses::Op;
+use specifiers::Op;
 use std::alloc::Global;
 
 // One side of a comparison: a variable, or what stands between two quotes.

@@ -4,7 +4,7 @@ use Rattle.std.proofs.Common.{◌≡◌, ℕ, ◌==◌, ◌≤◌, Bool, true, f
 use Rattle.std.proofs.Common.{arith, refl, sym, ap, subst, ◌∙◌, append_assoc}
 use Rattle.std.specs.List.{AllZip, join_with_byte}
 use Rattle.std.proofs.lemmas.Bool.Decides.{nat_tests}
-use Rattle.clauses.specs.Clause.{Clause, is_clause_byte}
+use Rattle.specifiers.specs.Clause.{Clause, is_clause_byte}
 use Rattle.pep_marker.specs.Runs.{begins, without_leading_blanks}
 use Rattle.pep_require.specs.LineParts.{BoundFrom, BoundsFrom, last_bound, last_comma, more_bounds}
 use Rattle.pep_require.specs.LineParts.{RefusesBounds, this_bound, later_bound}

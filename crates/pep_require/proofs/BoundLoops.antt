@@ -9,11 +9,11 @@ use Rattle.std.proofs.Math.Seq.{take-append_seam}
 use Rattle.std.proofs.lemmas.Bool.Decides.{nat_tests}
 use Rattle.std.proofs.lemmas.List.Folds.{length-prefix_len}
 use Rattle.std.proofs.lemmas.Str.{IsCharBoundary-from_take}
-use Rattle.clauses.specs.Clause.{Clause, ClauseOf, is_clause_byte, operator_of, operator_text}
-use Rattle.clauses.specs.declared.fault.ClauseFault.{ClauseFault}
-use Rattle.clauses.specs.declared.fault.ClauseFault.TheVariants as clause_fault
-use Rattle.clauses.specs.declared.op.Op.{Op}
-use Rattle.clauses.proofs.OperatorLemmas.{operator_shape}
+use Rattle.specifiers.specs.Clause.{Clause, ClauseOf, is_clause_byte, operator_of, operator_text}
+use Rattle.specifiers.specs.declared.fault.ClauseFault.{ClauseFault}
+use Rattle.specifiers.specs.declared.fault.ClauseFault.TheVariants as clause_fault
+use Rattle.specifiers.specs.declared.op.Op.{Op}
+use Rattle.specifiers.proofs.OperatorLemmas.{operator_shape}
 use Rattle.pep_marker.specs.Runs.{begins, is_blank_byte, without_leading_blanks}
 use Rattle.pep_require.specs.LineParts.{BoundFrom, BoundsFrom, last_bound, last_comma, more_bounds}
 use Rattle.pep_require.specs.LineParts.{RefusesBound, RefusesBounds, RefusesFound, this_bound}

@@ -5,15 +5,15 @@ use Rattle.std.specs.List.{list_all}
 use Rattle.std.proofs.Math.Seq.{drop-append_seam}
 use Rattle.std.proofs.lemmas.Bool.Decides.{nat_tests}
 use Rattle.std.proofs.lemmas.List.Folds.{list_all-append}
-use Rattle.clauses.specs.Clause.{Clause, ClauseOf, ReadsClause, ReadsClauseAs, is_clause_byte}
-use Rattle.clauses.specs.Clause.{operator_of, operator_text}
-use Rattle.clauses.specs.declared.fault.ClauseFault.{ClauseFault}
-use Rattle.clauses.specs.declared.op.Op.{Op}
-use Rattle.clauses.specs.declared.op.Op.TheVariants as op
-use Rattle.clauses.proofs.OneAnswer.{no-clause-of-nothing, one-answer, one-clause-of}
-use Rattle.clauses.proofs.OperatorLemmas.{operator_shape}
-use Rattle.clauses.proofs.Written.{clause-ink, ink-trimmed, is_ink, operator-found, operator-ink}
-use Rattle.clauses.proofs.Written.{written-of}
+use Rattle.specifiers.specs.Clause.{Clause, ClauseOf, ReadsClause, ReadsClauseAs, is_clause_byte}
+use Rattle.specifiers.specs.Clause.{operator_of, operator_text}
+use Rattle.specifiers.specs.declared.fault.ClauseFault.{ClauseFault}
+use Rattle.specifiers.specs.declared.op.Op.{Op}
+use Rattle.specifiers.specs.declared.op.Op.TheVariants as op
+use Rattle.specifiers.proofs.OneAnswer.{no-clause-of-nothing, one-answer, one-clause-of}
+use Rattle.specifiers.proofs.OperatorLemmas.{operator_shape}
+use Rattle.specifiers.proofs.Written.{clause-ink, ink-trimmed, is_ink, operator-found, operator-ink}
+use Rattle.specifiers.proofs.Written.{written-of}
 use Rattle.pep_version.proofs.Connectives.{and_first}
 use Rattle.pep_version.proofs.NormalTexts.{list_all-weaker}
 use Rattle.pep_marker.specs.Runs.{begins, is_blank_byte, without_leading_blanks}

@@ -3,10 +3,10 @@ use Rattle.std.proofs.Common.{◌≡◌, ◌≢◌, ℕ, ◌==◌, Bool, true, f
 use Rattle.std.proofs.Common.{◌∷◌, Option, Some, None, Result, Err, sym, ap, subst, ◌∙◌, inl, inr}
 use Rattle.std.proofs.Common.{refl}
 use Rattle.std.proofs.lemmas.Option.{none-some, same_Some}
-use Rattle.clauses.proofs.OneAnswer.{one-answer}
-use Rattle.clauses.specs.Clause.{Clause, operator_of}
-use Rattle.clauses.specs.declared.fault.ClauseFault.{ClauseFault}
-use Rattle.clauses.specs.declared.op.Op.{Op}
+use Rattle.specifiers.proofs.OneAnswer.{one-answer}
+use Rattle.specifiers.specs.Clause.{Clause, operator_of}
+use Rattle.specifiers.specs.declared.fault.ClauseFault.{ClauseFault}
+use Rattle.specifiers.specs.declared.op.Op.{Op}
 use Rattle.pep_marker.specs.Runs.{without_leading_blanks}
 use Rattle.pep_require.proofs.BoundLaws.{refused_bounds, tail}
 use Rattle.pep_require.proofs.BoundPieces.{bound_refused, one_bound}

@@ -6,8 +6,8 @@ use Rattle.std.proofs.Common.{subst, ◌∙◌, append_assoc, append-nil}
 use Rattle.std.proofs.lemmas.List.{length-map}
 use Rattle.std.specs.Prelude.{Contains}
 use Rattle.std.specs.List.{AllZip, join_with_byte, list_all}
-use Rattle.clauses.specs.Clause.{Clause, IsClause, IsOperatorAndRun, clause_text}
-use Rattle.clauses.specs.Clause.{operator_text}
+use Rattle.specifiers.specs.Clause.{Clause, IsClause, IsOperatorAndRun, clause_text}
+use Rattle.specifiers.specs.Clause.{operator_text}
 use Rattle.pep_marker.specs.Marker.{MarkerParts}
 use Rattle.pep_marker.specs.MarkerText.{marker_text}
 use Rattle.pep_marker.specs.Name.{is_name, name_of}

@@ -8,7 +8,7 @@ use Rattle.std.specs.Prelude.{nat_lt}
 use Rattle.std.proofs.Common.{take}
 use Rattle.std.proofs.lemmas.List.Folds.{length-prefix_len}
 use Rattle.std.specs.List.{list_all, prefix_len}
-use Rattle.clauses.specs.Clause.{Clause}
+use Rattle.specifiers.specs.Clause.{Clause}
 use Rattle.pep_marker.specs.Runs.{begins, is_blank_byte, without_leading_blanks}
 use Rattle.pep_require.specs.LineParts.{BoundsFrom, UrlFrom, url_run}
 use Rattle.pep_require.specs.LineParts.{TargetFrom, no_target, url_target, closed_target}

@@ -3,7 +3,7 @@ use Rattle.std.proofs.Common.{◌≡◌, ℕ, ◌+◌, ◌<◌, List, [], ◌∷
 use Rattle.std.proofs.Common.{sym, ap, ◌∙◌, append_assoc, append-nil}
 use Rattle.std.specs.List.{join_with_byte}
 use Rattle.std.proofs.lemmas.List.{drop_more}
-use Rattle.clauses.specs.Clause.{Clause, clause_text}
+use Rattle.specifiers.specs.Clause.{Clause, clause_text}
 use Rattle.pep_require.specs.RequirementText.{behind_commas, extras_text}
 
 pub joined_by_commas : (x : List ℕ) (xs : List (List ℕ)) →

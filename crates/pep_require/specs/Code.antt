@@ -1,6 +1,6 @@
 -- The codes of faults of requirement lines.
 use Rattle.std.specs.Prelude.{◌≡◌, ◌⊎◌, ℕ, Option, Some, None}
-use Rattle.clauses.specs.Code.{clause_code}
+use Rattle.specifiers.specs.Code.{clause_code}
 use Rattle.pep_marker.specs.Code.{marker_code}
 use Rattle.pep_require.specs.declared.fault.RequireFault.{RequireFault}
 use Rattle.pep_require.specs.declared.fault.RequireFault.TheVariants as fault

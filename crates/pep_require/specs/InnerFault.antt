@@ -1,6 +1,6 @@
 -- The fault of a line for a fault inside it. Want of memory is the line's own.
-use Rattle.clauses.specs.declared.fault.ClauseFault.{ClauseFault}
-use Rattle.clauses.specs.declared.fault.ClauseFault.TheVariants as clause
+use Rattle.specifiers.specs.declared.fault.ClauseFault.{ClauseFault}
+use Rattle.specifiers.specs.declared.fault.ClauseFault.TheVariants as clause
 use Rattle.pep_marker.specs.declared.fault.MarkerFault.{MarkerFault}
 use Rattle.pep_marker.specs.declared.fault.MarkerFault.TheVariants as marker
 use Rattle.pep_require.specs.declared.fault.RequireFault.{RequireFault}

@@ -3,11 +3,11 @@
 -- "Dependency specifiers", "Grammar" (PEP 508).
 use Rattle.std.specs.Prelude.{◌≡◌, ◌≢◌, ℕ, ◌==◌, ◌⊎◌, Bool, true, false, not, ◌||◌, List, []}
 use Rattle.std.specs.Prelude.{◌∷◌, ◌++◌, drop, length, take_while, Option, Some, None, Err}
-use Rattle.clauses.specs.Clause.{Clause, ClauseOf, IsClauseOf, is_clause_byte, operator_of}
-use Rattle.clauses.specs.Clause.{operator_text}
-use Rattle.clauses.specs.declared.fault.ClauseFault.{ClauseFault}
-use Rattle.clauses.specs.declared.fault.ClauseFault.TheVariants as clause_fault
-use Rattle.clauses.specs.declared.op.Op.{Op}
+use Rattle.specifiers.specs.Clause.{Clause, ClauseOf, IsClauseOf, is_clause_byte, operator_of}
+use Rattle.specifiers.specs.Clause.{operator_text}
+use Rattle.specifiers.specs.declared.fault.ClauseFault.{ClauseFault}
+use Rattle.specifiers.specs.declared.fault.ClauseFault.TheVariants as clause_fault
+use Rattle.specifiers.specs.declared.op.Op.{Op}
 use Rattle.pep_marker.specs.Marker.{NoMarker}
 use Rattle.pep_marker.specs.Name.{name_of}
 use Rattle.pep_marker.specs.Runs.{begins, is_blank_byte, without_leading_blanks}

@@ -5,8 +5,8 @@ use Rattle.std.specs.List.{AllZip, join_with_byte, list_all}
 use Rattle.url.specs.Parser.{parse_url}
 use Rattle.url.specs.Parts.{serialize}
 use Rattle.url.specs.Parts as url
-use Rattle.clauses.specs.Clause.{Clause, ReadsClause, is_clause_byte, operator_text}
-use Rattle.clauses.specs.declared.op.Op.{Op}
+use Rattle.specifiers.specs.Clause.{Clause, ReadsClause, is_clause_byte, operator_text}
+use Rattle.specifiers.specs.declared.op.Op.{Op}
 use Rattle.pep_marker.specs.Marker.{MarkerParts, IsMarker}
 use Rattle.pep_marker.specs.Runs.{IsBlank, is_blank_byte, begins}
 use Rattle.pep_marker.specs.Name.{name_of}

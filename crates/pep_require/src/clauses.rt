@@ -11,8 +11,8 @@ ghost use Rattle.pep_require.specs.LineParts.{
 
 use crate::fault::RequireFault;
 use crate::front::{behind, pieces, stripped};
-use clauses::{Clause, ClauseFault, Op, clause_run};
 use pep_version::first_part;
+use specifiers::{Clause, ClauseFault, Op, clause_run};
 use std::alloc::Global;
 
 // The clauses in front of a text, and what stands behind them.

@@ -1,5 +1,5 @@
-use clauses::ClauseFault;
 use pep_marker::MarkerFault;
+use specifiers::ClauseFault;
 use std::alloc::{AllocError, AllocFailed};
 use thiserror::Error;
 

@@ -8,7 +8,7 @@ ghost use Rattle.pep_require.specs.Requirement.{RequirementParts};
 ghost use Rattle.pep_require.specs.RequirementText.{requirement_text};
 
 use crate::fault::RequireFault;
-use clauses::laws;
+use specifiers::laws;
 
 /// A line is read as at most one requirement (PEP 508, "Grammar").
 pub fn one_requirement()

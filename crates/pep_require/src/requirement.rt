@@ -7,8 +7,8 @@ ghost use Rattle.pep_require.specs.Requirement.{HasUndefinedMarker, MarkerSays};
 ghost use Rattle.pep_require.specs.View.{requirement_parts, target_parts};
 
 use crate::url_text::UrlText;
-use clauses::Clause;
 use pep_marker::{Environment, Marker, MarkerFault, Name};
+use specifiers::Clause;
 use std::alloc::Global;
 
 /// What a requirement asks of the package: clauses that a version has to meet, and perhaps none, or

@@ -3,7 +3,7 @@
 ghost use Rattle.std.specs.Prelude.{◌≡◌, ◌++◌, IfErr, OnOk, map, string_bytes};
 ghost use Rattle.std.specs.Option.{option_map};
 ghost use Rattle.std.specs.List.{join_with_byte};
-ghost use Rattle.clauses.specs.Clause.{clause_text};
+ghost use Rattle.specifiers.specs.Clause.{clause_text};
 ghost use Rattle.pep_marker.specs.View.{marker_parts};
 ghost use Rattle.pep_require.specs.RequirementText.{
   behind_commas,
@@ -15,8 +15,8 @@ ghost use Rattle.pep_require.specs.View.{target_parts};
 
 use crate::fault::RequireFault;
 use crate::requirement::{Requirement, Target};
-use clauses::Clause;
 use pep_marker::{Marker, Name};
+use specifiers::Clause;
 use std::alloc::Global;
 
 impl Requirement {

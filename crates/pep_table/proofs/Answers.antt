@@ -9,7 +9,7 @@ use Rattle.std.specs.Prelude.{◌↔◌, Contains, slice_index_or}
 use Rattle.std.specs.declared.cmp.Ordering.TheVariants.{Less}
 use Rattle.pep_version.specs.Text.{normal_text}
 use Rattle.pep_version.specs.Version.{IsVersion, Version, is_pre_release}
-use Rattle.clauses.specs.Clause.{demanded}
+use Rattle.specifiers.specs.Clause.{demanded}
 use Rattle.pep_require.proofs.Ascending.{Contains-from_IsIn, IsIn, IsIn-from_Contains, irreflexive}
 use Rattle.pep_require.specs.Requirement.{IsAscending}
 use Rattle.pep_table.specs.Answer.{IsAnswer}

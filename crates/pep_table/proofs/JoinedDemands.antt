@@ -12,7 +12,7 @@ use Rattle.pep_version.specs.Version.{IsVersion, Version}
 use Rattle.pep_clause.proofs.LeastCut.{point-all_versions}
 use Rattle.pep_clause.proofs.SetLemmas.{is_in-place_of}
 use Rattle.pep_clause.proofs.UnderCut.{is_in-is_point}
-use Rattle.clauses.specs.Clause.{demanded}
+use Rattle.specifiers.specs.Clause.{demanded}
 use Rattle.pep_clause.specs.Cut.{Cut, IsCut, before}
 use Rattle.pep_clause.specs.VersionSet.{In, IsPoint, Range, all_versions, is_in, is_point}
 use Rattle.pep_table.specs.TableLaws.{right_kept}

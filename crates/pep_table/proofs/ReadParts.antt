@@ -5,7 +5,7 @@ use Rattle.std.specs.Prelude.{All, IsTrue}
 use Rattle.std.specs.List.{list_all}
 use Rattle.std.proofs.lemmas.List.{append_cancel_left}
 use Rattle.std.proofs.lemmas.List.Elements.{All-head, All-tail, All-weaker}
-use Rattle.clauses.specs.Clause.{is_demanded_text}
+use Rattle.specifiers.specs.Clause.{is_demanded_text}
 use Rattle.pep_clause.specs.VersionSet.{IsNormal, Range}
 use Rattle.pep_marker.specs.Name.{IsNormalName}
 use Rattle.pep_require.specs.Requirement.{IsAscending}

@@ -8,7 +8,7 @@ use Rattle.std.proofs.lemmas.Str.{IsUtf8-from_ascii}
 use Rattle.pep_version.proofs.NormalTexts.{list_all-weaker}
 use Rattle.pep_version.specs.Text.{normal_text}
 use Rattle.pep_version.specs.Version.{IsVersion, Version}
-use Rattle.clauses.specs.Clause.{is_demanded_text}
+use Rattle.specifiers.specs.Clause.{is_demanded_text}
 use Rattle.pep_clause.specs.Cut.{Cut, IsCut, before, after, past, end, cut_text, final_version}
 use Rattle.pep_clause.specs.VersionSet.{Range}
 use Rattle.pep_marker.specs.Name.{IsNormalName}

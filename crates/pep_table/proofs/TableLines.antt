@@ -9,7 +9,7 @@ use Rattle.std.proofs.lemmas.List.Elements.{All-head, All-tail}
 use Rattle.pep_version.proofs.Connectives.{and_first, and_second}
 use Rattle.pep_version.proofs.NormalTexts.{list_all-weaker}
 use Rattle.pep_version.specs.Version.{is_empty}
-use Rattle.clauses.specs.Clause.{is_clause_byte, is_demanded_text}
+use Rattle.specifiers.specs.Clause.{is_clause_byte, is_demanded_text}
 use Rattle.pep_marker.specs.Name.{IsNormalName, is_letter_or_digit, is_name_byte}
 use Rattle.pep_require.specs.Reads.{is_url_byte}
 use Rattle.pep_table.proofs.CutTexts.{HasCuts, HasNoFeed, have_cuts, is_not_feed, is_not_space}

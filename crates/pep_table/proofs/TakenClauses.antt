@@ -8,11 +8,11 @@ use Rattle.std.specs.List.{All, AllByRecursion, list_all}
 use Rattle.std.specs.Borrow.{Bor}
 use Rattle.std.specs.Prelude.{IsTrue, false, is_some, option_map}
 use Rattle.pep_version.proofs.Connectives.{and-true, and_given, and_given_second}
-use Rattle.clauses.specs.Clause.{Clause, demanded_text, is_demanded_text, demanded, compatible}
-use Rattle.clauses.specs.Clause.{matching, matching_prefix, excluding, excluding_prefix, at_most}
-use Rattle.clauses.specs.Clause.{at_least, less_than, greater_than}
+use Rattle.specifiers.specs.Clause.{Clause, demanded_text, is_demanded_text, demanded, compatible}
+use Rattle.specifiers.specs.Clause.{matching, matching_prefix, excluding, excluding_prefix, at_most}
+use Rattle.specifiers.specs.Clause.{at_least, less_than, greater_than}
 use Rattle.pep_clause.specs.OperatorTable.{set_of}
-use Rattle.clauses.specs.Valid.{IsValidClause}
+use Rattle.specifiers.specs.Valid.{IsValidClause}
 use Rattle.pep_clause.specs.VersionSet.{IsNormal, Range, all_versions, is_point}
 use Rattle.pep_clause.proofs.LeastCut.{point-all_versions}
 use Rattle.pep_table.specs.Gathering.{MeetsClauses, texts_of}

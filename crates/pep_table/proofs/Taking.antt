@@ -10,11 +10,11 @@ use Rattle.pep_version.proofs.PlaceLemmas.{place-of-place, place-version}
 use Rattle.pep_version.specs.Order.{place_of}
 use Rattle.pep_version.specs.Version.{IsVersion, Version}
 use Rattle.pep_clause.proofs.SetLemmas.{In-all_versions, is_in-set_of}
-use Rattle.clauses.specs.Admits.{admits}
-use Rattle.clauses.specs.Clause.{Clause, demanded, demanded_text}
+use Rattle.specifiers.specs.Admits.{admits}
+use Rattle.specifiers.specs.Clause.{Clause, demanded, demanded_text}
 use Rattle.pep_clause.specs.Cut.{Cut, before}
 use Rattle.pep_clause.specs.OperatorTable.{set_of}
-use Rattle.clauses.specs.Valid.{IsValidClause}
+use Rattle.specifiers.specs.Valid.{IsValidClause}
 use Rattle.pep_clause.specs.VersionSet.{In, Range, is_in, is_point}
 use Rattle.pep_marker.proofs.MarkerTruth.{evaluates_one}
 use Rattle.pep_marker.specs.Environment.{EnvironmentParts}

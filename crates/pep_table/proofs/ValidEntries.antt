@@ -4,8 +4,8 @@ use Rattle.std.specs.Prelude.{Contains, IsTrue, slice_index_or}
 use Rattle.std.specs.List.{All}
 use Rattle.std.proofs.lemmas.List.Elements.{All-contains, All-contains_itself, All-nil}
 use Rattle.std.proofs.lemmas.List.Elements.{recursion_from_All}
-use Rattle.clauses.specs.Clause.{is_demanded_text}
-use Rattle.clauses.specs.Valid.{IsValidClause}
+use Rattle.specifiers.specs.Clause.{is_demanded_text}
+use Rattle.specifiers.specs.Valid.{IsValidClause}
 use Rattle.pep_marker.specs.Name.{IsNormalName}
 use Rattle.pep_clause.proofs.LeastCut.{IsNormal-all_versions}
 use Rattle.pep_require.specs.Requirement.{RequirementParts}

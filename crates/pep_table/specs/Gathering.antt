@@ -2,10 +2,10 @@
 use Rattle.std.specs.Prelude.{◌≡◌, ◌≢◌, ℕ, ◌&&◌, Bool, true, false, List, [], ◌∷◌, Some}
 use Rattle.std.specs.Prelude.{◌+◌, ◌++◌, All, IsTrue, length, unwrap_or}
 use Rattle.std.specs.List.{filter_map, list_all}
-use Rattle.clauses.specs.Clause.{Clause, demanded_text}
+use Rattle.specifiers.specs.Clause.{Clause, demanded_text}
 use Rattle.pep_clause.specs.Cut.{Cut, IsCut}
 use Rattle.pep_clause.specs.OperatorTable.{set_of}
-use Rattle.clauses.specs.Valid.{IsValidClause}
+use Rattle.specifiers.specs.Valid.{IsValidClause}
 use Rattle.pep_clause.specs.VersionSet.{IsNormal, Range, all_versions, is_point}
 use Rattle.pep_marker.specs.Environment.{EnvironmentParts}
 use Rattle.pep_marker.specs.Name.{IsNormalName}

@@ -14,7 +14,7 @@ use Rattle.std.proofs.lemmas.Slice.Eq.{bytes_eq-Decides}
 use Rattle.pep_clause.specs.Cut.{Cut, IsCut}
 use Rattle.pep_clause.proofs.OneList.{same_points}
 use Rattle.pep_clause.specs.VersionSet.{IsPoint, all_versions, is_point}
-use Rattle.clauses.specs.Clause.{demanded}
+use Rattle.specifiers.specs.Clause.{demanded}
 use Rattle.pep_require.specs.Requirement.{IsAscending}
 use Rattle.pep_require.proofs.Ascending.{Contains-from_IsIn, IsIn, IsIn-from_Contains}
 use Rattle.pep_require.proofs.Ascending.{ascending_same, first_below, irreflexive, rest_ascends}

@@ -1,7 +1,7 @@
 // What the requirements so far demand of one package.
 
 ghost use Rattle.std.specs.Prelude.{◌≡◌, ◌∷◌, [], All, IfErr, IfOk, OnOk, option_map};
-ghost use Rattle.clauses.specs.Valid.{IsValidClause};
+ghost use Rattle.specifiers.specs.Valid.{IsValidClause};
 ghost use Rattle.pep_clause.specs.VersionSet.{IsNormal, all_versions};
 ghost use Rattle.pep_require.specs.View.{requirement_parts, target_parts};
 ghost use Rattle.pep_table.specs.Gathering.{

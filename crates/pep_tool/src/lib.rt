@@ -10,5 +10,6 @@ pub use crate::write::write_text;
 pub use command_line::{Plan, plan_of};
 pub use devices::{Bytes, Counted, Disk, Failed, Folder, OpenFault, Sink, Source};
 pub use faults::{ArgumentFault, Cause, Fault, LineFault, Place};
-pub use inputs::laws;
-pub use inputs::{Input, Kind, check_bytes, environment_of, gather, list_of, merge_bytes, project_of};
+pub use inputs::{
+    Input, Kind, check_bytes, environment_of, gather, laws, list_of, merge_bytes, project_of,
+};

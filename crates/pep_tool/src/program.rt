@@ -23,12 +23,11 @@ ghost use Rattle.pep_tool.specs.Run.{PrintsAnswer, Refuses, Tells, TellsRefusal,
 mod answers;
 mod reading;
 
-use devices::{Counted, Sink, Source};
-use faults::Fault;
-use devices::{Disk, Folder};
-use command_line::plan_of;
 use crate::write::write_text;
 use answers::reply_to;
+use command_line::plan_of;
+use devices::{Counted, Disk, Folder, Sink, Source};
+use faults::Fault;
 use std::alloc::Global;
 use std::rt::Files;
 

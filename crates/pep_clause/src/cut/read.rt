@@ -6,8 +6,8 @@ ghost use Rattle.pep_version.specs.Version.{IsVersion, Version};
 ghost use Rattle.pep_clause.specs.Cut.{Cut, IsCut, cut_text};
 
 use crate::cut::Cut;
-use clauses::ClauseFault;
 use pep_version::{Version, VersionFault};
+use specifiers::ClauseFault;
 use std::alloc::Global;
 
 // The version behind the word, if one is written there.

@@ -5,8 +5,8 @@ ghost use Rattle.pep_version.specs.KeyReading.{behind_place};
 ghost use Rattle.pep_clause.specs.CutView.{cut_word};
 
 use crate::cut::Cut;
-use clauses::ClauseFault;
 use pep_version::{Version, behind_release};
+use specifiers::ClauseFault;
 use std::alloc::Global;
 
 impl Cut {

@@ -22,7 +22,7 @@ ghost use Rattle.std.specs.Prelude.{
 };
 ghost use Rattle.std.specs.Char.{is_ascii_uppercase};
 ghost use Rattle.std.specs.List.{list_all};
-ghost use Rattle.clauses.specs.Clause.{is_clause_byte, is_demanded_text};
+ghost use Rattle.specifiers.specs.Clause.{is_clause_byte, is_demanded_text};
 ghost use Rattle.pep_require.specs.Reads.{is_url_byte};
 ghost use Rattle.pep_marker.specs.Name.{IsNormalName};
 ghost use Rattle.pep_require.specs.Requirement.{IsAscending};
@@ -153,7 +153,7 @@ impl Kind for Urls {
 
 impl Kind for Texts {
     ghost use Rattle.std.specs.Prelude.{IsTrue, codes};
-    ghost use Rattle.clauses.specs.Clause.{is_demanded_text};
+    ghost use Rattle.specifiers.specs.Clause.{is_demanded_text};
 
     type Item = String;
 

@@ -42,17 +42,14 @@ ghost use Rattle.pep_tool.specs.RunAnswers.{
 };
 ghost use Rattle.pep_tool.specs.Standard.{standard_environment};
 
-use devices::Source;
-use faults::{Cause, Fault, Place};
-use devices::Folder;
-use inputs::gather;
-use inputs::{Input, Kind};
-use inputs::{lines_text, list_of};
-use inputs::{check_bytes, merge_bytes, text_of};
-use command_line::Plan;
 use crate::program::reading::{kind_of, read_all, read_environment, read_file, read_inputs};
-use inputs::project_of;
 use crate::standard::standard_environment;
+use command_line::Plan;
+use devices::{Folder, Source};
+use faults::{Cause, Fault, Place};
+use inputs::{
+    Input, Kind, check_bytes, gather, lines_text, list_of, merge_bytes, project_of, text_of,
+};
 use pep_marker::Name;
 use pep_require::Requirement;
 use pep_table::{Answer, Gathering};

@@ -29,11 +29,9 @@ ghost use Rattle.pep_tool.specs.RunFiles.{
   read_fault,
 };
 
-use devices::Source;
-use inputs::environment_of;
+use devices::{Folder, OpenFault, Source};
 use faults::{Cause, Fault, Place};
-use devices::{Folder, OpenFault};
-use inputs::{Input, Kind};
+use inputs::{Input, Kind, environment_of};
 use pep_marker::Environment;
 use std::alloc::Global;
 

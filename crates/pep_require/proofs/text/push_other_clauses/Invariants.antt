@@ -1,5 +1,5 @@
 use Rattle.std.proofs.Common.{◌≡◌, ◌++◌, drop, map, string_bytes}
-use Rattle.clauses.specs.Clause.{clause_text}
+use Rattle.specifiers.specs.Clause.{clause_text}
 use Rattle.pep_require.specs.RequirementText.{behind_commas}
 use Rattle.pep_require.proofs.text.push_other_clauses.Given as goal
 

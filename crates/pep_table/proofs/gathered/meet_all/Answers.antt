@@ -1,5 +1,5 @@
 use Rattle.std.proofs.Common.{◌+◌, rules, take, arith}
-use Rattle.clauses.specs.Valid.{IsValidClause}
+use Rattle.specifiers.specs.Valid.{IsValidClause}
 use Rattle.pep_table.specs.Others.{kept_versions}
 use Rattle.pep_table.proofs.KeptSets.{next_taken, one_holds}
 use Rattle.pep_table.proofs.TakenClauses.{meets_more, meets_none}

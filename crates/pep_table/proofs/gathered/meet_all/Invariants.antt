@@ -1,6 +1,6 @@
 use Rattle.std.proofs.Common.{take}
 use Rattle.std.specs.List.{All}
-use Rattle.clauses.specs.Valid.{IsValidClause}
+use Rattle.specifiers.specs.Valid.{IsValidClause}
 use Rattle.pep_table.specs.Gathering.{MeetsClauses}
 use Rattle.pep_table.specs.Others.{kept_versions}
 use Rattle.pep_table.proofs.gathered.meet_all.Given as goal

@@ -1,6 +1,6 @@
 use Rattle.std.proofs.Common.{◌≡◌, ◌∙◌, None, ap, refl, sym, subst, map, option_map, string_bytes}
 use Rattle.std.specs.String.{string_cmp}
-use Rattle.clauses.specs.Clause.{demanded_text}
+use Rattle.specifiers.specs.Clause.{demanded_text}
 use Rattle.pep_table.specs.Join.{IsUnion}
 use Rattle.pep_table.proofs.KeptSets.{kept_none}
 use Rattle.pep_table.proofs.TakenClauses.{text_of_none}

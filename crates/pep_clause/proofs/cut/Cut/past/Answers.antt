@@ -3,7 +3,7 @@ use Rattle.pep_version.proofs.PlaceLemmas.{short-twice}
 use Rattle.pep_version.specs.KeyBytes.{key_bytes}
 use Rattle.pep_version.specs.Order.{short_release}
 use Rattle.pep_version.specs.Version.{IsVersion, Version}
-use Rattle.clauses.specs.Clause.{Prefix}
+use Rattle.specifiers.specs.Clause.{Prefix}
 use Rattle.pep_clause.specs.Cut.{IsCut, final_version, past}
 use Rattle.pep_clause.specs.CutBytes.{cut_bytes}
 use Rattle.pep_clause.proofs.CutsRead.{cut_at-is, past-bytes, reads_back}

@@ -1,9 +1,9 @@
 use Rattle.std.proofs.Common.{◌≡◌, ◌∙◌}
-use Rattle.clauses.specs.Clause.{prefix_of}
+use Rattle.specifiers.specs.Clause.{prefix_of}
 use Rattle.pep_clause.specs.Cut.{cut_cmp}
 use Rattle.pep_clause.specs.OperatorTable.{before_dev, before_prefix, prefix_end}
 use Rattle.pep_clause.proofs.PrefixRows.{before_prefix-below_end}
-use Rattle.clauses.proofs.FinalVersion.{IsVersion-prefix_of}
+use Rattle.specifiers.proofs.FinalVersion.{IsVersion-prefix_of}
 use Rattle.pep_clause.proofs.set.VersionSet.without_prefix.Goals as goal
 
 pub outside-requires-clause-in_order : goal.outside-requires-clause-in_order

@@ -1,5 +1,0 @@
-use Rattle.std.proofs.Common.{rules}
-use Rattle.clauses.proofs.clause.Clause.of.Goals as goal
-
-pub returns-clause-clause : goal.returns-clause-clause
-returns-clause-clause c = search rules

@@ -1,7 +1,0 @@
-use Rattle.std.proofs.Common.{◌≡◌, drop}
-use Rattle.clauses.specs.Admits.{begins_padded}
-use Rattle.clauses.proofs.clause.admits.begins_padded.Given as goal
-
-abbrev pub invariant-numbers : goal.invariant-numbers
-invariant-numbers l =
-    begins_padded (drop l.i l.numbers) (drop l.i l.release) ≡ begins_padded l.numbers l.release

@@ -1,5 +1,0 @@
-use Rattle.clauses.proofs.WrittenLemmas.{clause-run}
-use Rattle.clauses.proofs.laws.clause_text_run.Goals as goal
-
-pub returns : goal.returns
-returns c = clause-run c.text_bytes.ensures

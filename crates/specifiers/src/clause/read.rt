@@ -1,0 +1,148 @@
+// How a clause is read.
+
+ghost use Rattle.std.specs.Prelude.{◌≡◌, ◌&&◌, not, Ok};
+ghost use Rattle.std.specs.List.{list_all};
+ghost use Rattle.pep_version.specs.Version.{IsVersion, is_empty};
+ghost use Rattle.specifiers.specs.Clause.{
+  TargetAnswers,
+  ends_in_space,
+  is_clause_byte,
+  is_final,
+  prefix_answer,
+  version_answer,
+};
+
+use crate::bytes::has_clause_bytes;
+use crate::clause::{Clause, ClauseForm};
+use crate::fault::ClauseFault;
+use crate::op::Op;
+use pep_version::{Version, trimmed, without_trailing_space};
+use std::alloc::Global;
+
+// Whether the text may stand behind `===`.
+fn is_clause_text(text: &[u8]) -> bool
+    ensures { result ≡ (not (is_empty text.now) && list_all is_clause_byte text.now) }
+{
+    !text.is_empty() && has_clause_bytes(text)
+}
+
+// Whether white space ends the text.
+fn ends_in_space(text: &str) -> bool
+    ensures { result ≡ ends_in_space text.now }
+{
+    without_trailing_space(text).len() != text.len()
+}
+
+// Whether the version is an epoch and a release, and nothing more.
+fn is_final(version: &Version) -> bool
+    ensures { result ≡ is_final version.now }
+{
+    version.pre().is_none()
+        && version.post().is_none()
+        && version.dev().is_none()
+        && version.label().is_empty()
+}
+
+// `===` and the text behind it.
+fn demanded_clause(alloc: Global, text: &str) -> Result<Clause, ClauseFault>
+    ensures { TargetAnswers Op.Exact text.now result }
+{
+    if !is_clause_text(text.as_bytes()) {
+        return Err(ClauseFault::BadVersion);
+    }
+    Ok(Clause::of_form(ClauseForm::Demanded(text.to_ascii_lowercase(alloc)?)))
+}
+
+// The clause of an operator and the version that stands before `.*`.
+fn prefix_clause(operator: Op, version: Version) -> Result<Clause, ClauseFault>
+    requires { IsVersion version }
+    ensures { result ≡ prefix_answer operator (Ok version) }
+{
+    match operator {
+        _ if !is_final(&version) => Err(ClauseFault::StarNotAllowed),
+        Op::Equal => Ok(Clause::of_form(ClauseForm::MatchingPrefix(version))),
+        Op::NotEqual => Ok(Clause::of_form(ClauseForm::ExcludingPrefix(version))),
+        _ => Err(ClauseFault::StarNotAllowed),
+    }
+}
+
+// The clause of an operator and a version.
+fn version_clause(operator: Op, version: Version) -> Result<Clause, ClauseFault>
+    requires { IsVersion version }
+    ensures { result ≡ version_answer operator (Ok version) }
+{
+    let numbers = version.release().len();
+    let is_public = version.label().is_empty();
+    let form = match operator {
+        Op::Equal => ClauseForm::Matching(version),
+        Op::NotEqual => ClauseForm::Excluding(version),
+        Op::Exact => return Err(ClauseFault::BadVersion),
+        _ if !is_public => return Err(ClauseFault::LocalNotAllowed),
+        Op::AtMost => ClauseForm::AtMost(version),
+        Op::AtLeast => ClauseForm::AtLeast(version),
+        Op::Less => ClauseForm::LessThan(version),
+        Op::More => ClauseForm::GreaterThan(version),
+        Op::Compatible if numbers < 2 => return Err(ClauseFault::OneNumber),
+        Op::Compatible => ClauseForm::Compatible(version),
+    };
+    Ok(Clause::of_form(form))
+}
+
+// The clause of an operator and a text without white space at its ends.
+fn operand_clause(alloc: Global, operator: Op, text: &str) -> Result<Clause, ClauseFault>
+    ensures { TargetAnswers operator text.now result }
+{
+    if operator == Op::Exact {
+        return demanded_clause(alloc, text);
+    }
+    match text.strip_suffix(".*") {
+        Some(front) if ends_in_space(front) => Err(ClauseFault::BadVersion),
+        Some(front) => prefix_clause(operator, Version::read(alloc, front)?),
+        None => version_clause(operator, Version::read(alloc, text)?),
+    }
+}
+
+impl Clause {
+    ghost use Rattle.std.specs.Prelude.{◌≡◌, IfOk};
+    ghost use Rattle.specifiers.specs.Clause.{ClauseOf, ReadsClause};
+    ghost use Rattle.specifiers.specs.Valid.{IsValidClause};
+
+    /// The clause of an operator and the text behind it (PEP 440, "Version specifiers"). White
+    /// space at both ends of the text does not matter.
+    ///
+    /// Behind `==` and `!=` stands a version, which may have a local version label, or a release
+    /// with its epoch and `.*` ("Version matching", "Version exclusion"); behind the others a
+    /// version without a label ("Inclusive ordered comparison", "Exclusive ordered comparison"),
+    /// for `~=` with two release numbers or more ("Compatible release"); behind `===` one or more
+    /// letters, digits and bytes of `-_.*+!`, kept in lower case ("Arbitrary equality").
+    ///
+    /// Each refusal is the first check that fails: 12 `BadVersion` where no version stands before
+    /// `.*` or in the text, or the text of `===` is empty or has another byte; 16 `NumberTooLarge`
+    /// where it would be a version but for a number above 18446744073709551615; 13 `StarNotAllowed`
+    /// where `.*` stands behind more than a release, or with another operator than `==` and `!=`;
+    /// 14 `LocalNotAllowed` for a label with another operator; 15
+    /// `OneNumber` for `~=` with one release number; 17 `NoMemory` where a growth is refused.
+    pub fn of(alloc: Global, operator: Op, text: &str) -> Result<Clause, ClauseFault>
+        ensures clause { ClauseOf operator text.now result }
+        ensures valid { IfOk result (λ c. IsValidClause c) }
+    {
+        operand_clause(alloc, operator, trimmed(text))
+    }
+
+    /// The clause that a text writes: the longest operator that the text begins with, and what
+    /// stands behind it (PEP 440, "Version specifiers"). White space at both ends of the text, and
+    /// behind the operator, does not matter.
+    ///
+    /// A text that begins with no operator is refused with 11 `NoOperator`; else each refusal is
+    /// that of `Clause::of`.
+    pub fn read(alloc: Global, text: &str) -> Result<Clause, ClauseFault>
+        ensures clause { ReadsClause text.now result }
+        ensures valid { IfOk result (λ c. IsValidClause c) }
+    {
+        let text = trimmed(text);
+        let Some(operator) = Op::at_front(text.as_bytes()) else {
+            return Err(ClauseFault::NoOperator);
+        };
+        Clause::of(alloc, operator, &text[operator.text().len()..])
+    }
+}
