@@ -7,7 +7,7 @@ use Rattle.std.proofs.lemmas.List.{length-map, length-take-le, map-append}
 use Rattle.std.specs.Io.KnownBytes.{Consumes, IsAtEnd, Keeps}
 use Rattle.std.specs.List.{AllZip}
 use Rattle.std.specs.Prelude.{◌↔◌, IsErrOf, IsTrue}
-use Rattle.clap.specs.Words.{Text}
+use Rattle.command_line.specs.Plan.{Text}
 use Rattle.pep_table.proofs.EntryPlaces.{whole}
 use Rattle.pep_table.proofs.FirstFault.{next_mapped}
 use Rattle.faults.specs.declared.fault.Cause.{Cause}

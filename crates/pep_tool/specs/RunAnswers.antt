@@ -2,7 +2,7 @@
 use Rattle.std.specs.Prelude.{◌≡◌, ◌≢◌, ℕ, ◌≤◌, IsTrue, false, List, [], ◌∷◌, ◌++◌, Option, Some}
 use Rattle.std.specs.Prelude.{None, All, Ok, Err, codes, length}
 use Rattle.std.specs.Io.KnownBytes.{Consumes, IsAtEnd, Keeps}
-use Rattle.clap.specs.Words.{Text}
+use Rattle.command_line.specs.Plan.{Text}
 use Rattle.pep_marker.specs.Environment.{EnvironmentParts}
 use Rattle.pep_marker.specs.Name.{name_of}
 use Rattle.pep_marker.specs.declared.fault.MarkerFault.TheVariants as marker_fault
