@@ -1,11 +1,9 @@
 //! One table, whatever the order, the grouping and the repeats of what is merged.
 
-use crate::demands::CONFLICT;
-use crate::large::{many_demanded, many_demands};
-use crate::lists::{FLASK, inputs_of, machine, told};
+use crate::calls::{Part, inputs_of, machine};
 use pep_marker::Name;
 use pep_table::{Join, Table, TableFault, Verdict, join_all};
-use pep_tool::{gather, list_of};
+use pep_tool::{Kind, gather, list_of};
 use std::alloc::{AllocError, Global};
 use std::process::Abort;
 use std::test::Fail;
@@ -18,9 +16,9 @@ fn table(alloc: Global, list: &str) -> Result<Table, TableFault> {
     Table::of(alloc, requirements.as_slice(), &machine)
 }
 
-// The table that is gathered of lists on the machine.
-fn gathered(alloc: Global, lists: &[&[u8]]) -> Result<Table, TableFault> {
-    let (Ok(inputs), Ok(machine)) = (inputs_of(alloc, lists), machine(alloc)) else {
+// The table that is gathered of inputs on the machine.
+fn gathered(alloc: Global, parts: &[Part]) -> Result<Table, TableFault> {
+    let (Ok(inputs), Ok(machine)) = (inputs_of(alloc, parts), machine(alloc)) else {
         return Err(TableFault::NoMemory);
     };
     match gather(alloc, inputs.as_slice(), &machine) {
@@ -29,22 +27,35 @@ fn gathered(alloc: Global, lists: &[&[u8]]) -> Result<Table, TableFault> {
     }
 }
 
+// The tables of lists.
+fn tables(alloc: Global, lists: &[&str]) -> Result<Vec<Table>, TableFault> {
+    let mut tables = Vec::with_capacity(alloc, lists.len())?;
+    for list in lists {
+        tables.push(table(alloc, list)?)?;
+    }
+    Ok(tables)
+}
+
+const FLASK: &str = "flask open\n  range before 2 to before 3.dev0\n";
+
+const LOW: Part = (Kind::List, "flask>=2.0");
+
+const HIGH: Part = (Kind::List, "Flask<3");
+
 #[test]
 fn one_table(rt: HostRuntime) -> Result<(), Fail> {
     let alloc = rt.alloc();
     let whole = table(alloc, "Flask<3\nflask>=2.0\nflask>=2.0")?;
     assert_eq!(rt; whole.text(alloc)?.as_str(), FLASK);
-    let tables = [
-        table(alloc, "Flask<3")?,
-        table(alloc, "flask>=2.0")?,
-        table(alloc, "flask>=2.0")?,
-    ];
-    let joined = join_all(alloc, Table::empty(alloc), tables.iter())?;
-    assert!(rt; joined == whole);
-    let gathered = gathered(alloc, &[b"Flask<3", b"flask>=2.0", b"flask>=2.0"])?;
-    assert!(rt; gathered == whole);
+    let tables = tables(alloc, &[HIGH.1, LOW.1, LOW.1])?;
+    assert!(rt; join_all(alloc, Table::empty(alloc), tables.iter())? == whole);
+    assert!(rt; gathered(alloc, &[HIGH, LOW, LOW])? == whole);
     Ok(())
 }
+
+// The table of `a @ https://x.test/1` and `a @ https://x.test/2`.
+const CONFLICT: &str = "a conflict\n  url https://x.test/1\n  url https://x.test/2\n  \
+    range before 0.dev0 to end\n";
 
 // What is merged behind two URLs of `a`.
 const LATER: [&str; 7] = [
@@ -95,20 +106,6 @@ fn conflicts_stay_in_joins(rt: HostRuntime) -> Result<(), Fail> {
     Ok(())
 }
 
-#[test]
-fn conflicts_stay_in_merges(rt: HostRuntime) -> Result<(), Fail> {
-    let mut list = String::from_str(rt.alloc(), "a @ https://x.test/2\n")?;
-    list.push_str("a @ https://x.test/1\n")?;
-    for later in &LATER {
-        list.push_str(later)?;
-        list.push_str("\n")?;
-        let text = told(rt.alloc(), &[list.as_bytes()])?;
-        assert!(rt; text.as_str().starts_with("a conflict\n"), "behind {later}");
-    }
-    assert_eq!(rt; told(rt.alloc(), &[list.as_bytes()])?.as_str(), ALL);
-    Ok(())
-}
-
 // A line for each of 2,000 names, with this behind it.
 fn lines_of_names(alloc: Global, behind: &str) -> Result<String, AllocError> {
     let mut text = String::new(alloc);
@@ -130,6 +127,39 @@ fn tables_of_many_names(rt: HostRuntime) -> Result<(), Fail> {
     let copy = joined.copied(alloc)?;
     assert!(rt; copy == joined && copy != low);
     Ok(())
+}
+
+// Appends the numbers 10,000 to 14,999, each in a line of its own, between these texts.
+fn push_lines(alloc: Global, text: &mut String, front: &str, back: &str) -> Result<(), AllocError> {
+    for i in 10_000..15_000 {
+        let line = format!(in alloc; "{front}{i}{back}\n")?;
+        text.push_str(line.as_str())?;
+    }
+    Ok(())
+}
+
+// Extras, URLs and texts, 5,000 each, on one name.
+fn many_demands(alloc: Global) -> Result<String, AllocError> {
+    let mut list = String::new(alloc);
+    push_lines(alloc, &mut list, "a===1.", "")?;
+    push_lines(
+        alloc,
+        &mut list,
+        "a @ https://x.test/",
+        " ; os_name == 'posix'",
+    )?;
+    push_lines(alloc, &mut list, "a[x", "]")?;
+    Ok(list)
+}
+
+// Their table.
+fn many_demanded(alloc: Global) -> Result<String, AllocError> {
+    let mut text = String::from_str(alloc, "a conflict\n")?;
+    push_lines(alloc, &mut text, "  extra x", "")?;
+    push_lines(alloc, &mut text, "  url https://x.test/", "")?;
+    push_lines(alloc, &mut text, "  text 1.", "")?;
+    text.push_str("  range before 0.dev0 to end\n")?;
+    Ok(text)
 }
 
 #[test]

@@ -1,14 +1,17 @@
 //! The program over readers and writers that fail at a call, that give bytes without end, or that
 //! take none.
 
-use crate::lists::FLASK;
-use pep_tool::{Bytes, Counted, Failed, Sink, Source, run, write_text};
+use crate::plans::owned;
+use pep_tool::{Bytes, Counted, Failed, Fault, Sink, Source, run, write_text};
 use std::alloc::Global;
 use std::io;
 use std::io::Write;
 use std::test::Fail;
 
 const LIST: &[u8] = b"flask>=2.0\nFlask<3\n";
+
+// Its table.
+const FLASK: &str = "flask open\n  range before 2 to before 3.dev0\n";
 
 // How many bytes a call moves at most.
 const PIECE: usize = 7;
@@ -185,108 +188,192 @@ impl Write for Full {
     }
 }
 
-// The first bytes of the text, or all of them.
-fn front(text: &str, count: u64) -> &[u8] {
-    let bytes = text.as_bytes();
-    if count < bytes.len() as u64 {
-        &bytes[..count as usize]
-    } else {
-        bytes
-    }
+// The words and the list of a run, the numbers of the calls of its reader and its two writers that
+// fail, and what the run is.
+type Row<'a> = (&'a [&'a str], &'a [u8], [u64; 3], &'a str);
+
+// What stands behind the calls of a device that failed.
+fn mark(failed: bool) -> &'static str {
+    if failed { "!" } else { "" }
 }
+
+// The bytes as a text, where they are one.
+fn text(bytes: &[u8]) -> &str {
+    str::from_utf8(bytes).unwrap_or("?")
+}
+
+// A run: its status, the calls of its reader and of the writer of its output, what is printed and what
+// is told.
+fn run_line(
+    rt: &HostRuntime,
+    words: &[&str],
+    list: &[u8],
+    fails_at: [u64; 3],
+) -> Result<String, Fault> {
+    let words = owned(rt.alloc(), words)?;
+    let mut input = Reader::new(list, fails_at[0]);
+    let mut output = Writer::new(rt.alloc(), fails_at[1]);
+    let mut faults = Writer::new(rt.alloc(), fails_at[2]);
+    let status = run(rt, words.as_slice(), &mut input, &mut output, &mut faults);
+    let (reads, writes) = (input.calls(), output.calls());
+    let (read, written) = (mark(input.failed()), mark(output.failed()));
+    let (printed, told) = (text(output.bytes.as_slice()), text(faults.bytes.as_slice()));
+    Ok(format!(in rt.alloc(); "{status} {reads}{read} {writes}{written} [{printed}] [{told}]")?)
+}
+
+const READS: [Row; 7] = [
+    // The list comes in three pieces, and the fourth call finds its end.
+    (
+        &[],
+        LIST,
+        [1, NEVER, NEVER],
+        "2 1! 0 [] [refused input 1 code 58\n]",
+    ),
+    (
+        &[],
+        LIST,
+        [2, NEVER, NEVER],
+        "2 2! 0 [] [refused input 1 code 58\n]",
+    ),
+    (
+        &[],
+        LIST,
+        [3, NEVER, NEVER],
+        "2 3! 0 [] [refused input 1 code 58\n]",
+    ),
+    (
+        &[],
+        LIST,
+        [4, NEVER, NEVER],
+        "2 4! 0 [] [refused input 1 code 58\n]",
+    ),
+    (
+        &[],
+        LIST,
+        [5, NEVER, NEVER],
+        "0 4 7 [flask open\n  range before 2 to before 3.dev0\n] []",
+    ),
+    // The first line is faulty, and the read behind it fails.
+    (
+        &[],
+        b"-e .\na>=1\n",
+        [2, NEVER, NEVER],
+        "2 2! 0 [] [refused input 1 code 58\n]",
+    ),
+    (
+        &[],
+        b"a>=",
+        [NEVER, NEVER, NEVER],
+        "2 2 0 [] [refused input 1 line 1 code 57 33 12\n]",
+    ),
+];
 
 #[test]
 fn reads_that_fail(rt: HostRuntime) -> Result<(), Fail> {
-    // The list comes in three pieces, and the fourth call finds its end.
-    for fails_at in 1..6u64 {
-        let mut input = Reader::new(LIST, fails_at);
-        let mut output = Writer::new(rt.alloc(), NEVER);
-        let mut faults = Writer::new(rt.alloc(), NEVER);
-        let status = run(&rt, &[], &mut input, &mut output, &mut faults);
-        let (want, text, line) = if fails_at < 5 {
-            (2, "", "refused input 1 code 58\n")
-        } else {
-            (0, FLASK, "")
-        };
-        assert_eq!(rt; status, want, "at {fails_at}");
-        assert_eq!(rt; output.bytes.as_slice(), text.as_bytes(), "at {fails_at}");
-        assert_eq!(rt; faults.bytes.as_slice(), line.as_bytes(), "at {fails_at}");
-        assert_eq!(rt; input.calls(), fails_at.min(4));
-        assert_eq!(rt; input.failed(), fails_at < 5);
+    for &(words, list, fails_at, want) in &READS {
+        let found = run_line(&rt, words, list, fails_at)?;
+        assert_eq!(rt; found.as_str(), want);
     }
     Ok(())
 }
 
-#[test]
-fn reads_that_fail_before_a_fault(rt: HostRuntime) -> Result<(), Fail> {
-    // The first line is faulty, and the read behind it fails.
-    let mut input = Reader::new(b"-e .\na>=1\n", 2);
-    let mut output = Writer::new(rt.alloc(), NEVER);
-    let mut faults = Writer::new(rt.alloc(), NEVER);
-    assert_eq!(rt; run(&rt, &[], &mut input, &mut output, &mut faults), 2);
-    assert_eq!(rt;
-        faults.bytes.as_slice(),
-        b"refused input 1 code 58\n".as_slice()
-    );
-    Ok(())
-}
-
-#[test]
-fn a_list_in_many_pieces(rt: HostRuntime) -> Result<(), Fail> {
-    // A clause goes over the 65,536th byte, and the list is faulty wherever it ends before its end.
-    let mut list = Vec::new(rt.alloc());
-    for _ in 0..65_530 {
-        list.push(b'\n')?;
-    }
-    list.extend_from_slice(LIST)?;
-    let mut input = Bytes::new(list.as_slice());
-    let mut output = Writer::new(rt.alloc(), NEVER);
-    let mut faults = Writer::new(rt.alloc(), NEVER);
-    assert_eq!(rt; run(&rt, &[], &mut input, &mut output, &mut faults), 0);
-    assert_eq!(rt; output.bytes.as_slice(), FLASK.as_bytes());
-    Ok(())
-}
+// The table goes in seven pieces.
+const WRITES: [Row; 8] = [
+    (
+        &[],
+        LIST,
+        [NEVER, 1, NEVER],
+        "2 4 1! [] [refused code 63\n]",
+    ),
+    (
+        &[],
+        LIST,
+        [NEVER, 2, NEVER],
+        "2 4 2! [flask o] [refused code 63\n]",
+    ),
+    (
+        &[],
+        LIST,
+        [NEVER, 3, NEVER],
+        "2 4 3! [flask open\n  r] [refused code 63\n]",
+    ),
+    (
+        &[],
+        LIST,
+        [NEVER, 4, NEVER],
+        "2 4 4! [flask open\n  range be] [refused code 63\n]",
+    ),
+    (
+        &[],
+        LIST,
+        [NEVER, 5, NEVER],
+        "2 4 5! [flask open\n  range before 2 ] [refused code 63\n]",
+    ),
+    (
+        &[],
+        LIST,
+        [NEVER, 6, NEVER],
+        "2 4 6! [flask open\n  range before 2 to befo] [refused code 63\n]",
+    ),
+    (
+        &[],
+        LIST,
+        [NEVER, 7, NEVER],
+        "2 4 7! [flask open\n  range before 2 to before 3.de] [refused code 63\n]",
+    ),
+    (
+        &[],
+        LIST,
+        [NEVER, 8, NEVER],
+        "0 4 7 [flask open\n  range before 2 to before 3.dev0\n] []",
+    ),
+];
 
 #[test]
 fn writes_that_fail(rt: HostRuntime) -> Result<(), Fail> {
-    // The table goes in seven pieces.
-    for fails_at in 1..9u64 {
-        let mut output = Writer::new(rt.alloc(), fails_at);
-        let mut faults = Writer::new(rt.alloc(), NEVER);
-        let status = run(&rt, &[], &mut Bytes::new(LIST), &mut output, &mut faults);
-        let (want, line) = if fails_at < 8 {
-            (2, "refused code 63\n")
-        } else {
-            (0, "")
-        };
-        assert_eq!(rt; status, want, "at {fails_at}");
-        assert_eq!(rt;
-            output.bytes.as_slice(),
-            front(FLASK, (fails_at - 1) * 7),
-            "at {fails_at}"
-        );
-        assert_eq!(rt; faults.bytes.as_slice(), line.as_bytes(), "at {fails_at}");
-        assert_eq!(rt; output.calls(), fails_at.min(7));
-        assert_eq!(rt; output.failed(), fails_at < 8);
+    for &(words, list, fails_at, want) in &WRITES {
+        let found = run_line(&rt, words, list, fails_at)?;
+        assert_eq!(rt; found.as_str(), want);
     }
     Ok(())
 }
 
+// The line goes in three pieces, and the text of clap behind it.
+const TELLS: [Row; 7] = [
+    (&["table"], LIST, [1, NEVER, 1], "2 0 0 [] []"),
+    (&["table"], LIST, [1, NEVER, 2], "2 0 0 [] [refused]"),
+    (&["table"], LIST, [1, NEVER, 3], "2 0 0 [] [refused code 6]"),
+    (
+        &["table"],
+        LIST,
+        [1, NEVER, 4],
+        "2 0 0 [] [refused code 61\nerror]",
+    ),
+    (
+        &["table"],
+        LIST,
+        [1, NEVER, 5],
+        "2 0 0 [] [refused code 61\nerror: unrec]",
+    ),
+    (
+        &["table"],
+        LIST,
+        [1, NEVER, 6],
+        "2 0 0 [] [refused code 61\nerror: unrecognized]",
+    ),
+    (
+        &["table"],
+        LIST,
+        [1, NEVER, 7],
+        "2 0 0 [] [refused code 61\nerror: unrecognized subcom]",
+    ),
+];
+
 #[test]
 fn faults_that_cannot_be_told(rt: HostRuntime) -> Result<(), Fail> {
-    let words = [String::from_str(rt.alloc(), "table")?];
-    let told = "refused code 61\nerror: unrecognized subcommand 'table'\n";
-    // The line goes in three pieces, and the text of clap behind it.
-    for fails_at in 1..8u64 {
-        let mut input = Reader::new(LIST, 1);
-        let mut output = Writer::new(rt.alloc(), NEVER);
-        let mut faults = Writer::new(rt.alloc(), fails_at);
-        let status = run(&rt, &words, &mut input, &mut output, &mut faults);
-        assert_eq!(rt; status, 2, "at {fails_at}");
-        assert_eq!(rt; input.calls(), 0, "at {fails_at}");
-        assert_eq!(rt; output.calls(), 0, "at {fails_at}");
-        let line = front(told, (fails_at - 1) * 7);
-        assert_eq!(rt; faults.bytes.as_slice(), line, "at {fails_at}");
+    for &(words, list, fails_at, want) in &TELLS {
+        let found = run_line(&rt, words, list, fails_at)?;
+        assert_eq!(rt; found.as_str(), want);
     }
     Ok(())
 }
@@ -306,22 +393,6 @@ fn a_reader_without_end(rt: HostRuntime) -> Result<(), Fail> {
 }
 
 #[test]
-fn refusals_of_the_list(rt: HostRuntime) -> Result<(), Fail> {
-    let mut output = Writer::new(rt.alloc(), NEVER);
-    let mut faults = Writer::new(rt.alloc(), NEVER);
-    assert_eq!(rt;
-        run(&rt, &[], &mut Bytes::new(b"a>="), &mut output, &mut faults),
-        2
-    );
-    assert_eq!(rt;
-        faults.bytes.as_slice(),
-        b"refused input 1 line 1 code 57 33 12\n".as_slice()
-    );
-    assert_eq!(rt; output.calls(), 0);
-    Ok(())
-}
-
-#[test]
 fn devices_over_std(rt: HostRuntime) -> Result<(), Fail> {
     let mut printed = Vec::new(rt.alloc());
     let mut told = Vec::new(rt.alloc());
@@ -334,7 +405,7 @@ fn devices_over_std(rt: HostRuntime) -> Result<(), Fail> {
         &mut Counted::new(&mut told),
     );
     assert_eq!(rt; status, 0);
-    assert_eq!(rt; printed.as_slice(), FLASK.as_bytes());
+    assert_eq!(rt; text(printed.as_slice()), FLASK);
     assert_eq!(rt; told.as_slice(), b"".as_slice());
     assert_eq!(rt; input.calls(), 2);
     assert!(rt; !input.failed());
