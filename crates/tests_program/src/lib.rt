@@ -7,6 +7,8 @@ mod calls;
 #[cfg(test)]
 mod environments;
 #[cfg(test)]
+mod example;
+#[cfg(test)]
 mod faults;
 #[cfg(test)]
 mod folders;
