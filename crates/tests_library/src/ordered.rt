@@ -1,0 +1,31 @@
+//! Versions in their order, for several tables.
+
+/// Versions, each below the next (PEP 440, "Summary of permitted suffixes and relative ordering").
+pub(crate) const ORDERED: [&str; 26] = [
+    "0.dev0",
+    "0a0.dev0",
+    "0",
+    "0.0.1.dev0",
+    "1.0.dev1",
+    "1.0.dev2",
+    "1.0a1.dev1",
+    "1.0a1",
+    "1.0a1.post0.dev0",
+    "1.0a1.post0",
+    "1.0a2",
+    "1.0b1",
+    "1.0rc1",
+    "1.0",
+    "1.0+00a",
+    "1.0+0a",
+    "1.0+abc.5",
+    "1.0+abc.10",
+    "1.0+9",
+    "1.0+10",
+    "1.0+10.a",
+    "1.0.post1.dev3",
+    "1.0.post1",
+    "1.0.1",
+    "1.1.dev0",
+    "1!0.dev0",
+];

@@ -1,0 +1,165 @@
+//! Environment files: what the variables are read as, and which is told to be missing.
+
+use pep_tool::{Fault, environment_of};
+use std::alloc::{AllocError, Global};
+use std::test::Fail;
+
+/// CPython 3.9.18 on Linux and x86-64.
+pub(crate) const MACHINE: [(&str, &str); 11] = [
+    ("os_name", "posix"),
+    ("sys_platform", "linux"),
+    ("platform_machine", "x86_64"),
+    ("platform_python_implementation", "CPython"),
+    ("platform_release", "6.1.0-18-amd64"),
+    ("platform_system", "Linux"),
+    ("platform_version", "#1 SMP"),
+    ("python_version", "3.9"),
+    ("python_full_version", "3.9.18"),
+    ("implementation_name", "cpython"),
+    ("implementation_version", "3.9.18"),
+];
+
+// What a variable is read as, or what the file is refused for.
+fn value_line(alloc: Global, file: &str, variable: &str) -> Result<String, Fault> {
+    Ok(match environment_of(alloc, file.as_bytes()) {
+        Ok(environment) => match environment.value(variable) {
+            Some(text) => format!(in alloc; "= {text}")?,
+            None => String::from_str(alloc, "none")?,
+        },
+        Err(fault) => format!(in alloc; "{fault}")?,
+    })
+}
+
+// The environment of the machine.
+const FILE: &str = r##"os_name = "posix"
+sys_platform = "linux"
+platform_machine = "x86_64"
+platform_python_implementation = "CPython"
+platform_release = "6.1.0-18-amd64"
+platform_system = "Linux"
+platform_version = "#1 SMP"
+python_version = "3.9"
+python_full_version = "3.9.18"
+implementation_name = "cpython"
+implementation_version = "3.9.18"
+"##;
+
+// Variables, and names that no variable has.
+const VALUES: [(&str, &str); 19] = [
+    ("os_name", "= posix"),
+    ("sys_platform", "= linux"),
+    ("platform_machine", "= x86_64"),
+    ("platform_python_implementation", "= CPython"),
+    ("platform_release", "= 6.1.0-18-amd64"),
+    ("platform_system", "= Linux"),
+    ("platform_version", "= #1 SMP"),
+    ("python_version", "= 3.9"),
+    ("python_full_version", "= 3.9.18"),
+    ("implementation_name", "= cpython"),
+    ("implementation_version", "= 3.9.18"),
+    ("extra", "= "),
+    ("", "none"),
+    ("os.name", "none"),
+    ("OS_NAME", "none"),
+    ("python_implementation", "none"),
+    ("extras", "none"),
+    ("dependency_groups", "none"),
+    ("os_name ", "none"),
+];
+
+#[test]
+fn values(rt: HostRuntime) -> Result<(), Fail> {
+    for &(variable, want) in &VALUES {
+        let found = value_line(rt.alloc(), FILE, variable)?;
+        assert_eq!(rt; found.as_str(), want, "of {variable}");
+    }
+    Ok(())
+}
+
+// A text, and behind it the variables of the machine but this one.
+fn file(alloc: Global, text: &str, left_out: &str) -> Result<String, AllocError> {
+    let mut file = String::from_str(alloc, text)?;
+    for &(variable, value) in &MACHINE {
+        if variable != left_out {
+            let line = format!(in alloc; "\n{variable} = '{value}'")?;
+            file.push_str(line.as_str())?;
+        }
+    }
+    Ok(file)
+}
+
+// The front of a file, a variable that stands nowhere else, and what it is read as.
+const FORMS: [(&str, &str, &str); 16] = [
+    ("extra = \"dev-tools\"", "extra", "= dev-tools"),
+    ("extra = 'Dev_Tools'", "extra", "= Dev_Tools"),
+    ("extra = ' a b '", "extra", "=  a b "),
+    ("extra = ''", "extra", "= "),
+    ("\u{feff}# x\nextra = 'x'", "extra", "= x"),
+    ("os_name = 'nt'", "os_name", "= nt"),
+    ("os_name = ''", "os_name", "= "),
+    ("\"os_name\" = 'n\"t'", "os_name", "= n\"t"),
+    ("'os_name' = \"n't\\\\\"", "os_name", "= n't\\"),
+    ("\"\\u006fs_name\" = \"n\\u0074\"", "os_name", "= nt"),
+    ("os_name = '''\nnt'''", "os_name", "= nt"),
+    ("os_name = \"\"\"\r\nn\\\r\n  t\"\"\"", "os_name", "= nt"),
+    (
+        "# x\r\n\r\n\t python_version\t= '3.10' # y\r",
+        "python_version",
+        "= 3.10",
+    ),
+    (
+        "platform_version = '#1 SMP; \"x\"'",
+        "platform_version",
+        "= #1 SMP; \"x\"",
+    ),
+    // Of the characters that aren't printed, U+0000 to U+001F and U+007F alone are refused.
+    (
+        "platform_release = \" ~\\u0080\u{e9}\\U0001F600\"",
+        "platform_release",
+        "=  ~\u{80}\u{e9}\u{1f600}",
+    ),
+    ("implementation_name = 'x'", "implementation_name", "= x"),
+];
+
+#[test]
+fn forms(rt: HostRuntime) -> Result<(), Fail> {
+    for &(text, variable, want) in &FORMS {
+        let file = file(rt.alloc(), text, variable)?;
+        let found = value_line(rt.alloc(), file.as_str(), variable)?;
+        assert_eq!(rt; found.as_str(), want, "of {text}");
+    }
+    Ok(())
+}
+
+// What is told of a missing variable, before its name and behind it.
+const FRONT: &str = "environment: a faulty environment: the variable `";
+
+const BACK: &str = "` is missing";
+
+#[test]
+fn missing_variables(rt: HostRuntime) -> Result<(), Fail> {
+    for &(variable, _) in &MACHINE {
+        let file = file(rt.alloc(), "extra = ''", variable)?;
+        let found = value_line(rt.alloc(), file.as_str(), variable)?;
+        let want = format!(in rt.alloc(); "{FRONT}{variable}{BACK}")?;
+        assert_eq!(rt; found.as_str(), want.as_str());
+    }
+    Ok(())
+}
+
+// Files, and the first missing variable in the order of the variables.
+const FIRST_MISSING: [(&str, &str); 3] = [
+    ("", "os_name"),
+    ("os_name = ''\npython_version = ''", "sys_platform"),
+    ("implementation_version = ''\nextra = ''", "os_name"),
+];
+
+#[test]
+fn first_missing_variables(rt: HostRuntime) -> Result<(), Fail> {
+    for &(file, variable) in &FIRST_MISSING {
+        let found = value_line(rt.alloc(), file, "")?;
+        let want = format!(in rt.alloc(); "{FRONT}{variable}{BACK}")?;
+        assert_eq!(rt; found.as_str(), want.as_str(), "in {file}");
+    }
+    Ok(())
+}

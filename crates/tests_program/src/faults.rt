@@ -1,0 +1,191 @@
+//! Codes of the faults of a run, and their texts.
+
+use pep_clause::ClauseFault;
+use pep_marker::MarkerFault;
+use pep_require::RequireFault;
+use pep_tool::{ArgumentFault, Cause, Failed, Fault, LineFault, OpenFault, Place};
+use pep_version::VersionFault;
+use std::alloc::{AllocError, Global};
+use std::fmt::Display;
+use std::test::Fail;
+
+// A fault of a line: its code, the code inside it and its text.
+fn line_fault_line(alloc: Global, fault: LineFault) -> Result<String, AllocError> {
+    let code = fault.code();
+    match fault.inner_code() {
+        Some(inner) => format!(in alloc; "{code} {inner} {fault}"),
+        None => format!(in alloc; "{code} {fault}"),
+    }
+}
+
+// Faults of requirements, and what they are told as in a line.
+const OF_REQUIREMENTS: [(RequireFault, &str); 10] = [
+    (RequireFault::BadName, "31 not a name"),
+    (RequireFault::BadExtras, "32 not a list of extras"),
+    (
+        RequireFault::BadClause(ClauseFault::OneNumber),
+        "33 15 a faulty clause: `~=` wants two release numbers or more",
+    ),
+    (RequireFault::BadUrl, "34 not a URL"),
+    (
+        RequireFault::BadMarker(MarkerFault::TooDeep),
+        "35 27 a faulty marker: a marker that is too deep or too long",
+    ),
+    (RequireFault::Trailing, "36 something else follows"),
+    (RequireFault::OptionLine, "37 an option"),
+    (RequireFault::LineTooLong, "38 a line that is too long"),
+    (RequireFault::UrlOverflow, "39 a URL that is too long"),
+    (RequireFault::NoMemory, "40 out of memory"),
+];
+
+// The other faults of lines.
+const OF_LINES: [(LineFault, &str); 3] = [
+    (LineFault::NotUtf8, "51 not UTF-8"),
+    (
+        LineFault::Undefined,
+        "28 a marker is undefined in the environment",
+    ),
+    (LineFault::BadTable, "41 not a line that a table has there"),
+];
+
+#[test]
+fn faults_of_lines(rt: HostRuntime) -> Result<(), Fail> {
+    for &(fault, want) in &OF_REQUIREMENTS {
+        let found = line_fault_line(rt.alloc(), LineFault::from(fault))?;
+        assert_eq!(rt; found.as_str(), want);
+    }
+    for &(fault, want) in &OF_LINES {
+        let found = line_fault_line(rt.alloc(), fault)?;
+        assert_eq!(rt; found.as_str(), want);
+    }
+    Ok(())
+}
+
+// A cause: its code and its text.
+fn cause_line(alloc: Global, cause: &Cause) -> Result<String, AllocError> {
+    format!(in alloc; "{} {cause}", cause.code())
+}
+
+#[test]
+fn causes(rt: HostRuntime) -> Result<(), Fail> {
+    for (cause, want) in &[
+        (Cause::NotUtf8, "51 not UTF-8"),
+        (Cause::NotToml, "52 not a TOML document"),
+        (Cause::NoProject, "53 no `project`"),
+        (Cause::Dynamic, "54 dynamic dependencies"),
+        (Cause::WrongShape, "55 a value of the wrong shape"),
+        (Cause::TooLarge, "56 more than 16,777,216 bytes"),
+        (Cause::ReadFault, "58 a read failed"),
+        (
+            Cause::BadEnvironment(MarkerFault::BadValue),
+            "59 a faulty environment: a value with a control character",
+        ),
+        (Cause::NoMemory, "60 out of memory"),
+        (
+            Cause::BadArgument(ArgumentFault::Name(MarkerFault::BadName)),
+            "62 a faulty argument: not a name",
+        ),
+        (
+            Cause::BadArgument(ArgumentFault::Version(VersionFault::NotAVersion)),
+            "62 a faulty argument: not a version",
+        ),
+        (Cause::WriteFault, "63 a write failed"),
+        (Cause::NoRequirements, "64 a table has no requirements"),
+        (Cause::Line(1, LineFault::NotUtf8), "57 line 1: not UTF-8"),
+    ] {
+        let found = cause_line(rt.alloc(), cause)?;
+        assert_eq!(rt; found.as_str(), *want);
+    }
+    Ok(())
+}
+
+// A fault: the line that tells it to a program, and behind it what people are told.
+fn fault_line(alloc: Global, fault: &Fault) -> Result<String, Fault> {
+    let line = fault.text(alloc)?;
+    Ok(format!(in alloc; "{line}{fault}")?)
+}
+
+#[test]
+fn faults(rt: HostRuntime) -> Result<(), Fail> {
+    let line = LineFault::from(RequireFault::BadClause(ClauseFault::BadVersion));
+    let last = Place::Input(18446744073709551615);
+    for (fault, want) in &[
+        (
+            Fault {
+                place: Place::Input(2),
+                cause: Cause::Line(7, line),
+            },
+            "refused input 2 line 7 code 57 33 12\ninput 2: line 7: a faulty clause: not a version",
+        ),
+        (
+            Fault {
+                place: Place::Environment,
+                cause: Cause::NotToml,
+            },
+            "refused environment code 52\nenvironment: not a TOML document",
+        ),
+        (
+            Fault {
+                place: last,
+                cause: Cause::TooLarge,
+            },
+            "refused input 18446744073709551615 code 56\n\
+             input 18446744073709551615: more than 16,777,216 bytes",
+        ),
+        (
+            Fault {
+                place: Place::Nowhere,
+                cause: Cause::NoMemory,
+            },
+            "refused code 60\nout of memory",
+        ),
+        (
+            Fault::from(VersionFault::NotAVersion),
+            "refused code 62 1\na faulty argument: not a version",
+        ),
+        (
+            Fault::from(VersionFault::NumberTooLarge),
+            "refused code 62 2\na faulty argument: a number of the version is too large",
+        ),
+        (
+            Fault::from(VersionFault::NoMemory),
+            "refused code 60\nout of memory",
+        ),
+    ] {
+        let found = fault_line(rt.alloc(), fault)?;
+        assert_eq!(rt; found.as_str(), *want);
+    }
+    Ok(())
+}
+
+#[test]
+fn bad_words(rt: HostRuntime) -> Result<(), Fail> {
+    let words = String::from_str(rt.alloc(), "no such word\n")?;
+    let fault = Fault {
+        place: Place::Nowhere,
+        cause: Cause::BadWords(words),
+    };
+    assert_eq!(rt; fault.cause.code(), 61);
+    let line = fault.text(rt.alloc())?;
+    assert_eq!(rt; line.as_str(), "refused code 61\nno such word\n");
+    Ok(())
+}
+
+// What is told of a fault that is no more than its text.
+fn text_line(alloc: Global, fault: &impl Display) -> Result<String, AllocError> {
+    format!(in alloc; "{fault}")
+}
+
+#[test]
+fn faults_of_devices(rt: HostRuntime) -> Result<(), Fail> {
+    let failed = text_line(rt.alloc(), &Failed)?;
+    assert_eq!(rt; failed.as_str(), "a read or a write failed");
+    for &(fault, want) in &[
+        (OpenFault::CannotOpen, "a file can't be opened"),
+        (OpenFault::NoMemory, "out of memory"),
+    ] {
+        let found = text_line(rt.alloc(), &fault)?;
+        assert_eq!(rt; found.as_str(), want);
+    }
+    Ok(())
+}

@@ -1,0 +1,443 @@
+//! The program over readers and writers that fail at a call, that give bytes without end, or that
+//! take none.
+
+use crate::plans::owned;
+use pep_tool::{Bytes, Counted, Failed, Fault, Sink, Source, run, write_text};
+use std::alloc::Global;
+use std::io;
+use std::io::Write;
+use std::test::Fail;
+
+const LIST: &[u8] = b"flask>=2.0\nFlask<3\n";
+
+// Its table.
+const FLASK: &str = "flask open\n  range before 2 to before 3.dev0\n";
+
+// How many bytes a call moves at most.
+const PIECE: usize = 7;
+
+// A call with a number that no run reaches.
+pub(crate) const NEVER: u64 = u64::MAX;
+
+// A reader with a name that gives a few bytes at a time, and whose call of this number fails.
+#[derive(Drop)]
+pub(crate) struct Reader<'a> {
+    name: &'a str,
+    rest: &'a [u8],
+    calls: u64,
+    failed: bool,
+    fails_at: u64,
+}
+
+impl<'a> Reader<'a> {
+    ghost use Rattle.std.specs.Prelude.{◌≡◌, false};
+
+    fn new(rest: &'a [u8], fails_at: u64) -> Self
+        ensures calls { result.calls ≡ 0 }
+        ensures failed { result.failed ≡ false }
+    {
+        Reader::named("", rest, fails_at)
+    }
+
+    pub(crate) fn named(name: &'a str, rest: &'a [u8], fails_at: u64) -> Self
+        ensures name { result.name.now ≡ name.now }
+        ensures calls { result.calls ≡ 0 }
+        ensures failed { result.failed ≡ false }
+    {
+        Reader {
+            name,
+            rest,
+            calls: 0,
+            failed: false,
+            fails_at,
+        }
+    }
+}
+
+impl Source for Reader<'_> {
+    ghost use Rattle.std.specs.Prelude.{Some};
+
+    ghost device = { λ s. record {
+      calls = s.calls;
+      failed = s.failed;
+      identity = Some s.name.now;
+    } };
+
+    fn pull(&mut self, buf: &mut [u8]) -> Result<usize, Failed> {
+        self.calls += 1;
+        if self.calls == self.fails_at {
+            self.failed = true;
+            return Err(Failed);
+        }
+        let count = self.rest.len().min(buf.len()).min(PIECE);
+        let (front, rest) = self.rest.split_at(count);
+        buf[..count].copy_from_slice(front);
+        self.rest = rest;
+        Ok(count)
+    }
+
+    fn calls(&self) -> u64 {
+        self.calls
+    }
+
+    fn failed(&self) -> bool {
+        self.failed
+    }
+}
+
+// A reader that never ends, and counts the bytes that it gave.
+#[derive(Drop)]
+struct Endless {
+    given: u64,
+    calls: u64,
+}
+
+impl Endless {
+    ghost use Rattle.std.specs.Prelude.{◌≡◌};
+
+    fn new() -> Self
+        ensures { result.calls ≡ 0 }
+    {
+        Endless { given: 0, calls: 0 }
+    }
+}
+
+impl Source for Endless {
+    ghost use Rattle.std.specs.Prelude.{None, false};
+
+    ghost device = { λ s. record { calls = s.calls; failed = false; identity = None } };
+
+    fn pull(&mut self, buf: &mut [u8]) -> Result<usize, Failed> {
+        self.calls += 1;
+        for byte in buf.iter_mut() {
+            *byte = b'\n';
+        }
+        self.given = self.given.saturating_add(buf.len() as u64);
+        Ok(buf.len())
+    }
+
+    fn calls(&self) -> u64 {
+        self.calls
+    }
+
+    fn failed(&self) -> bool {
+        false
+    }
+}
+
+// A writer that takes a few bytes at a time, and whose call of this number fails.
+#[derive(Drop)]
+struct Writer {
+    bytes: Vec<u8>,
+    calls: u64,
+    failed: bool,
+    fails_at: u64,
+}
+
+impl Writer {
+    ghost use Rattle.std.specs.Prelude.{◌≡◌, false};
+
+    fn new(alloc: Global, fails_at: u64) -> Self
+        ensures calls { result.calls ≡ 0 }
+        ensures failed { result.failed ≡ false }
+    {
+        Writer {
+            bytes: Vec::new(alloc),
+            calls: 0,
+            failed: false,
+            fails_at,
+        }
+    }
+}
+
+impl Sink for Writer {
+    ghost use Rattle.std.specs.Prelude.{None};
+
+    ghost device = { λ s. record { calls = s.calls; failed = s.failed; identity = None } };
+
+    fn push(&mut self, buf: &[u8]) -> Result<usize, Failed> {
+        self.calls += 1;
+        let count = buf.len().min(PIECE);
+        if self.calls == self.fails_at || self.bytes.extend_from_slice(&buf[..count]).is_err() {
+            self.failed = true;
+            return Err(Failed);
+        }
+        Ok(count)
+    }
+
+    fn calls(&self) -> u64 {
+        self.calls
+    }
+
+    fn failed(&self) -> bool {
+        self.failed
+    }
+}
+
+// A writer of std that takes no byte.
+#[derive(Drop)]
+struct Full;
+
+impl Write for Full {
+    fn write(&mut self, _buf: &[u8]) -> io::Result<usize> {
+        Ok(0)
+    }
+
+    fn flush(&mut self) -> io::Result<()> {
+        Ok(())
+    }
+}
+
+// The words and the list of a run, the numbers of the calls of its reader and its two writers that
+// fail, and what the run is.
+type Row<'a> = (&'a [&'a str], &'a [u8], [u64; 3], &'a str);
+
+// What stands behind the calls of a device that failed.
+fn mark(failed: bool) -> &'static str {
+    if failed { "!" } else { "" }
+}
+
+// The bytes as a text, where they are one.
+fn text(bytes: &[u8]) -> &str {
+    str::from_utf8(bytes).unwrap_or("?")
+}
+
+// A run: its status, the calls of its reader and of the writer of its output, what is printed and what
+// is told.
+fn run_line(
+    rt: &HostRuntime,
+    words: &[&str],
+    list: &[u8],
+    fails_at: [u64; 3],
+) -> Result<String, Fault> {
+    let words = owned(rt.alloc(), words)?;
+    let mut input = Reader::new(list, fails_at[0]);
+    let mut output = Writer::new(rt.alloc(), fails_at[1]);
+    let mut faults = Writer::new(rt.alloc(), fails_at[2]);
+    let status = run(rt, words.as_slice(), &mut input, &mut output, &mut faults);
+    let (reads, writes) = (input.calls(), output.calls());
+    let (read, written) = (mark(input.failed()), mark(output.failed()));
+    let (printed, told) = (text(output.bytes.as_slice()), text(faults.bytes.as_slice()));
+    Ok(format!(in rt.alloc(); "{status} {reads}{read} {writes}{written} [{printed}] [{told}]")?)
+}
+
+const READS: [Row; 7] = [
+    // The list comes in three pieces, and the fourth call finds its end.
+    (
+        &[],
+        LIST,
+        [1, NEVER, NEVER],
+        "2 1! 0 [] [refused input 1 code 58\n]",
+    ),
+    (
+        &[],
+        LIST,
+        [2, NEVER, NEVER],
+        "2 2! 0 [] [refused input 1 code 58\n]",
+    ),
+    (
+        &[],
+        LIST,
+        [3, NEVER, NEVER],
+        "2 3! 0 [] [refused input 1 code 58\n]",
+    ),
+    (
+        &[],
+        LIST,
+        [4, NEVER, NEVER],
+        "2 4! 0 [] [refused input 1 code 58\n]",
+    ),
+    (
+        &[],
+        LIST,
+        [5, NEVER, NEVER],
+        "0 4 7 [flask open\n  range before 2 to before 3.dev0\n] []",
+    ),
+    // The first line is faulty, and the read behind it fails.
+    (
+        &[],
+        b"-e .\na>=1\n",
+        [2, NEVER, NEVER],
+        "2 2! 0 [] [refused input 1 code 58\n]",
+    ),
+    (
+        &[],
+        b"a>=",
+        [NEVER, NEVER, NEVER],
+        "2 2 0 [] [refused input 1 line 1 code 57 33 12\n]",
+    ),
+];
+
+#[test]
+fn reads_that_fail(rt: HostRuntime) -> Result<(), Fail> {
+    for &(words, list, fails_at, want) in &READS {
+        let found = run_line(&rt, words, list, fails_at)?;
+        assert_eq!(rt; found.as_str(), want);
+    }
+    Ok(())
+}
+
+// The table goes in seven pieces.
+const WRITES: [Row; 8] = [
+    (
+        &[],
+        LIST,
+        [NEVER, 1, NEVER],
+        "2 4 1! [] [refused code 63\n]",
+    ),
+    (
+        &[],
+        LIST,
+        [NEVER, 2, NEVER],
+        "2 4 2! [flask o] [refused code 63\n]",
+    ),
+    (
+        &[],
+        LIST,
+        [NEVER, 3, NEVER],
+        "2 4 3! [flask open\n  r] [refused code 63\n]",
+    ),
+    (
+        &[],
+        LIST,
+        [NEVER, 4, NEVER],
+        "2 4 4! [flask open\n  range be] [refused code 63\n]",
+    ),
+    (
+        &[],
+        LIST,
+        [NEVER, 5, NEVER],
+        "2 4 5! [flask open\n  range before 2 ] [refused code 63\n]",
+    ),
+    (
+        &[],
+        LIST,
+        [NEVER, 6, NEVER],
+        "2 4 6! [flask open\n  range before 2 to befo] [refused code 63\n]",
+    ),
+    (
+        &[],
+        LIST,
+        [NEVER, 7, NEVER],
+        "2 4 7! [flask open\n  range before 2 to before 3.de] [refused code 63\n]",
+    ),
+    (
+        &[],
+        LIST,
+        [NEVER, 8, NEVER],
+        "0 4 7 [flask open\n  range before 2 to before 3.dev0\n] []",
+    ),
+];
+
+#[test]
+fn writes_that_fail(rt: HostRuntime) -> Result<(), Fail> {
+    for &(words, list, fails_at, want) in &WRITES {
+        let found = run_line(&rt, words, list, fails_at)?;
+        assert_eq!(rt; found.as_str(), want);
+    }
+    Ok(())
+}
+
+// The line goes in three pieces, and the text of clap behind it.
+const TELLS: [Row; 7] = [
+    (&["table"], LIST, [1, NEVER, 1], "2 0 0 [] []"),
+    (&["table"], LIST, [1, NEVER, 2], "2 0 0 [] [refused]"),
+    (&["table"], LIST, [1, NEVER, 3], "2 0 0 [] [refused code 6]"),
+    (
+        &["table"],
+        LIST,
+        [1, NEVER, 4],
+        "2 0 0 [] [refused code 61\nerror]",
+    ),
+    (
+        &["table"],
+        LIST,
+        [1, NEVER, 5],
+        "2 0 0 [] [refused code 61\nerror: unrec]",
+    ),
+    (
+        &["table"],
+        LIST,
+        [1, NEVER, 6],
+        "2 0 0 [] [refused code 61\nerror: unrecognized]",
+    ),
+    (
+        &["table"],
+        LIST,
+        [1, NEVER, 7],
+        "2 0 0 [] [refused code 61\nerror: unrecognized subcom]",
+    ),
+];
+
+#[test]
+fn faults_that_cannot_be_told(rt: HostRuntime) -> Result<(), Fail> {
+    for &(words, list, fails_at, want) in &TELLS {
+        let found = run_line(&rt, words, list, fails_at)?;
+        assert_eq!(rt; found.as_str(), want);
+    }
+    Ok(())
+}
+
+#[test]
+fn a_reader_without_end(rt: HostRuntime) -> Result<(), Fail> {
+    let mut input = Endless::new();
+    let mut output = Writer::new(rt.alloc(), NEVER);
+    let mut faults = Writer::new(rt.alloc(), NEVER);
+    assert_eq!(rt; run(&rt, &[], &mut input, &mut output, &mut faults), 2);
+    assert_eq!(rt;
+        faults.bytes.as_slice(),
+        b"refused input 1 code 56\n".as_slice()
+    );
+    assert_eq!(rt; input.given, 16777217);
+    Ok(())
+}
+
+#[test]
+fn devices_over_std(rt: HostRuntime) -> Result<(), Fail> {
+    let mut printed = Vec::new(rt.alloc());
+    let mut told = Vec::new(rt.alloc());
+    let mut input = Counted::new(LIST);
+    let status = run(
+        &rt,
+        &[],
+        &mut input,
+        &mut Counted::new(&mut printed),
+        &mut Counted::new(&mut told),
+    );
+    assert_eq!(rt; status, 0);
+    assert_eq!(rt; text(printed.as_slice()), FLASK);
+    assert_eq!(rt; told.as_slice(), b"".as_slice());
+    assert_eq!(rt; input.calls(), 2);
+    assert!(rt; !input.failed());
+    Ok(())
+}
+
+#[test]
+fn a_writer_that_takes_no_byte(rt: HostRuntime) -> Result<(), Fail> {
+    let mut full = Counted::new(Full);
+    assert!(rt; write_text(&mut full, "x").is_err());
+    assert!(rt; full.failed());
+    assert_eq!(rt; full.calls(), 1);
+    let mut unused = Counted::new(Full);
+    assert!(rt; write_text(&mut unused, "").is_ok());
+    assert!(rt; !unused.failed());
+    assert_eq!(rt; unused.calls(), 0);
+    let mut empty = Counted::new(Full);
+    assert_eq!(rt; empty.push(b"").ok(), Some(0));
+    assert!(rt; !empty.failed());
+    Ok(())
+}
+
+#[test]
+fn bytes_at_hand(rt: HostRuntime) -> Result<(), Fail> {
+    let mut source = Bytes::new(b"abc");
+    let mut buffer = [0u8; 2];
+    assert_eq!(rt; source.pull(&mut buffer).ok(), Some(2));
+    assert_eq!(rt; buffer, *b"ab");
+    assert_eq!(rt; source.pull(&mut buffer).ok(), Some(1));
+    assert_eq!(rt; buffer, *b"cb");
+    assert_eq!(rt; source.pull(&mut buffer).ok(), Some(0));
+    assert_eq!(rt; source.calls(), 3);
+    assert!(rt; !source.failed());
+    Ok(())
+}
