@@ -4,7 +4,7 @@ use crate::limits::{Pieces, list};
 use crate::projects::{DEMO, DEMO_EXTRA_TABLE, DEMO_TABLE};
 use pep_marker::{MarkerFault, Variable};
 use pep_tool::{Cause, Fault, Input, Kind, environment_of, merge_bytes};
-use pep_vectors::machine::MACHINE;
+use tests_library::machine::MACHINE;
 use std::alloc::{AllocError, Global};
 use std::test::Fail;
 

@@ -2,7 +2,7 @@
 
 use pep_marker::Environment;
 use pep_tool::{Fault, Input, Kind, merge_bytes};
-use pep_vectors::machine::MACHINE;
+use tests_library::machine::MACHINE;
 use std::alloc::Global;
 use std::test::Fail;
 

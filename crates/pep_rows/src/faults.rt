@@ -4,7 +4,7 @@ use pep_clause::ClauseFault;
 use pep_marker::MarkerFault;
 use pep_require::RequireFault;
 use pep_tool::{ArgumentFault, Cause, Failed, Fault, LineFault, OpenFault, Place};
-use pep_vectors::faults::{REQUIRE_FAULTS, VERSION_FAULTS};
+use tests_library::faults::{REQUIRE_FAULTS, VERSION_FAULTS};
 use pep_version::VersionFault;
 use std::alloc::AllocGlobal;
 use std::fmt::Display;

@@ -2,7 +2,7 @@
 
 use pep_marker::Environment;
 use pep_tool::{Cause, Fault, Input, Kind, Place, merge_bytes};
-use pep_vectors::machine::MACHINE;
+use tests_library::machine::MACHINE;
 use std::alloc::{AllocGlobal, Global};
 use std::process::Abort;
 use std::test::Fail;

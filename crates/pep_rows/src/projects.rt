@@ -4,7 +4,7 @@ use crate::lists::NO_MEMORY;
 use crate::requirements::texts;
 use pep_marker::Environment;
 use pep_tool::{Fault, Input, Kind, merge_bytes, project_of};
-use pep_vectors::machine::MACHINE;
+use tests_library::machine::MACHINE;
 use std::alloc::{AllocError, AllocGlobal, Global};
 use std::process::Abort;
 use std::test::Fail;

@@ -1,7 +1,7 @@
 //! The run without words: its environment, and a large list.
 
 use crate::commands::ran_over;
-use pep_vectors::machine::MACHINE;
+use tests_library::machine::MACHINE;
 use std::alloc::{AllocError, Global};
 use std::test::Fail;
 
