@@ -1,107 +1,127 @@
 //! The bytes of keys and of cuts.
 
 use crate::ordered::ORDERED;
-use pep_clause::{Cut, Range, VersionSet};
-use pep_version::{Key, Version};
-use std::alloc::Global;
+use pep_clause::{ClauseFault, Cut, Range, VersionSet};
+use pep_version::{Key, Version, VersionFault};
+use std::alloc::{AllocError, Global};
 use std::process::Abort;
 use std::test::Fail;
 
-// A version, its key, and the version that stands there.
-const KEYS: [(&str, &[u8], &str); 7] = [
+// A version, the bytes of its key, and the version that stands there.
+const KEYS: [(&str, &str); 7] = [
     (
         "1.0a2",
-        b"\x00\x00\x00\x00\x00\x00\x00\x00\x01\x00\x00\x00\x00\x00\x00\x00\x01\x00\
-        \x20\x00\x00\x00\x00\x00\x00\x00\x02\x00\x01\x00",
-        "1a2",
+        "000000000000000001000000000000000100200000000000000002000100 1a2",
     ),
     (
         "3.dev0",
-        b"\x00\x00\x00\x00\x00\x00\x00\x00\x01\x00\x00\x00\x00\x00\x00\x00\x03\x00\
-        \x10\x00\x00\x00\x00\x00\x00\x00\x00\x00\x00\x00",
-        "3.dev0",
+        "000000000000000001000000000000000300100000000000000000000000 3.dev0",
     ),
     (
         "1+x",
-        b"\x00\x00\x00\x00\x00\x00\x00\x00\x01\x00\x00\x00\x00\x00\x00\x00\x01\x00\
-        \x50\x00\x01\x01\x01x\x00\x00",
-        "1+x",
+        "0000000000000000010000000000000001005000010101780000 1+x",
     ),
-    (
-        "0.0",
-        b"\x00\x00\x00\x00\x00\x00\x00\x00\x00\x50\x00\x01\x00",
-        "0",
-    ),
-    (
-        "v1.0.0",
-        b"\x00\x00\x00\x00\x00\x00\x00\x00\x01\x00\x00\x00\x00\x00\x00\x00\x01\x00\
-        \x50\x00\x01\x00",
-        "1",
-    ),
+    ("0.0", "00000000000000000050000100 0"),
+    ("v1.0.0", "00000000000000000100000000000000010050000100 1"),
     (
         "513!0.256rc1.post2.dev3+7.a0",
-        b"\x00\x00\x00\x00\x00\x00\x02\x01\x01\x00\x00\x00\x00\x00\x00\x00\x00\
-        \x01\x00\x00\x00\x00\x00\x00\x01\x00\x00\x40\x00\x00\x00\x00\x00\x00\x00\x01\
-        \x01\x00\x00\x00\x00\x00\x00\x00\x02\x00\x00\x00\x00\x00\x00\x00\x00\x03\
-        \x01\x02\x00\x00\x00\x00\x00\x00\x00\x07\x01a0\x00\x00",
-        "513!0.256rc1.post2.dev3+7.a0",
+        "000000000000020101000000000000000001000000000000010000400000000000000001\
+        010000000000000002000000000000000003010200000000000000070161300000 513!0.256rc1.post2.dev3+7.a0",
     ),
     (
         "18446744073709551615!18446744073709551615b0",
-        b"\xff\xff\xff\xff\xff\xff\xff\xff\x01\xff\xff\xff\xff\xff\xff\xff\xff\x00\
-        \x30\x00\x00\x00\x00\x00\x00\x00\x00\x00\x01\x00",
-        "18446744073709551615!18446744073709551615b0",
+        "ffffffffffffffff01ffffffffffffffff00300000000000000000000100 18446744073709551615!18446744073709551615b0",
     ),
 ];
 
-fn key(alloc: Global, text: &str) -> Result<Key, Fail> {
-    Ok(Key::of(alloc, &Version::read(alloc, text)?)?)
+// Each byte as two digits.
+fn hex(alloc: Global, bytes: &[u8]) -> Result<String, AllocError> {
+    let mut text = String::new(alloc);
+    for byte in bytes {
+        let digits = format!(in alloc; "{byte:02x}")?;
+        text.push_str(digits.as_str())?;
+    }
+    Ok(text)
+}
+
+fn key(alloc: Global, text: &str) -> Result<Key, VersionFault> {
+    Key::of(alloc, &Version::read(alloc, text)?)
+}
+
+// A key's bytes, and the version that stands there.
+fn shown(alloc: Global, key: &Key) -> Result<String, VersionFault> {
+    let bytes = hex(alloc, key.bytes())?;
+    let place = key.version(alloc)?.text(alloc)?;
+    Ok(format!(in alloc; "{bytes} {place}")?)
+}
+
+fn key_line(alloc: Global, text: &str) -> Result<String, VersionFault> {
+    shown(alloc, &key(alloc, text)?)
+}
+
+// The same of the key that is read from the bytes, if it is that key.
+fn read_line(alloc: Global, text: &str) -> Result<String, VersionFault> {
+    let key = key(alloc, text)?;
+    match Key::read(alloc, key.bytes())? {
+        Some(read) if read == key => shown(alloc, &read),
+        _ => Ok(String::from_str(alloc, "another")?),
+    }
 }
 
 #[test]
 fn keys(rt: HostRuntime) -> Result<(), Fail> {
-    for &(text, bytes, place) in &KEYS {
-        let key = key(rt.alloc(), text)?;
-        assert_eq!(rt; key.bytes(), bytes, "of {text}");
-        let version = key.version(rt.alloc())?.text(rt.alloc())?;
-        assert_eq!(rt; version.as_str(), place, "of {text}");
+    for &(text, want) in &KEYS {
+        let line = key_line(rt.alloc(), text)?;
+        assert_eq!(rt; line.as_str(), want, "of {text}");
+        let line = read_line(rt.alloc(), text)?;
+        assert_eq!(rt; line.as_str(), want, "read of {text}");
     }
     Ok(())
 }
 
-#[test]
-fn keys_are_read(rt: HostRuntime) -> Result<(), Fail> {
-    for &(text, bytes, place) in &KEYS {
-        let read = Key::read(rt.alloc(), bytes)?.ok_or("no key")?;
-        assert!(rt; read == key(rt.alloc(), text)?, "of {text}");
-        let version = read.version(rt.alloc())?.text(rt.alloc())?;
-        assert_eq!(rt; version.as_str(), place, "of {text}");
+// Versions, and how many bytes their keys have.
+const SIZES: [(&str, &str); 7] = [
+    ("1.0a2", "30 "),
+    ("3.dev0", "30 "),
+    ("1+x", "26 "),
+    ("0.0", "13 "),
+    ("v1.0.0", "22 "),
+    ("513!0.256rc1.post2.dev3+7.a0", "69 "),
+    ("18446744073709551615!18446744073709551615b0", "30 "),
+];
+
+// How many bytes each of the bytes' beginnings has that is a key.
+fn sizes_of_keys(alloc: Global, bytes: &[u8]) -> Result<String, VersionFault> {
+    let mut some = Vec::new(alloc);
+    let mut line = String::new(alloc);
+    for byte in bytes {
+        some.push(*byte)?;
+        if Key::read(alloc, some.as_slice())?.is_some() {
+            line.push_str(format!(in alloc; "{} ", some.len())?.as_str())?;
+        }
     }
-    Ok(())
+    Ok(line)
+}
+
+// The key's bytes with one more behind them.
+fn with_a_zero(alloc: Global, text: &str) -> Result<Vec<u8>, VersionFault> {
+    let mut bytes = Vec::from_slice(alloc, key(alloc, text)?.bytes())?;
+    bytes.push(0)?;
+    Ok(bytes)
+}
+
+fn sizes_line(alloc: Global, text: &str) -> Result<String, VersionFault> {
+    sizes_of_keys(alloc, with_a_zero(alloc, text)?.as_slice())
 }
 
 // Neither the beginnings of a key nor the key with a byte more is one.
 #[test]
 fn beginnings_are_no_keys(rt: HostRuntime) -> Result<(), Fail> {
-    for &(text, bytes, _) in &KEYS {
-        let mut some = Vec::new(rt.alloc());
-        for byte in bytes {
-            assert!(rt;
-                Key::read(rt.alloc(), some.as_slice())?.is_none(),
-                "of {text}"
-            );
-            some.push(*byte)?;
-        }
-        assert!(rt;
-            Key::read(rt.alloc(), some.as_slice())?.is_some(),
-            "of {text}"
-        );
-        some.push(0)?;
-        assert!(rt;
-            Key::read(rt.alloc(), some.as_slice())?.is_none(),
-            "of {text}"
-        );
+    for &(text, want) in &SIZES {
+        let line = sizes_line(rt.alloc(), text)?;
+        assert_eq!(rt; line.as_str(), want, "of {text}");
     }
+    assert!(rt; Key::read(rt.alloc(), b"")?.is_none());
     Ok(())
 }
 
@@ -126,106 +146,272 @@ fn other_bytes_are_no_keys(rt: HostRuntime) -> Result<(), Fail> {
     Ok(())
 }
 
-// A cut's text and its bytes.
-const CUTS: [(&str, &[u8]); 5] = [
+// A cut's text, and its bytes with the text.
+const CUTS: [(&str, &str); 5] = [
     (
         "before 3.dev0",
-        b"\x00\x00\x00\x00\x00\x00\x00\x00\x01\x00\x00\x00\x00\x00\x00\x00\x03\x00\
-        \x10\x00\x00\x00\x00\x00\x00\x00\x00\x00\x00\x00",
+        "000000000000000001000000000000000300100000000000000000000000 before 3.dev0",
     ),
     (
         "past 1.7",
-        b"\x00\x00\x00\x00\x00\x00\x00\x00\x01\x00\x00\x00\x00\x00\x00\x00\x01\
-        \x01\x00\x00\x00\x00\x00\x00\x00\x07\x00\x60",
+        "00000000000000000100000000000000010100000000000000070060 past 1.7",
     ),
     (
         "after 1+x",
-        b"\x00\x00\x00\x00\x00\x00\x00\x00\x01\x00\x00\x00\x00\x00\x00\x00\x01\x00\
-        \x50\x00\x01\x01\x01x\x00\x00\x00",
+        "000000000000000001000000000000000100500001010178000000 after 1+x",
     ),
-    ("past 0", b"\x00\x00\x00\x00\x00\x00\x00\x00\x00\x60"),
-    ("end", b"\xff\xff\xff\xff\xff\xff\xff\xff\xff"),
+    ("past 0", "00000000000000000060 past 0"),
+    ("end", "ffffffffffffffffff end"),
 ];
+
+// A cut's bytes, and its text.
+fn shown_cut(alloc: Global, cut: &Cut) -> Result<String, ClauseFault> {
+    let bytes = hex(alloc, cut.bytes())?;
+    let text = cut.text(alloc)?;
+    Ok(format!(in alloc; "{bytes} {text}")?)
+}
+
+fn cut_line(alloc: Global, text: &str) -> Result<String, ClauseFault> {
+    match Cut::read(alloc, text)? {
+        Some(cut) => shown_cut(alloc, &cut),
+        None => Ok(String::from_str(alloc, "no cut")?),
+    }
+}
+
+// The same of the cut's copy, if it is equal to the cut.
+fn copied_cut_line(alloc: Global, text: &str) -> Result<String, ClauseFault> {
+    match Cut::read(alloc, text)? {
+        Some(cut) => {
+            let copy = cut.copied(alloc)?;
+            if copy == cut {
+                shown_cut(alloc, &copy)
+            } else {
+                Ok(String::from_str(alloc, "another")?)
+            }
+        }
+        None => Ok(String::from_str(alloc, "no cut")?),
+    }
+}
 
 #[test]
 fn cuts(rt: HostRuntime) -> Result<(), Fail> {
-    for &(text, bytes) in &CUTS {
-        let cut = Cut::read(rt.alloc(), text)?.ok_or("no cut")?;
-        assert_eq!(rt; cut.bytes(), bytes, "of {text}");
-        assert_eq!(rt; cut.copied(rt.alloc())?.bytes(), bytes, "of {text}");
-        assert_eq!(rt; cut.text(rt.alloc())?.as_str(), text);
+    for &(text, want) in &CUTS {
+        let line = cut_line(rt.alloc(), text)?;
+        assert_eq!(rt; line.as_str(), want, "of {text}");
+        let line = copied_cut_line(rt.alloc(), text)?;
+        assert_eq!(rt; line.as_str(), want, "copy of {text}");
     }
     Ok(())
 }
 
-// Cuts of each form whose bytes don't lie in the value, and one by a label alone.
-const LONG_CUTS: [&str; 6] = [
-    "before 1.2.3.4.5.6.7",
-    "before 1.2.3.4.5.6.7.dev8",
-    "before 1.2.3.4a5.post6.dev7+89.x",
-    "past 1.2.3.4.5.6.7",
-    "after 1.2.3.4.5.6.7+x.8",
-    "after 1+abcdefghijklmnopqrstuvwxyz0123456789abcdefghijklmnopqrstuvwxyz",
+// Cuts of each form whose bytes don't lie in the value, and one by a label alone; and their texts,
+// after a word for their sizes.
+const LONG_CUTS: [(&str, &str); 6] = [
+    ("before 1.2.3.4.5.6.7", "long before 1.2.3.4.5.6.7"),
+    (
+        "before 1.2.3.4.5.6.7.dev8",
+        "long before 1.2.3.4.5.6.7.dev8",
+    ),
+    (
+        "before 1.2.3.4a5.post6.dev7+89.x",
+        "long before 1.2.3.4a5.post6.dev7+89.x",
+    ),
+    ("past 1.2.3.4.5.6.7", "long past 1.2.3.4.5.6.7"),
+    ("after 1.2.3.4.5.6.7+x.8", "long after 1.2.3.4.5.6.7+x.8"),
+    (
+        "after 1+abcdefghijklmnopqrstuvwxyz0123456789abcdefghijklmnopqrstuvwxyz",
+        "long after 1+abcdefghijklmnopqrstuvwxyz0123456789abcdefghijklmnopqrstuvwxyz",
+    ),
 ];
+
+// Whether a cut's bytes are more than lie in the value, and its text.
+fn sized(alloc: Global, cut: &Cut) -> Result<String, ClauseFault> {
+    let size = if cut.bytes().len() > 64 {
+        "long"
+    } else {
+        "short"
+    };
+    let text = cut.text(alloc)?;
+    Ok(format!(in alloc; "{size} {text}")?)
+}
+
+fn sized_line(alloc: Global, text: &str) -> Result<String, ClauseFault> {
+    match Cut::read(alloc, text)? {
+        Some(cut) => sized(alloc, &cut),
+        None => Ok(String::from_str(alloc, "no cut")?),
+    }
+}
+
+// The same of the cut's copy, if it is equal to the cut, and by its bytes.
+fn sized_copy(alloc: Global, cut: &Cut) -> Result<String, ClauseFault> {
+    let copy = cut.copied(alloc)?;
+    if copy == *cut && copy.bytes() == cut.bytes() {
+        sized(alloc, &copy)
+    } else {
+        Ok(String::from_str(alloc, "another")?)
+    }
+}
+
+fn sized_copy_line(alloc: Global, text: &str) -> Result<String, ClauseFault> {
+    match Cut::read(alloc, text)? {
+        Some(cut) => sized_copy(alloc, &cut),
+        None => Ok(String::from_str(alloc, "no cut")?),
+    }
+}
 
 #[test]
 fn long_cuts(rt: HostRuntime) -> Result<(), Fail> {
-    for text in &LONG_CUTS {
-        let cut = Cut::read(rt.alloc(), text)?.ok_or("no cut")?;
-        assert!(rt; cut.bytes().len() > 64, "of {text}");
-        assert_eq!(rt; cut.text(rt.alloc())?.as_str(), *text);
-        let copy = cut.copied(rt.alloc())?;
-        assert!(rt; copy == cut && copy.bytes() == cut.bytes(), "of {text}");
-        assert_eq!(rt; copy.text(rt.alloc())?.as_str(), *text);
-        let (_, version) = text.split_once(' ').ok_or("no version")?;
-        let mut line = String::new(rt.alloc());
-        key(rt.alloc(), version)?
-            .copied(rt.alloc())?
-            .push_text(&mut line)?;
-        assert_eq!(rt; line.as_str(), version);
+    for &(text, want) in &LONG_CUTS {
+        let line = sized_line(rt.alloc(), text)?;
+        assert_eq!(rt; line.as_str(), want);
+        let line = sized_copy_line(rt.alloc(), text)?;
+        assert_eq!(rt; line.as_str(), want, "copied");
     }
     Ok(())
 }
 
-// Releases with so many numbers that their keys lie in the value, just fit there, and don't.
+// The versions of these cuts.
+const LONG_KEYS: [&str; 6] = [
+    "1.2.3.4.5.6.7",
+    "1.2.3.4.5.6.7.dev8",
+    "1.2.3.4a5.post6.dev7+89.x",
+    "1.2.3.4.5.6.7",
+    "1.2.3.4.5.6.7+x.8",
+    "1+abcdefghijklmnopqrstuvwxyz0123456789abcdefghijklmnopqrstuvwxyz",
+];
+
+// What the copy of a key appends.
+fn copied_key_line(alloc: Global, text: &str) -> Result<String, VersionFault> {
+    let mut line = String::new(alloc);
+    key(alloc, text)?.copied(alloc)?.push_text(&mut line)?;
+    Ok(line)
+}
+
+#[test]
+fn long_keys(rt: HostRuntime) -> Result<(), Fail> {
+    for text in &LONG_KEYS {
+        let line = copied_key_line(rt.alloc(), text)?;
+        assert_eq!(rt; line.as_str(), *text);
+    }
+    Ok(())
+}
+
+// Versions with so many numbers that their keys lie in the value, just fit there, and don't, each
+// with the one below it.
+const GROWING: [(&str, &str); 8] = [
+    ("1", "1.1"),
+    ("1.1", "1.1.1"),
+    ("1.1.1", "1.1.1.1"),
+    ("1.1.1.1", "1.1.1.1.1"),
+    ("1.1.1.1.1", "1.1.1.1.1.1"),
+    ("1.1.1.1.1.1", "1.1.1.1.1.1.1"),
+    ("1.1.1.1.1.1.1", "1.1.1.1.1.1.1.1"),
+    ("1.1.1.1.1.1.1.1", "1.1.1.1.1.1.1.1.1"),
+];
+
+// Whether a key is below another, and its bytes below those of the other.
+fn order_line(alloc: Global, below: &str, text: &str) -> Result<String, VersionFault> {
+    let (below, one) = (key(alloc, below)?, key(alloc, text)?);
+    let (keys, bytes) = (below < one, below.bytes() < one.bytes());
+    Ok(format!(in alloc; "{keys} {bytes}")?)
+}
+
+// Whether a key's bytes are read as a copy of it.
+fn is_read_as_copy(alloc: Global, text: &str) -> Result<bool, VersionFault> {
+    let one = key(alloc, text)?;
+    Ok(Key::read(alloc, one.bytes())? == Some(one.copied(alloc)?))
+}
+
+// The set of all versions from one cut to another.
+fn set_between(alloc: Global, low: Cut, high: Cut) -> Result<VersionSet, ClauseFault> {
+    let mut ranges = Vec::new(alloc);
+    if let Some(range) = Range::of(low, high) {
+        ranges.push(range)?;
+    }
+    VersionSet::of_ranges(ranges).ok_or(ClauseFault::BadVersion)
+}
+
+// The set of the versions from the one that stands at a key.
+fn set_from(alloc: Global, key: &Key) -> Result<VersionSet, ClauseFault> {
+    let low = Cut::before(alloc, &key.version(alloc)?)?;
+    set_between(alloc, low, Cut::end())
+}
+
+// Whether the set from a key on holds it, and whether it holds the one below.
+fn from_line(alloc: Global, below: &str, text: &str) -> Result<String, ClauseFault> {
+    let (below, one) = (key(alloc, below)?, key(alloc, text)?);
+    let set = set_from(alloc, &one)?;
+    let (own, other) = (set.contains(&one), set.contains(&below));
+    Ok(format!(in alloc; "{own} {other}")?)
+}
+
 #[test]
 fn long_and_short(rt: HostRuntime) -> Result<(), Fail> {
-    let mut text = String::from_str(rt.alloc(), "1")?;
-    let mut below = key(rt.alloc(), "1")?;
-    for _ in 0..8 {
-        text.push_str(".1")?;
-        let one = key(rt.alloc(), text.as_str())?;
-        assert!(rt; below < one && below.bytes() < one.bytes(), "of {text}");
-        assert!(rt;
-            Key::read(rt.alloc(), one.bytes())? == Some(one.copied(rt.alloc())?),
-            "of {text}"
-        );
-        let low = Cut::before(rt.alloc(), &one.version(rt.alloc())?)?;
-        let mut ranges = Vec::new(rt.alloc());
-        ranges.push(Range::of(low, Cut::end()).ok_or("no range")?)?;
-        let set = VersionSet::of_ranges(ranges).ok_or("no set")?;
-        assert!(rt; set.contains(&one) && !set.contains(&below), "of {text}");
-        below = one;
+    for &(below, text) in &GROWING {
+        let line = order_line(rt.alloc(), below, text)?;
+        assert_eq!(rt; line.as_str(), "true true", "of {text}");
+        assert!(rt; is_read_as_copy(rt.alloc(), text)?, "of {text}");
+        let line = from_line(rt.alloc(), below, text)?;
+        assert_eq!(rt; line.as_str(), "true false", "of {text}");
     }
+    Ok(())
+}
+
+// `1.2.3` with a label of so many letters.
+fn labelled(alloc: Global, letters: usize) -> Result<String, AllocError> {
+    let mut text = String::from_str(alloc, "1.2.3+")?;
+    for _ in 0..letters {
+        text.push_str("a")?;
+    }
+    Ok(text)
+}
+
+// How many bytes a key has, whether it is read from them, and whether what is read has an equal copy.
+fn size_line(alloc: Global, text: &str) -> Result<String, VersionFault> {
+    let one = key(alloc, text)?;
+    let size = one.bytes().len();
+    match Key::read(alloc, one.bytes())? {
+        Some(read) => {
+            let (is_read, is_copied) = (read == one, read.copied(alloc)? == one);
+            Ok(format!(in alloc; "{size} {is_read} {is_copied}")?)
+        }
+        None => Ok(String::from_str(alloc, "no key")?),
+    }
+}
+
+// Of the cut with a text: whether its bytes begin with those of the key, how many it has, whether it
+// has an equal copy, and its text.
+fn sizes_of_cut(alloc: Global, cut: &Cut, key: &Key) -> Result<String, ClauseFault> {
+    let (is_front, size) = (cut.bytes().starts_with(key.bytes()), cut.bytes().len());
+    let is_copied = cut.copied(alloc)? == *cut;
+    let text = cut.text(alloc)?;
+    Ok(format!(in alloc; "{is_front} {size} {is_copied} {text}")?)
+}
+
+fn size_of_cut_line(alloc: Global, version: &str) -> Result<String, ClauseFault> {
+    let text = format!(in alloc; "after {version}")?;
+    match Cut::read(alloc, text.as_str())? {
+        Some(cut) => sizes_of_cut(alloc, &cut, &key(alloc, version)?),
+        None => Ok(String::from_str(alloc, "no cut")?),
+    }
+}
+
+fn expect_sizes(rt: &(impl Abort + AllocGlobal), size: usize) -> Result<(), ClauseFault> {
+    let version = labelled(rt.alloc(), size.saturating_sub(43))?;
+    let want = format!(in rt.alloc(); "{size} true true")?;
+    let line = size_line(rt.alloc(), version.as_str())?;
+    assert_eq!(rt; line.as_str(), want.as_str());
+    let want = format!(in rt.alloc(); "true {} true after {version}", size.saturating_add(1))?;
+    let line = size_of_cut_line(rt.alloc(), version.as_str())?;
+    assert_eq!(rt; line.as_str(), want.as_str());
     Ok(())
 }
 
 // Labels that grow by a letter, until the bytes of the key and of the cut no longer lie in the value.
 #[test]
 fn across_the_edge(rt: HostRuntime) -> Result<(), Fail> {
-    let mut text = String::from_str(rt.alloc(), "after 1.2.3+a")?;
     for size in 44..70 {
-        let (_, version) = text.as_str().split_once(' ').ok_or("no version")?;
-        let one = key(rt.alloc(), version)?;
-        assert_eq!(rt; one.bytes().len(), size);
-        let read = Key::read(rt.alloc(), one.bytes())?.ok_or("no key")?;
-        assert!(rt; read == one && read.copied(rt.alloc())? == one, "of {text}");
-        let cut = Cut::read(rt.alloc(), text.as_str())?.ok_or("no cut")?;
-        assert!(rt; cut.bytes().starts_with(one.bytes()), "of {text}");
-        assert_eq!(rt; cut.bytes().len(), size + 1);
-        assert!(rt; cut.copied(rt.alloc())? == cut, "of {text}");
-        assert_eq!(rt; cut.text(rt.alloc())?.as_str(), text.as_str());
-        text.push_str("a")?;
+        expect_sizes(&rt, size)?;
     }
     Ok(())
 }
@@ -246,20 +432,39 @@ const HIGH: usize = 13;
 // Above the others; the bytes of its key don't lie in the value.
 const LONG: [&str; 1] = ["2!1.2.3.4.5.6.7.8"];
 
-fn made_places(alloc: Global) -> Result<Places, Fail> {
+fn made_keys(alloc: Global) -> Result<Vec<Key>, VersionFault> {
     let mut keys = Vec::new(alloc);
+    for text in ORDERED.iter().chain(&LONG) {
+        keys.push(key(alloc, text)?)?;
+    }
+    Ok(keys)
+}
+
+fn made_cuts(alloc: Global) -> Result<Vec<Cut>, ClauseFault> {
     let mut cuts = Vec::new(alloc);
     for text in ORDERED.iter().chain(&LONG) {
-        let version = Version::read(alloc, text)?;
-        keys.push(Key::of(alloc, &version)?)?;
-        cuts.push(Cut::before(alloc, &version)?)?;
+        cuts.push(Cut::before(alloc, &Version::read(alloc, text)?)?)?;
     }
-    let low = cuts.get(LOW).ok_or("no cut")?.copied(alloc)?;
-    let high = cuts.get(HIGH).ok_or("no cut")?.copied(alloc)?;
     cuts.push(Cut::end())?;
-    let mut ranges = Vec::new(alloc);
-    ranges.push(Range::of(low, high).ok_or("no range")?)?;
-    let set = VersionSet::of_ranges(ranges).ok_or("no set")?;
+    Ok(cuts)
+}
+
+// A copy of the cut at this place in the row.
+fn cut_at(alloc: Global, cuts: &[Cut], place: usize) -> Result<Cut, ClauseFault> {
+    match cuts.get(place) {
+        Some(cut) => cut.copied(alloc),
+        None => Ok(Cut::end()),
+    }
+}
+
+fn made_set(alloc: Global, cuts: &[Cut]) -> Result<VersionSet, ClauseFault> {
+    set_between(alloc, cut_at(alloc, cuts, LOW)?, cut_at(alloc, cuts, HIGH)?)
+}
+
+fn made_places(alloc: Global) -> Result<Places, ClauseFault> {
+    let keys = made_keys(alloc)?;
+    let cuts = made_cuts(alloc)?;
+    let set = made_set(alloc, cuts.as_slice())?;
     Ok(Places { keys, cuts, set })
 }
 
@@ -282,6 +487,12 @@ fn compare_cuts(rt: &impl Abort, cuts: &[Cut]) {
     }
 }
 
+fn compare_set(rt: &impl Abort, set: &VersionSet, keys: &[Key]) {
+    for (i, key) in keys.iter().enumerate() {
+        assert_eq!(rt; set.contains(key), (LOW..HIGH).contains(&i), "at {i}");
+    }
+}
+
 // `.ci/refuse_memory` runs the next two with refused allocations, and finds that the second makes
 // none that the first doesn't make: none for what it compares.
 #[test]
@@ -297,8 +508,6 @@ fn made_and_compared(rt: HostRuntime) -> Result<(), Fail> {
     let made = made_places(rt.alloc())?;
     compare_keys(&rt, made.keys.as_slice());
     compare_cuts(&rt, made.cuts.as_slice());
-    for (i, key) in made.keys.iter().enumerate() {
-        assert_eq!(rt; made.set.contains(key), (LOW..HIGH).contains(&i), "at {i}");
-    }
+    compare_set(&rt, &made.set, made.keys.as_slice());
     Ok(())
 }
