@@ -2,7 +2,8 @@
 
 use crate::machine::MACHINE;
 use pep_marker::{Environment, Marker, MarkerFault};
-use std::alloc::Global;
+use std::alloc::{AllocError, Global};
+use std::process::Abort;
 use std::test::Fail;
 
 const VARIABLES: [&str; 12] = [
@@ -25,41 +26,41 @@ const OPERATORS: [&str; 10] = [
 ];
 
 // What each marker says on the machine.
-const TRUTHS: [(&str, bool); 14] = [
-    ("python_version < \"3.10\"", true),
-    ("\"3.8\" <= python_version", true),
-    ("\"18446744073709551616\" < python_version", true),
-    ("python_version == \"3.*\"", true),
-    ("python_version in \"3.8 3.9\"", true),
-    ("\"lin\" in sys_platform", true),
-    ("sys_platform in \"lin\"", false),
-    ("sys_platform === \"LINUX\"", true),
-    ("sys_platform < \"m\"", true),
-    ("platform_release >= \"6\"", true),
-    ("extra == \"\"", true),
+const TRUTHS: [(&str, &str); 14] = [
+    ("python_version < \"3.10\"", "true"),
+    ("\"3.8\" <= python_version", "true"),
+    ("\"18446744073709551616\" < python_version", "true"),
+    ("python_version == \"3.*\"", "true"),
+    ("python_version in \"3.8 3.9\"", "true"),
+    ("\"lin\" in sys_platform", "true"),
+    ("sys_platform in \"lin\"", "false"),
+    ("sys_platform === \"LINUX\"", "true"),
+    ("sys_platform < \"m\"", "true"),
+    ("platform_release >= \"6\"", "true"),
+    ("extra == \"\"", "true"),
     (
         "os_name == \"nt\" and os_name == \"nt\" or os_name == \"posix\"",
-        true,
+        "true",
     ),
     (
         "os_name == \"nt\" and (os_name == \"nt\" or os_name == \"posix\")",
-        false,
+        "false",
     ),
-    ("os_name not  in \"posix nt\"", false),
+    ("os_name not  in \"posix nt\"", "false"),
 ];
 
 // Operators and texts beside `python_version`, which is 3.9: those that make a clause are compared
 // as versions, and the others as texts.
-const VERSIONS: [(&str, &str, bool); 9] = [
-    ("==", "3.9.0", true),
-    ("===", "3.9.0", false),
-    ("==", " v3.9\t", true),
-    ("!=", "3.*", false),
-    (">=", "3.*", true),
-    (">=", "10.*", true),
-    (">=", "10.0+x", true),
-    (">", "18446744073709551615", false),
-    (">", "18446744073709551616", true),
+const VERSIONS: [(&str, &str, &str); 9] = [
+    ("==", "3.9.0", "true"),
+    ("===", "3.9.0", "false"),
+    ("==", " v3.9\t", "true"),
+    ("!=", "3.*", "false"),
+    (">=", "3.*", "true"),
+    (">=", "10.*", "true"),
+    (">=", "10.0+x", "true"),
+    (">", "18446744073709551615", "false"),
+    (">", "18446744073709551616", "true"),
 ];
 
 const UNDEFINED: [&str; 8] = [
@@ -176,9 +177,148 @@ fn truth_of(alloc: Global, environment: &Environment, text: &str) -> Result<bool
     Marker::read(alloc, text)?.holds(alloc, environment)
 }
 
-fn fault_of(alloc: Global, text: &str) -> Option<MarkerFault> {
-    Marker::read(alloc, text).err()
+// The text of the marker, or why there is none.
+fn text_line(alloc: Global, text: &str) -> Result<String, AllocError> {
+    match text_of(alloc, text) {
+        Ok(found) => Ok(found),
+        Err(fault) => format!(in alloc; "refused {}", fault.code()),
+    }
 }
+
+// What the marker says, or why it says nothing.
+fn truth_line(alloc: Global, environment: &Environment, text: &str) -> Result<String, AllocError> {
+    match truth_of(alloc, environment, text) {
+        Ok(truth) => format!(in alloc; "{truth}"),
+        Err(fault) => format!(in alloc; "refused {}", fault.code()),
+    }
+}
+
+// Whether the text is a marker.
+fn reading_line(alloc: Global, text: &str) -> Result<String, AllocError> {
+    match Marker::read(alloc, text) {
+        Ok(_) => String::from_str(alloc, "read"),
+        Err(fault) => format!(in alloc; "refused {}", fault.code()),
+    }
+}
+
+fn expect_text(rt: &(impl Abort + AllocGlobal), text: &str, want: &str) -> Result<(), AllocError> {
+    let line = text_line(rt.alloc(), text)?;
+    assert_eq!(rt; line.as_str(), want, "at {text}");
+    Ok(())
+}
+
+fn expect_truth(
+    rt: &(impl Abort + AllocGlobal),
+    environment: &Environment,
+    text: &str,
+    want: &str,
+) -> Result<(), AllocError> {
+    let line = truth_line(rt.alloc(), environment, text)?;
+    assert_eq!(rt; line.as_str(), want, "at {text}");
+    Ok(())
+}
+
+#[test]
+fn truths(rt: HostRuntime) -> Result<(), Fail> {
+    let machine = Environment::of(rt.alloc(), &MACHINE)?;
+    for &(text, truth) in &TRUTHS {
+        expect_truth(&rt, &machine, text, truth)?;
+    }
+    for text in &UNDEFINED {
+        expect_truth(&rt, &machine, text, "refused 28")?;
+    }
+    Ok(())
+}
+
+#[test]
+fn versions_and_texts(rt: HostRuntime) -> Result<(), Fail> {
+    let machine = Environment::of(rt.alloc(), &MACHINE)?;
+    for &(operator, version, truth) in &VERSIONS {
+        let text = format!(in rt.alloc(); "python_version {operator} \"{version}\"")?;
+        expect_truth(&rt, &machine, text.as_str(), truth)?;
+    }
+    Ok(())
+}
+
+const WITH_EXTRA: [(&str, &str); 4] = [
+    ("extra == \"Dev_Tools\"", "true"),
+    ("\"DEV.-tools\" == extra", "true"),
+    ("extra == \"\"", "false"),
+    ("extra == \"dev\"", "false"),
+];
+
+fn machine_with_extra(alloc: Global) -> Result<Environment, MarkerFault> {
+    let mut pairs = Vec::from_array(alloc, MACHINE)?;
+    pairs.push(("extra", "dev-tools"))?;
+    Environment::of(alloc, &pairs)
+}
+
+#[test]
+fn truth_with_extra(rt: HostRuntime) -> Result<(), Fail> {
+    let machine = machine_with_extra(rt.alloc())?;
+    for &(text, truth) in &WITH_EXTRA {
+        expect_truth(&rt, &machine, text, truth)?;
+    }
+    Ok(())
+}
+
+#[test]
+fn texts(rt: HostRuntime) -> Result<(), Fail> {
+    for &(text, want) in &TEXTS {
+        expect_text(&rt, text, want)?;
+        expect_text(&rt, want, want)?;
+    }
+    for text in &UNDEFINED {
+        expect_text(&rt, text, text)?;
+    }
+    Ok(())
+}
+
+// The text of a marker is its own text.
+fn expect_stable(rt: &(impl Abort + AllocGlobal), text: &str) -> Result<(), MarkerFault> {
+    let once = text_of(rt.alloc(), text)?;
+    expect_text(rt, once.as_str(), once.as_str())?;
+    Ok(())
+}
+
+#[test]
+fn texts_of_truths(rt: HostRuntime) -> Result<(), Fail> {
+    for &(text, _) in &TRUTHS {
+        expect_stable(&rt, text)?;
+    }
+    Ok(())
+}
+
+fn expect_operator(
+    rt: &(impl Abort + AllocGlobal),
+    variable: &str,
+    operator: &str,
+) -> Result<(), AllocError> {
+    let left = format!(in rt.alloc(); "{variable} {operator} \"1.0\"")?;
+    expect_text(rt, left.as_str(), left.as_str())?;
+    let right = format!(in rt.alloc(); "\"1.0\" {operator} {variable}")?;
+    expect_text(rt, right.as_str(), right.as_str())
+}
+
+#[test]
+fn variables_and_operators(rt: HostRuntime) -> Result<(), Fail> {
+    for variable in &VARIABLES {
+        for operator in &OPERATORS {
+            expect_operator(&rt, variable, operator)?;
+        }
+    }
+    Ok(())
+}
+
+#[test]
+fn faulty_texts(rt: HostRuntime) -> Result<(), Fail> {
+    for text in &FAULTY {
+        expect_text(&rt, text, "refused 26")?;
+    }
+    Ok(())
+}
+
+// ---- long and deep markers
 
 // The first text, so many times the second one, and the third.
 fn repeated(
@@ -187,7 +327,7 @@ fn repeated(
     part: &str,
     count: usize,
     behind: &str,
-) -> Result<String, MarkerFault> {
+) -> Result<String, AllocError> {
     let mut text = String::from_str(alloc, front)?;
     for _ in 0..count {
         text.push_str(part)?;
@@ -197,177 +337,79 @@ fn repeated(
 }
 
 // A comparison in so many parentheses.
-fn in_parentheses(alloc: Global, count: usize) -> Result<String, MarkerFault> {
+fn in_parentheses(alloc: Global, count: usize) -> Result<String, AllocError> {
     let text = repeated(alloc, "", "(", count, "'a'=='a'")?;
     repeated(alloc, text.as_str(), ")", count, "")
 }
 
 #[test]
-fn truths(rt: HostRuntime) -> Result<(), Fail> {
-    let machine = Environment::of(rt.alloc(), &MACHINE)?;
-    for (text, truth) in TRUTHS {
-        assert!(rt;
-            truth_of(rt.alloc(), &machine, text) == Ok(truth),
-            "at {text}"
-        );
-    }
-    for text in UNDEFINED {
-        let fault = Err(MarkerFault::Undefined);
-        assert!(rt; truth_of(rt.alloc(), &machine, text) == fault, "at {text}");
-    }
-    Ok(())
-}
-
-#[test]
-fn versions_and_texts(rt: HostRuntime) -> Result<(), Fail> {
-    let machine = Environment::of(rt.alloc(), &MACHINE)?;
-    for (operator, version, truth) in VERSIONS {
-        let text = format!(in rt.alloc(); "python_version {operator} \"{version}\"")?;
-        let found = truth_of(rt.alloc(), &machine, text.as_str());
-        assert!(rt; found == Ok(truth), "at {text}");
-    }
-    Ok(())
-}
-
-#[test]
-fn truth_with_extra(rt: HostRuntime) -> Result<(), Fail> {
-    let mut pairs = Vec::from_array(rt.alloc(), MACHINE)?;
-    pairs.push(("extra", "dev-tools"))?;
-    let machine = Environment::of(rt.alloc(), &pairs)?;
-    for (text, truth) in [
-        ("extra == \"Dev_Tools\"", true),
-        ("\"DEV.-tools\" == extra", true),
-        ("extra == \"\"", false),
-        ("extra == \"dev\"", false),
-    ] {
-        assert!(rt;
-            truth_of(rt.alloc(), &machine, text) == Ok(truth),
-            "at {text}"
-        );
-    }
-    Ok(())
-}
-
-#[test]
-fn texts(rt: HostRuntime) -> Result<(), Fail> {
-    for (text, want) in TEXTS {
-        assert_eq!(rt; text_of(rt.alloc(), text)?.as_str(), want, "at {text}");
-        assert_eq!(rt; text_of(rt.alloc(), want)?.as_str(), want, "at {want}");
-    }
-    Ok(())
-}
-
-#[test]
-fn texts_of_truths(rt: HostRuntime) -> Result<(), Fail> {
-    for (text, _) in TRUTHS {
-        let once = text_of(rt.alloc(), text)?;
-        let twice = text_of(rt.alloc(), once.as_str())?;
-        assert_eq!(rt; twice.as_str(), once.as_str(), "at {text}");
-    }
-    for text in UNDEFINED {
-        assert_eq!(rt; text_of(rt.alloc(), text)?.as_str(), text);
-    }
-    Ok(())
-}
-
-#[test]
-fn variables_and_operators(rt: HostRuntime) -> Result<(), Fail> {
-    for variable in VARIABLES {
-        for operator in OPERATORS {
-            let left = format!(in rt.alloc(); "{variable} {operator} \"1.0\"")?;
-            assert_eq!(rt; text_of(rt.alloc(), left.as_str())?.as_str(), left.as_str());
-            let right = format!(in rt.alloc(); "\"1.0\" {operator} {variable}")?;
-            assert_eq!(rt;
-                text_of(rt.alloc(), right.as_str())?.as_str(),
-                right.as_str()
-            );
-        }
-    }
-    Ok(())
-}
-
-#[test]
-fn faulty_texts(rt: HostRuntime) -> Result<(), Fail> {
-    for text in FAULTY {
-        let fault = fault_of(rt.alloc(), text);
-        assert_eq!(rt; fault, Some(MarkerFault::BadMarker), "at {text}");
-    }
-    Ok(())
-}
-
-#[test]
 fn open_parentheses(rt: HostRuntime) -> Result<(), Fail> {
-    let text = in_parentheses(rt.alloc(), 64)?;
-    assert_eq!(rt;
-        text_of(rt.alloc(), text.as_str())?.as_str(),
-        "\"a\" == \"a\""
-    );
-    let text = in_parentheses(rt.alloc(), 65)?;
-    assert_eq!(rt;
-        fault_of(rt.alloc(), text.as_str()),
-        Some(MarkerFault::TooDeep)
-    );
-    let text = repeated(rt.alloc(), "", "('a'=='a') or ", 65, "'a'=='a'")?;
-    assert_eq!(rt; fault_of(rt.alloc(), text.as_str()), None);
-    Ok(())
-}
-
-#[test]
-fn parentheses_and_faults(rt: HostRuntime) -> Result<(), Fail> {
-    let text = repeated(rt.alloc(), "", "(", 64, "+")?;
-    assert_eq!(rt;
-        fault_of(rt.alloc(), text.as_str()),
-        Some(MarkerFault::BadMarker)
-    );
-    let text = repeated(rt.alloc(), "", "(", 65, "+")?;
-    assert_eq!(rt;
-        fault_of(rt.alloc(), text.as_str()),
-        Some(MarkerFault::TooDeep)
-    );
-    for front in ["+", "and ", "'a' ", "'a'=='a' ", "(or "] {
-        let text = repeated(rt.alloc(), front, "(", 65, "+")?;
-        let fault = fault_of(rt.alloc(), text.as_str());
-        assert_eq!(rt; fault, Some(MarkerFault::BadMarker), "behind {front}");
+    for &(count, want) in &[(64, "\"a\" == \"a\""), (65, "refused 27")] {
+        let text = in_parentheses(rt.alloc(), count)?;
+        expect_text(&rt, text.as_str(), want)?;
     }
     Ok(())
 }
 
-#[test]
-fn comparisons(rt: HostRuntime) -> Result<(), Fail> {
-    for part in ["'a'=='a' or ", "'a'=='a' and "] {
-        let text = repeated(rt.alloc(), "", part, 1023, "'a'=='a'")?;
-        assert_eq!(rt; fault_of(rt.alloc(), text.as_str()), None, "of {part}");
-        for behind in ["'a'=='a'", "'a'=='a' +", "('a'=='a'", "'a'=='a' or or"] {
-            let text = repeated(rt.alloc(), "", part, 1024, behind)?;
-            let fault = fault_of(rt.alloc(), text.as_str());
-            assert_eq!(rt; fault, Some(MarkerFault::TooDeep), "at {behind}");
-        }
+// What stands in front, what is repeated and how often, what stands behind, and whether all is a marker.
+type Long<'a> = (&'a str, &'a str, usize, &'a str, &'a str);
+
+const DEEP: [Long; 8] = [
+    ("", "('a'=='a') or ", 65, "'a'=='a'", "read"),
+    ("", "(", 64, "+", "refused 26"),
+    ("", "(", 65, "+", "refused 27"),
+    ("+", "(", 65, "+", "refused 26"),
+    ("and ", "(", 65, "+", "refused 26"),
+    ("'a' ", "(", 65, "+", "refused 26"),
+    ("'a'=='a' ", "(", 65, "+", "refused 26"),
+    ("(or ", "(", 65, "+", "refused 26"),
+];
+
+const COMPARISONS: [Long; 20] = [
+    ("", "'a'=='a' or ", 1023, "'a'=='a'", "read"),
+    ("", "'a'=='a' or ", 1024, "'a'=='a'", "refused 27"),
+    ("", "'a'=='a' or ", 1024, "'a'=='a' +", "refused 27"),
+    ("", "'a'=='a' or ", 1024, "('a'=='a'", "refused 27"),
+    ("", "'a'=='a' or ", 1024, "'a'=='a' or or", "refused 27"),
+    ("", "'a'=='a' and ", 1023, "'a'=='a'", "read"),
+    ("", "'a'=='a' and ", 1024, "'a'=='a'", "refused 27"),
+    ("", "'a'=='a' and ", 1024, "'a'=='a' +", "refused 27"),
+    ("", "'a'=='a' and ", 1024, "('a'=='a'", "refused 27"),
+    ("", "'a'=='a' and ", 1024, "'a'=='a' or or", "refused 27"),
+    ("", "'a'=='a' or ", 1024, "", "refused 26"),
+    ("", "'a'=='a' or ", 1024, "'a'", "refused 26"),
+    ("", "'a'=='a' or ", 1024, "'a'==", "refused 26"),
+    ("", "'a'=='a' or ", 1024, "'a'==)", "refused 26"),
+    ("", "'a'=='a' or ", 1024, "'a' 'a'", "refused 26"),
+    ("", "'a'=='a' or ", 1024, "+", "refused 26"),
+    ("", "'a'=='a' or ", 1024, "or 'a'=='a'", "refused 26"),
+    ("+", "'a'=='a' or ", 1024, "'a'=='a'", "refused 26"),
+    ("'a'== or ", "'a'=='a' or ", 1024, "'a'=='a'", "refused 26"),
+    (") ", "'a'=='a' or ", 1024, "'a'=='a'", "refused 26"),
+];
+
+fn expect_readings(rt: &(impl Abort + AllocGlobal), rows: &[Long]) -> Result<(), AllocError> {
+    for &(front, part, count, behind, want) in rows {
+        let text = repeated(rt.alloc(), front, part, count, behind)?;
+        let line = reading_line(rt.alloc(), text.as_str())?;
+        assert_eq!(rt; line.as_str(), want, "behind {front}, before {behind}");
     }
     Ok(())
 }
 
 #[test]
-fn comparisons_and_faults(rt: HostRuntime) -> Result<(), Fail> {
-    for behind in ["", "'a'", "'a'==", "'a'==)", "'a' 'a'", "+", "or 'a'=='a'"] {
-        let text = repeated(rt.alloc(), "", "'a'=='a' or ", 1024, behind)?;
-        let fault = fault_of(rt.alloc(), text.as_str());
-        assert_eq!(rt; fault, Some(MarkerFault::BadMarker), "at {behind}");
-    }
-    for front in ["+", "'a'== or ", ") "] {
-        let text = repeated(rt.alloc(), front, "'a'=='a' or ", 1024, "'a'=='a'")?;
-        let fault = fault_of(rt.alloc(), text.as_str());
-        assert_eq!(rt; fault, Some(MarkerFault::BadMarker), "behind {front}");
-    }
+fn long_and_deep_texts(rt: HostRuntime) -> Result<(), Fail> {
+    expect_readings(&rt, &DEEP)?;
+    expect_readings(&rt, &COMPARISONS)?;
     Ok(())
 }
 
 #[test]
 fn truth_of_many_comparisons(rt: HostRuntime) -> Result<(), Fail> {
     let machine = Environment::of(rt.alloc(), &MACHINE)?;
-    for (behind, truth) in [("os_name=='posix'", true), ("os_name=='nt'", false)] {
+    for &(behind, truth) in &[("os_name=='posix'", "true"), ("os_name=='nt'", "false")] {
         let text = repeated(rt.alloc(), "", "python_version>='3' and ", 1023, behind)?;
-        let found = truth_of(rt.alloc(), &machine, text.as_str());
-        assert!(rt; found == Ok(truth), "at {behind}");
+        expect_truth(&rt, &machine, text.as_str(), truth)?;
     }
     Ok(())
 }
