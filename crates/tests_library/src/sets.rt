@@ -1,8 +1,8 @@
 //! Sets of clauses: their cuts, with carries at the largest number, and which versions they hold.
 
 use crate::ordered::ORDERED;
-use pep_clause::{Clause, ClauseFault, VersionSet, laws};
-use pep_version::{Key, Phase, Version};
+use pep_clause::{Clause, ClauseFault, Range, VersionSet, laws};
+use pep_version::{Key, Phase, Version, VersionFault};
 use std::alloc::Global;
 use std::process::Abort;
 use std::test::Fail;
@@ -66,111 +66,126 @@ fn set(alloc: Global, text: &str) -> Result<VersionSet, ClauseFault> {
     VersionSet::of(alloc, &Clause::read(alloc, text)?)
 }
 
+// Each range of a set in brackets, behind `none` where the set says that it is empty.
+fn shown(alloc: Global, set: &VersionSet) -> Result<String, ClauseFault> {
+    let mut line = String::from_str(alloc, if set.is_empty() { "none" } else { "" })?;
+    for range in set.ranges() {
+        push_range(alloc, &mut line, range)?;
+    }
+    Ok(line)
+}
+
+fn push_range(alloc: Global, line: &mut String, range: &Range) -> Result<(), ClauseFault> {
+    line.push_str("[")?;
+    range.low().push_text(line)?;
+    line.push_str(" to ")?;
+    range.high().push_text(line)?;
+    line.push_str("]")?;
+    Ok(())
+}
+
+// Numbers of a release, the parts behind them, and whether `>=1.0` and `<1.0` hold the version.
+type Held = (
+    [u64; 2],
+    Option<(Phase, u64)>,
+    Option<u64>,
+    Option<u64>,
+    (bool, bool),
+);
+
+const HELD: [Held; 11] = [
+    ([1, 0], None, None, None, (true, false)),
+    ([1, 1], None, None, None, (true, false)),
+    ([1, 0], None, Some(1), None, (true, false)),
+    ([1, 0], None, Some(1), Some(0), (true, false)),
+    ([1, 1], Some((Phase::Beta, 1)), None, None, (true, false)),
+    ([1, 0], Some((Phase::Beta, 1)), None, None, (false, false)),
+    ([1, 0], None, None, Some(0), (false, false)),
+    ([0, 9], None, None, None, (false, true)),
+    ([0, 9], None, Some(3), None, (false, true)),
+    ([0, 9], Some((Phase::Beta, 1)), None, None, (false, true)),
+    ([0, 0], None, None, Some(0), (false, true)),
+];
+
 // The place of a version of two release numbers.
-fn key(
+fn place(
     alloc: Global,
-    release: [u64; 2],
+    release: &[u64],
     pre: Option<(Phase, u64)>,
     post: Option<u64>,
     dev: Option<u64>,
-) -> Result<Key, ClauseFault> {
-    let numbers = Vec::from_slice(alloc, &release)?;
+) -> Result<Key, VersionFault> {
+    let numbers = Vec::from_slice(alloc, release)?;
     let version = Version::of_parts(0, numbers, pre, post, dev, Vec::new(alloc));
-    Ok(Key::of(alloc, &version.ok_or(ClauseFault::BadVersion)?)?)
+    Key::of(alloc, &version.ok_or(VersionFault::NotAVersion)?)
 }
 
-// The texts of a set's cuts are these.
-fn expect_cuts(
-    rt: &impl Abort,
-    alloc: Global,
-    set: &VersionSet,
-    wanted: &[&str],
-) -> Result<(), ClauseFault> {
-    let mut texts = Vec::new(alloc);
-    for range in set.ranges() {
-        texts.push(range.low().text(alloc)?)?;
-        texts.push(range.high().text(alloc)?)?;
-    }
-    assert_eq!(rt; texts.len(), wanted.len());
-    for (text, want) in texts.iter().zip(wanted) {
-        assert_eq!(rt; text.as_str(), *want);
-    }
-    Ok(())
-}
-
-// Which of `>=1.0` and `<1.0` admit each.
 #[test]
 fn holds_what_a_clause_admits(rt: HostRuntime) -> Result<(), Fail> {
-    let alloc = rt.alloc();
-    let from = set(alloc, ">=1.0")?;
-    let below = set(alloc, "<1.0")?;
-    let beta = Some((Phase::Beta, 1));
-    for &(release, pre, post, dev, in_from, in_below) in &[
-        ([1, 0], None, None, None, true, false),
-        ([1, 1], None, None, None, true, false),
-        ([1, 0], None, Some(1), None, true, false),
-        ([1, 0], None, Some(1), Some(0), true, false),
-        ([1, 1], beta, None, None, true, false),
-        ([1, 0], beta, None, None, false, false),
-        ([1, 0], None, None, Some(0), false, false),
-        ([0, 9], None, None, None, false, true),
-        ([0, 9], None, Some(3), None, false, true),
-        ([0, 9], beta, None, None, false, true),
-        ([0, 0], None, None, Some(0), false, true),
-    ] {
-        let key = key(alloc, release, pre, post, dev)?;
-        assert_eq!(rt; from.contains(&key), in_from, "`>=` at {release:?}");
-        assert_eq!(rt; below.contains(&key), in_below, "`<` at {release:?}");
+    let (from, below) = (set(rt.alloc(), ">=1.0")?, set(rt.alloc(), "<1.0")?);
+    for &(release, pre, post, dev, want) in &HELD {
+        let key = place(rt.alloc(), release.as_slice(), pre, post, dev)?;
+        assert_eq!(rt;
+            (from.contains(&key), below.contains(&key)),
+            want,
+            "at {release:?}"
+        );
     }
     Ok(())
 }
 
-#[test]
-fn writes_cuts(rt: HostRuntime) -> Result<(), Fail> {
-    let alloc = rt.alloc();
-    expect_cuts(&rt, alloc, &set(alloc, ">=1.0")?, &["before 1", "end"])?;
-    expect_cuts(
-        &rt,
-        alloc,
-        &set(alloc, "<0.10")?,
-        &["before 0.dev0", "before 0.10.dev0"],
-    )?;
-    expect_cuts(
-        &rt,
-        alloc,
-        &VersionSet::all(alloc)?,
-        &["before 0.dev0", "end"],
-    )?;
-    expect_cuts(&rt, alloc, &VersionSet::none(alloc), &[])?;
-    Ok(())
+// Clauses, and their ranges.
+const RANGES: [(&str, &str); 13] = [
+    (">=1.0", "[before 1 to end]"),
+    ("<0.10", "[before 0.dev0 to before 0.10.dev0]"),
+    ("~=1.4.5a4", "[before 1.4.5a4 to before 1.5.dev0]"),
+    (
+        "==1.18446744073709551615.*",
+        "[before 1.18446744073709551615.dev0 to before 2.dev0]",
+    ),
+    (
+        "==18446744073709551615!18446744073709551615.*",
+        "[before 18446744073709551615!18446744073709551615.dev0 to end]",
+    ),
+    ("==1.0+x", "[before 1+x to after 1+x]"),
+    ("===1.0", "[before 0.dev0 to end]"),
+    ("!=0.dev0", "[before 0.dev1 to end]"),
+    (
+        "<=1.0.post18446744073709551615",
+        "[before 0.dev0 to past 1]",
+    ),
+    ("<1.0.post1", "[before 0.dev0 to before 1.post1.dev0]"),
+    (">1.7", "[past 1.7 to end]"),
+    (">1.0rc18446744073709551615", "[before 1 to end]"),
+    (
+        "!=1.0",
+        "[before 0.dev0 to before 1][before 1.post0.dev0 to end]",
+    ),
+];
+
+fn ranges_line(alloc: Global, clause: &str) -> Result<String, ClauseFault> {
+    shown(alloc, &set(alloc, clause)?)
 }
 
 #[test]
 fn ranges_of_clauses(rt: HostRuntime) -> Result<(), Fail> {
-    for &(clause, low, high) in &[
-        ("~=1.4.5a4", "before 1.4.5a4", "before 1.5.dev0"),
-        (
-            "==1.18446744073709551615.*",
-            "before 1.18446744073709551615.dev0",
-            "before 2.dev0",
-        ),
-        (
-            "==18446744073709551615!18446744073709551615.*",
-            "before 18446744073709551615!18446744073709551615.dev0",
-            "end",
-        ),
-        ("==1.0+x", "before 1+x", "after 1+x"),
-        ("===1.0", "before 0.dev0", "end"),
-        ("!=0.dev0", "before 0.dev1", "end"),
-        ("<=1.0.post18446744073709551615", "before 0.dev0", "past 1"),
-        ("<1.0.post1", "before 0.dev0", "before 1.post1.dev0"),
-        (">1.7", "past 1.7", "end"),
-        (">1.0rc18446744073709551615", "before 1", "end"),
-    ] {
-        expect_cuts(&rt, rt.alloc(), &set(rt.alloc(), clause)?, &[low, high])?;
+    for &(clause, want) in &RANGES {
+        let line = ranges_line(rt.alloc(), clause)?;
+        assert_eq!(rt; line.as_str(), want, "of {clause}");
     }
-    let outside = ["before 0.dev0", "before 1", "before 1.post0.dev0", "end"];
-    expect_cuts(&rt, rt.alloc(), &set(rt.alloc(), "!=1.0")?, &outside)?;
+    Ok(())
+}
+
+fn all_line(alloc: Global) -> Result<String, ClauseFault> {
+    shown(alloc, &VersionSet::all(alloc)?)
+}
+
+#[test]
+fn ranges_of_all_and_none(rt: HostRuntime) -> Result<(), Fail> {
+    let line = all_line(rt.alloc())?;
+    assert_eq!(rt; line.as_str(), "[before 0.dev0 to end]");
+    let line = shown(rt.alloc(), &VersionSet::none(rt.alloc()))?;
+    assert_eq!(rt; line.as_str(), "none");
     Ok(())
 }
 
@@ -178,8 +193,7 @@ fn ranges_of_clauses(rt: HostRuntime) -> Result<(), Fail> {
 fn joined(alloc: Global, clauses: &[&str]) -> Result<VersionSet, ClauseFault> {
     let mut joined = VersionSet::all(alloc)?;
     for clause in clauses {
-        let other = set(alloc, clause)?;
-        joined = joined.joined(alloc, &other)?;
+        joined = joined.joined(alloc, &set(alloc, clause)?)?;
     }
     Ok(joined)
 }
@@ -188,8 +202,7 @@ fn joined(alloc: Global, clauses: &[&str]) -> Result<VersionSet, ClauseFault> {
 fn kept(alloc: Global, clauses: &[&str]) -> Result<VersionSet, ClauseFault> {
     let mut kept = VersionSet::all(alloc)?;
     for clause in clauses {
-        let other = set(alloc, clause)?;
-        kept.join(alloc, &other)?;
+        kept.join(alloc, &set(alloc, clause)?)?;
     }
     Ok(kept)
 }
@@ -198,103 +211,113 @@ fn kept(alloc: Global, clauses: &[&str]) -> Result<VersionSet, ClauseFault> {
 fn common(alloc: Global, clauses: &[&str]) -> Result<VersionSet, ClauseFault> {
     let mut common = VersionSet::all(alloc)?;
     for clause in clauses {
-        let other = set(alloc, clause)?;
-        common = common.common(alloc, other)?;
+        common = common.common(alloc, set(alloc, clause)?)?;
     }
     Ok(common)
 }
 
-// Clauses, and the cuts of their set.
-type Row<'a> = (&'a [&'a str], &'a [&'a str]);
-
-const JOINED: [Row; 10] = [
-    (&["<0"], &[]),
-    (&[">=1"], &["before 1", "end"]),
-    (&[">=1", ">=0.5"], &["before 1", "end"]),
-    (&[">=1", "<2"], &["before 1", "before 2.dev0"]),
-    (&[">=1", ">=0.5", "<2"], &["before 1", "before 2.dev0"]),
-    (&[">=1", "<2", "<3"], &["before 1", "before 2.dev0"]),
-    (&[">=1", "<2", ">=1.5"], &["before 1.5", "before 2.dev0"]),
-    (&[">=1", "<2", "<3", ">=2"], &[]),
-    (&[">=1", "<2", ">=1.5", ">=2"], &[]),
+// Clauses, and the ranges of their set.
+const JOINED: [(&[&str], &str); 10] = [
+    (&["<0"], "none"),
+    (&[">=1"], "[before 1 to end]"),
+    (&[">=1", ">=0.5"], "[before 1 to end]"),
+    (&[">=1", "<2"], "[before 1 to before 2.dev0]"),
+    (&[">=1", ">=0.5", "<2"], "[before 1 to before 2.dev0]"),
+    (&[">=1", "<2", "<3"], "[before 1 to before 2.dev0]"),
+    (&[">=1", "<2", ">=1.5"], "[before 1.5 to before 2.dev0]"),
+    (&[">=1", "<2", "<3", ">=2"], "none"),
+    (&[">=1", "<2", ">=1.5", ">=2"], "none"),
     (
         &[">=1", "<2", ">=1.5", "===x"],
-        &["before 1.5", "before 2.dev0"],
+        "[before 1.5 to before 2.dev0]",
     ),
 ];
 
+fn joined_line(alloc: Global, clauses: &[&str]) -> Result<String, ClauseFault> {
+    shown(alloc, &joined(alloc, clauses)?)
+}
+
+fn kept_line(alloc: Global, clauses: &[&str]) -> Result<String, ClauseFault> {
+    shown(alloc, &kept(alloc, clauses)?)
+}
+
+fn common_line(alloc: Global, clauses: &[&str]) -> Result<String, ClauseFault> {
+    shown(alloc, &common(alloc, clauses)?)
+}
+
+fn copied_line(alloc: Global, clauses: &[&str]) -> Result<String, ClauseFault> {
+    shown(alloc, &joined(alloc, clauses)?.copied(alloc)?)
+}
+
 #[test]
 fn joins(rt: HostRuntime) -> Result<(), Fail> {
-    for &(clauses, cuts) in &JOINED {
-        let set = joined(rt.alloc(), clauses)?;
-        assert_eq!(rt; set.is_empty(), cuts.is_empty());
-        expect_cuts(&rt, rt.alloc(), &set, cuts)?;
+    for &(clauses, want) in &JOINED {
+        let line = joined_line(rt.alloc(), clauses)?;
+        assert_eq!(rt; line.as_str(), want, "joined: {clauses:?}");
+        let line = kept_line(rt.alloc(), clauses)?;
+        assert_eq!(rt; line.as_str(), want, "in place: {clauses:?}");
     }
     Ok(())
 }
 
 #[test]
-fn joins_in_place(rt: HostRuntime) -> Result<(), Fail> {
-    for &(clauses, cuts) in &JOINED {
-        let set = kept(rt.alloc(), clauses)?;
-        assert_eq!(rt; set.is_empty(), cuts.is_empty());
-        expect_cuts(&rt, rt.alloc(), &set, cuts)?;
+fn uses_up_and_copies(rt: HostRuntime) -> Result<(), Fail> {
+    for &(clauses, want) in &JOINED {
+        let line = common_line(rt.alloc(), clauses)?;
+        assert_eq!(rt; line.as_str(), want, "used up: {clauses:?}");
+        let line = copied_line(rt.alloc(), clauses)?;
+        assert_eq!(rt; line.as_str(), want, "copied: {clauses:?}");
     }
     Ok(())
 }
 
-#[test]
-fn joins_and_uses_up(rt: HostRuntime) -> Result<(), Fail> {
-    for &(clauses, cuts) in &JOINED {
-        let set = common(rt.alloc(), clauses)?;
-        assert_eq!(rt; set.is_empty(), cuts.is_empty());
-        expect_cuts(&rt, rt.alloc(), &set, cuts)?;
-    }
-    Ok(())
-}
-
-#[test]
-fn copies_sets(rt: HostRuntime) -> Result<(), Fail> {
-    for &(clauses, cuts) in &JOINED {
-        let copy = joined(rt.alloc(), clauses)?.copied(rt.alloc())?;
-        expect_cuts(&rt, rt.alloc(), &copy, cuts)?;
-    }
-    Ok(())
+// The ranges of the join of two sets, whether it is that of none, and whether the two differ.
+fn between_line(alloc: Global, above: &str, below: &str) -> Result<String, ClauseFault> {
+    let (above, below) = (set(alloc, above)?, set(alloc, below)?);
+    let both = above.joined(alloc, &below)?;
+    let (is_none, differ) = (both == VersionSet::none(alloc), above != below);
+    let ranges = shown(alloc, &both)?;
+    Ok(format!(in alloc; "{ranges} {is_none} {differ}")?)
 }
 
 // `>1.0a5` leaves the post-releases of `1.0a5` out, so nothing is left below `1.0a6.dev0`.
 #[test]
 fn none_between(rt: HostRuntime) -> Result<(), Fail> {
-    let alloc = rt.alloc();
-    let above = set(alloc, ">1.0a5")?;
-    let below = set(alloc, "<1.0a6.dev0")?;
-    let both = above.joined(alloc, &below)?;
-    assert!(rt; both.is_empty() && both == VersionSet::none(alloc) && above != below);
-    assert!(rt; both.ranges().is_empty(), "no range is left");
+    let line = between_line(rt.alloc(), ">1.0a5", "<1.0a6.dev0")?;
+    assert_eq!(rt; line.as_str(), "none true true");
     Ok(())
+}
+
+fn expect_all_and_none(rt: &impl Abort, all: &VersionSet, none: &VersionSet, keys: &[Key]) {
+    for key in keys {
+        assert!(rt; all.contains(key) && !none.contains(key));
+    }
+    assert!(rt; none.is_empty() && !all.is_empty() && all != none);
 }
 
 // Every version is in the set of all, and none in the set of none.
 #[test]
 fn all_and_none(rt: HostRuntime) -> Result<(), Fail> {
-    let alloc = rt.alloc();
-    let (all, none) = (VersionSet::all(alloc)?, VersionSet::none(alloc));
-    for version in &candidates(alloc)? {
-        let key = Key::of(alloc, version)?;
-        assert!(rt; all.contains(&key) && !none.contains(&key));
-    }
-    assert!(rt; none.is_empty() && !all.is_empty() && all != none);
+    let keys = keys(rt.alloc())?;
+    let (all, none) = (VersionSet::all(rt.alloc())?, VersionSet::none(rt.alloc()));
+    expect_all_and_none(&rt, &all, &none, keys.as_slice());
     Ok(())
+}
+
+// A range, whether its copy begins below its end, and whether the copy is equal to it.
+fn copied_range_line(alloc: Global, range: &Range) -> Result<String, ClauseFault> {
+    let copy = range.copied(alloc)?;
+    let (is_below, is_same) = (copy.low() < range.high(), copy == *range);
+    Ok(format!(in alloc; "{is_below} {is_same}")?)
 }
 
 #[test]
 fn copies_ranges(rt: HostRuntime) -> Result<(), Fail> {
-    let alloc = rt.alloc();
-    let range = set(alloc, ">=3.8")?;
-    assert_eq!(rt; range.ranges().len(), 1);
-    for range in range.ranges() {
-        let copy = range.copied(alloc)?;
-        assert!(rt; copy.low() < range.high() && copy == *range);
+    let set = set(rt.alloc(), ">=3.8")?;
+    assert_eq!(rt; set.ranges().len(), 1);
+    for range in set.ranges() {
+        let line = copied_range_line(rt.alloc(), range)?;
+        assert_eq!(rt; line.as_str(), "true true");
     }
     Ok(())
 }
@@ -306,75 +329,120 @@ fn laws_of_sets() {
     laws::place_is_in();
 }
 
+// ---- all clauses of the operands, and versions near them
+
+// Appends the clause with this text, if there is one.
+fn push_clause(alloc: Global, clauses: &mut Vec<Clause>, text: &str) -> Result<(), ClauseFault> {
+    if let Ok(clause) = Clause::read(alloc, text) {
+        clauses.push(clause)?;
+    }
+    Ok(())
+}
+
+// Appends the clauses of an operator and an operand, alone and with `.*`.
+fn push_both(
+    alloc: Global,
+    clauses: &mut Vec<Clause>,
+    operator: &str,
+    operand: &str,
+) -> Result<(), ClauseFault> {
+    let text = format!(in alloc; "{operator}{operand}")?;
+    push_clause(alloc, clauses, text.as_str())?;
+    let text = format!(in alloc; "{operator}{operand}.*")?;
+    push_clause(alloc, clauses, text.as_str())
+}
+
 fn clauses(alloc: Global) -> Result<Vec<Clause>, ClauseFault> {
     let mut clauses = Vec::new(alloc);
-    for &operator in &OPERATORS {
-        for &operand in &OPERANDS {
-            for &star in &["", ".*"] {
-                let text = format!(in alloc; "{operator}{operand}{star}")?;
-                if let Ok(clause) = Clause::read(alloc, text.as_str()) {
-                    clauses.push(clause)?;
-                }
-            }
+    for operator in &OPERATORS {
+        for operand in &OPERANDS {
+            push_both(alloc, &mut clauses, operator, operand)?;
         }
     }
     Ok(clauses)
 }
 
-fn candidates(alloc: Global) -> Result<Vec<Version>, ClauseFault> {
-    let mut versions = Vec::new(alloc);
-    for text in ORDERED.iter().chain(NEAR.iter()) {
-        versions.push(Version::read(alloc, text)?)?;
-    }
-    for &operand in &OPERANDS {
-        for &ending in &ENDINGS {
-            let text = format!(in alloc; "{operand}{ending}")?;
-            if let Ok(version) = Version::read(alloc, text.as_str()) {
-                versions.push(version)?;
-            }
-        }
-    }
-    Ok(versions)
-}
-
-// The clause's set holds the versions that it admits; where it demands a text, all.
-fn expect_admitted(
-    rt: &impl Abort,
+// Appends the version with this text, if there is one.
+fn push_version(
     alloc: Global,
-    clause: &Clause,
-    versions: &[Version],
-) -> Result<(), ClauseFault> {
-    let set = VersionSet::of(alloc, clause)?;
-    let shown = clause.text(alloc)?;
-    for version in versions {
-        let is_held = set.contains(&Key::of(alloc, version)?);
-        let is_wanted = clause.exact_text().is_some() || clause.admits(alloc, version)?;
-        let candidate = version.text(alloc)?;
-        assert_eq!(rt; is_held, is_wanted, "{shown} at {candidate}");
+    versions: &mut Vec<Version>,
+    text: &str,
+) -> Result<(), VersionFault> {
+    if let Ok(version) = Version::read(alloc, text) {
+        versions.push(version)?;
     }
     Ok(())
 }
 
+fn push_near(
+    alloc: Global,
+    versions: &mut Vec<Version>,
+    operand: &str,
+) -> Result<(), VersionFault> {
+    for ending in &ENDINGS {
+        let text = format!(in alloc; "{operand}{ending}")?;
+        push_version(alloc, versions, text.as_str())?;
+    }
+    Ok(())
+}
+
+fn candidates(alloc: Global) -> Result<Vec<Version>, VersionFault> {
+    let mut versions = Vec::new(alloc);
+    for text in ORDERED.iter().chain(NEAR.iter()) {
+        versions.push(Version::read(alloc, text)?)?;
+    }
+    for operand in &OPERANDS {
+        push_near(alloc, &mut versions, operand)?;
+    }
+    Ok(versions)
+}
+
+fn keys(alloc: Global) -> Result<Vec<Key>, VersionFault> {
+    let mut keys = Vec::new(alloc);
+    for version in &candidates(alloc)? {
+        keys.push(Key::of(alloc, version)?)?;
+    }
+    Ok(keys)
+}
+
+// Whether the clause admits a version; where it demands a text, all.
+fn is_wanted(alloc: Global, clause: &Clause, version: &Version) -> Result<bool, ClauseFault> {
+    Ok(clause.exact_text().is_some() || clause.admits(alloc, version)?)
+}
+
+// The clause's set holds the versions that it admits.
+fn expect_admitted(
+    rt: &(impl Abort + AllocGlobal),
+    clause: &Clause,
+    versions: &[Version],
+) -> Result<(), ClauseFault> {
+    let set = VersionSet::of(rt.alloc(), clause)?;
+    let shown = clause.text(rt.alloc())?;
+    for (i, version) in versions.iter().enumerate() {
+        let is_held = set.contains(&Key::of(rt.alloc(), version)?);
+        assert_eq!(rt;
+            is_held,
+            is_wanted(rt.alloc(), clause, version)?,
+            "{shown} at candidate {i}"
+        );
+    }
+    Ok(())
+}
+
+// `==` and `!=` take all 27 operands and 8 prefixes, `~=` the 21 of two numbers or more without
+// a label, `===` all of both forms, the others the 25 without a label.
+const CLAUSES: usize = 2 * (27 + 8) + 21 + 2 * 27 + 4 * 25;
+
+// 8 operands take all 6 endings, 5 pre-releases and 2 labels 5, 5 post-releases 3, 7
+// developmental releases 2.
+const CANDIDATES: usize = 41 + 8 * 6 + 7 * 5 + 5 * 3 + 7 * 2;
+
 #[test]
 fn sets_hold_what_clauses_admit(rt: HostRuntime) -> Result<(), Fail> {
-    let alloc = rt.alloc();
-    let (clauses, versions) = (clauses(alloc)?, candidates(alloc)?);
-    // `==` and `!=` take all 27 operands and 8 prefixes, `~=` the 21 of two numbers or more without
-    // a label, `===` all of both forms, the others the 25 without a label.
-    assert_eq!(rt;
-        clauses.len(),
-        2 * (27 + 8) + 21 + 2 * 27 + 4 * 25,
-        "clauses"
-    );
-    // 8 operands take all 6 endings, 5 pre-releases and 2 labels 5, 5 post-releases 3, 7
-    // developmental releases 2.
-    assert_eq!(rt;
-        versions.len(),
-        41 + 8 * 6 + 7 * 5 + 5 * 3 + 7 * 2,
-        "candidates"
-    );
+    let (clauses, versions) = (clauses(rt.alloc())?, candidates(rt.alloc())?);
+    assert_eq!(rt; (clauses.len(), versions.len()), (CLAUSES, CANDIDATES));
     for clause in &clauses {
-        expect_admitted(&rt, alloc, clause, versions.as_slice())?;
+        expect_admitted(&rt, clause, versions.as_slice())?;
     }
     Ok(())
 }
@@ -392,29 +460,42 @@ fn expect_joined(
     }
 }
 
-fn keys(alloc: Global) -> Result<Vec<Key>, ClauseFault> {
-    let mut keys = Vec::new(alloc);
-    for version in &candidates(alloc)? {
-        keys.push(Key::of(alloc, version)?)?;
-    }
-    Ok(keys)
+// Whether two sets have this join where copies of them are used up.
+fn is_common(
+    alloc: Global,
+    (first, second): (&VersionSet, &VersionSet),
+    both: &VersionSet,
+) -> Result<bool, ClauseFault> {
+    let common = first.copied(alloc)?.common(alloc, second.copied(alloc)?)?;
+    Ok(common == *both)
 }
+
+// Asserts what three ways of joining the sets of two clauses give.
+fn expect_joins(
+    rt: &(impl Abort + AllocGlobal),
+    (first, second): (&str, &str),
+    keys: &[Key],
+) -> Result<(), ClauseFault> {
+    let (mut first, second) = (set(rt.alloc(), first)?, set(rt.alloc(), second)?);
+    let both = first.joined(rt.alloc(), &second)?;
+    expect_joined(rt, (&first, &second), &both, keys);
+    assert!(rt; is_common(rt.alloc(), (&first, &second), &both)?);
+    first.join(rt.alloc(), &second)?;
+    assert!(rt; first == both);
+    Ok(())
+}
+
+const PAIRS: [(&str, &str); 3] = [
+    ("!=1.0", "!=1.0a1.post0"),
+    (">=1.0a1.dev1", "!=1.0.*"),
+    ("!=1.0+x", "~=1.0rc1"),
+];
 
 #[test]
 fn joined_sets_hold_what_both_hold(rt: HostRuntime) -> Result<(), Fail> {
-    let alloc = rt.alloc();
-    let keys = keys(alloc)?;
-    for &(first, second) in &[
-        ("!=1.0", "!=1.0a1.post0"),
-        (">=1.0a1.dev1", "!=1.0.*"),
-        ("!=1.0+x", "~=1.0rc1"),
-    ] {
-        let (mut first, second) = (set(alloc, first)?, set(alloc, second)?);
-        let both = first.joined(alloc, &second)?;
-        expect_joined(&rt, (&first, &second), &both, keys.as_slice());
-        assert!(rt; first.copied(alloc)?.common(alloc, second.copied(alloc)?)? == both);
-        first.join(alloc, &second)?;
-        assert!(rt; first == both);
+    let keys = keys(rt.alloc())?;
+    for &pair in &PAIRS {
+        expect_joins(&rt, pair, keys.as_slice())?;
     }
     Ok(())
 }
