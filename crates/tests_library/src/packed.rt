@@ -4,6 +4,7 @@ use crate::ordered::ORDERED;
 use pep_clause::{ClauseFault, Cut, Range, VersionSet};
 use pep_version::{Key, Version, VersionFault};
 use std::alloc::{AllocError, Global};
+use std::cmp::Ordering;
 use std::process::Abort;
 use std::test::Fail;
 
@@ -60,21 +61,46 @@ fn key_line(alloc: Global, text: &str) -> Result<String, VersionFault> {
 }
 
 // The same of the key that is read from the bytes, if it is that key.
-fn read_line(alloc: Global, text: &str) -> Result<String, VersionFault> {
-    let key = key(alloc, text)?;
-    match Key::read(alloc, key.bytes())? {
-        Some(read) if read == key => shown(alloc, &read),
-        _ => Ok(String::from_str(alloc, "another")?),
+fn shown_read(alloc: Global, key: &Key, read: &Key) -> Result<String, VersionFault> {
+    if read == key {
+        shown(alloc, read)
+    } else {
+        Ok(String::from_str(alloc, "another")?)
     }
+}
+
+fn shown_of_bytes(alloc: Global, key: &Key) -> Result<String, VersionFault> {
+    match Key::read(alloc, key.bytes())? {
+        Some(read) => shown_read(alloc, key, &read),
+        None => Ok(String::from_str(alloc, "no key")?),
+    }
+}
+
+fn read_line(alloc: Global, text: &str) -> Result<String, VersionFault> {
+    shown_of_bytes(alloc, &key(alloc, text)?)
+}
+
+fn expect_key(rt: &(impl Abort + AllocGlobal), text: &str, want: &str) -> Result<(), VersionFault> {
+    let line = key_line(rt.alloc(), text)?;
+    assert_eq!(rt; line.as_str(), want, "of {text}");
+    Ok(())
+}
+
+fn expect_read(
+    rt: &(impl Abort + AllocGlobal),
+    text: &str,
+    want: &str,
+) -> Result<(), VersionFault> {
+    let line = read_line(rt.alloc(), text)?;
+    assert_eq!(rt; line.as_str(), want, "read of {text}");
+    Ok(())
 }
 
 #[test]
 fn keys(rt: HostRuntime) -> Result<(), Fail> {
     for &(text, want) in &KEYS {
-        let line = key_line(rt.alloc(), text)?;
-        assert_eq!(rt; line.as_str(), want, "of {text}");
-        let line = read_line(rt.alloc(), text)?;
-        assert_eq!(rt; line.as_str(), want, "read of {text}");
+        expect_key(&rt, text, want)?;
+        expect_read(&rt, text, want)?;
     }
     Ok(())
 }
@@ -90,15 +116,26 @@ const SIZES: [(&str, &str); 7] = [
     ("18446744073709551615!18446744073709551615b0", "30 "),
 ];
 
+fn is_key(alloc: Global, bytes: &[u8]) -> Result<bool, VersionFault> {
+    Ok(Key::read(alloc, bytes)?.is_some())
+}
+
+// Appends how many bytes there are, if they are a key.
+fn push_size(alloc: Global, line: &mut String, bytes: &[u8]) -> Result<(), VersionFault> {
+    if is_key(alloc, bytes)? {
+        let size = format!(in alloc; "{} ", bytes.len())?;
+        line.push_str(size.as_str())?;
+    }
+    Ok(())
+}
+
 // How many bytes each of the bytes' beginnings has that is a key.
 fn sizes_of_keys(alloc: Global, bytes: &[u8]) -> Result<String, VersionFault> {
     let mut some = Vec::new(alloc);
     let mut line = String::new(alloc);
     for byte in bytes {
         some.push(*byte)?;
-        if Key::read(alloc, some.as_slice())?.is_some() {
-            line.push_str(format!(in alloc; "{} ", some.len())?.as_str())?;
-        }
+        push_size(alloc, &mut line, some.as_slice())?;
     }
     Ok(line)
 }
@@ -121,12 +158,12 @@ fn beginnings_are_no_keys(rt: HostRuntime) -> Result<(), Fail> {
         let line = sizes_line(rt.alloc(), text)?;
         assert_eq!(rt; line.as_str(), want, "of {text}");
     }
-    assert!(rt; Key::read(rt.alloc(), b"")?.is_none());
     Ok(())
 }
 
-// A zero at the end of a release, another mark of a part, and words that no version has.
-const NO_KEYS: [&[u8]; 9] = [
+// None, a zero at the end of a release, another mark of a part, and words that no version has.
+const NO_KEYS: [&[u8]; 10] = [
+    b"",
     b"\x00\x00\x00\x00\x00\x00\x00\x00\x01\x00\x00\x00\x00\x00\x00\x00\x00\x00\x50\x00\x01\x00",
     b"\x00\x00\x00\x00\x00\x00\x00\x00\x02\x00\x00\x00\x00\x00\x00\x00\x01\x00\x50\x00\x01\x00",
     b"\x00\x00\x00\x00\x00\x00\x00\x00\x00\x60\x00\x01\x00",
@@ -141,7 +178,7 @@ const NO_KEYS: [&[u8]; 9] = [
 #[test]
 fn other_bytes_are_no_keys(rt: HostRuntime) -> Result<(), Fail> {
     for bytes in &NO_KEYS {
-        assert!(rt; Key::read(rt.alloc(), bytes)?.is_none(), "of {bytes:?}");
+        assert!(rt; !is_key(rt.alloc(), bytes)?, "of {bytes:?}");
     }
     Ok(())
 }
@@ -179,16 +216,18 @@ fn cut_line(alloc: Global, text: &str) -> Result<String, ClauseFault> {
 }
 
 // The same of the cut's copy, if it is equal to the cut.
+fn shown_copy(alloc: Global, cut: &Cut) -> Result<String, ClauseFault> {
+    let copy = cut.copied(alloc)?;
+    if copy == *cut {
+        shown_cut(alloc, &copy)
+    } else {
+        Ok(String::from_str(alloc, "another")?)
+    }
+}
+
 fn copied_cut_line(alloc: Global, text: &str) -> Result<String, ClauseFault> {
     match Cut::read(alloc, text)? {
-        Some(cut) => {
-            let copy = cut.copied(alloc)?;
-            if copy == cut {
-                shown_cut(alloc, &copy)
-            } else {
-                Ok(String::from_str(alloc, "another")?)
-            }
-        }
+        Some(cut) => shown_copy(alloc, &cut),
         None => Ok(String::from_str(alloc, "no cut")?),
     }
 }
@@ -310,16 +349,15 @@ const GROWING: [(&str, &str); 8] = [
 ];
 
 // Whether a key is below another, and its bytes below those of the other.
-fn order_line(alloc: Global, below: &str, text: &str) -> Result<String, VersionFault> {
-    let (below, one) = (key(alloc, below)?, key(alloc, text)?);
+fn order_line(alloc: Global, below: &Key, one: &Key) -> Result<String, VersionFault> {
     let (keys, bytes) = (below < one, below.bytes() < one.bytes());
     Ok(format!(in alloc; "{keys} {bytes}")?)
 }
 
 // Whether a key's bytes are read as a copy of it.
-fn is_read_as_copy(alloc: Global, text: &str) -> Result<bool, VersionFault> {
-    let one = key(alloc, text)?;
-    Ok(Key::read(alloc, one.bytes())? == Some(one.copied(alloc)?))
+fn is_read_as_copy(alloc: Global, one: &Key) -> Result<bool, VersionFault> {
+    let copy = one.copied(alloc)?;
+    Ok(Key::read(alloc, one.bytes())? == Some(copy))
 }
 
 // The set of all versions from one cut to another.
@@ -338,21 +376,30 @@ fn set_from(alloc: Global, key: &Key) -> Result<VersionSet, ClauseFault> {
 }
 
 // Whether the set from a key on holds it, and whether it holds the one below.
-fn from_line(alloc: Global, below: &str, text: &str) -> Result<String, ClauseFault> {
-    let (below, one) = (key(alloc, below)?, key(alloc, text)?);
-    let set = set_from(alloc, &one)?;
-    let (own, other) = (set.contains(&one), set.contains(&below));
+fn from_line(alloc: Global, below: &Key, one: &Key) -> Result<String, ClauseFault> {
+    let set = set_from(alloc, one)?;
+    let (own, other) = (set.contains(one), set.contains(below));
     Ok(format!(in alloc; "{own} {other}")?)
+}
+
+fn expect_growing(
+    rt: &(impl Abort + AllocGlobal),
+    below: &Key,
+    one: &Key,
+) -> Result<(), ClauseFault> {
+    let line = order_line(rt.alloc(), below, one)?;
+    assert_eq!(rt; line.as_str(), "true true");
+    let line = from_line(rt.alloc(), below, one)?;
+    assert_eq!(rt; line.as_str(), "true false");
+    Ok(())
 }
 
 #[test]
 fn long_and_short(rt: HostRuntime) -> Result<(), Fail> {
     for &(below, text) in &GROWING {
-        let line = order_line(rt.alloc(), below, text)?;
-        assert_eq!(rt; line.as_str(), "true true", "of {text}");
-        assert!(rt; is_read_as_copy(rt.alloc(), text)?, "of {text}");
-        let line = from_line(rt.alloc(), below, text)?;
-        assert_eq!(rt; line.as_str(), "true false", "of {text}");
+        let one = key(rt.alloc(), text)?;
+        expect_growing(&rt, &key(rt.alloc(), below)?, &one)?;
+        assert!(rt; is_read_as_copy(rt.alloc(), &one)?, "of {text}");
     }
     Ok(())
 }
@@ -366,52 +413,84 @@ fn labelled(alloc: Global, letters: usize) -> Result<String, AllocError> {
     Ok(text)
 }
 
-// How many bytes a key has, whether it is read from them, and whether what is read has an equal copy.
-fn size_line(alloc: Global, text: &str) -> Result<String, VersionFault> {
-    let one = key(alloc, text)?;
-    let size = one.bytes().len();
-    match Key::read(alloc, one.bytes())? {
-        Some(read) => {
-            let (is_read, is_copied) = (read == one, read.copied(alloc)? == one);
-            Ok(format!(in alloc; "{size} {is_read} {is_copied}")?)
-        }
+fn has_copy(alloc: Global, key: &Key) -> Result<bool, VersionFault> {
+    Ok(key.copied(alloc)? == *key)
+}
+
+// How many bytes a key has, whether this one is read from them, and whether it has an equal copy.
+fn sizes_of_key(alloc: Global, key: &Key, read: &Key) -> Result<String, VersionFault> {
+    let (size, is_read) = (key.bytes().len(), read == key);
+    let is_copied = has_copy(alloc, read)?;
+    Ok(format!(in alloc; "{size} {is_read} {is_copied}")?)
+}
+
+fn size_line(alloc: Global, key: &Key) -> Result<String, VersionFault> {
+    match Key::read(alloc, key.bytes())? {
+        Some(read) => sizes_of_key(alloc, key, &read),
         None => Ok(String::from_str(alloc, "no key")?),
     }
 }
 
-// Of the cut with a text: whether its bytes begin with those of the key, how many it has, whether it
-// has an equal copy, and its text.
+fn cut_has_copy(alloc: Global, cut: &Cut) -> Result<bool, ClauseFault> {
+    Ok(cut.copied(alloc)? == *cut)
+}
+
+// Of a cut: whether its bytes begin with those of the key, how many it has, whether it has an equal
+// copy, and its text.
 fn sizes_of_cut(alloc: Global, cut: &Cut, key: &Key) -> Result<String, ClauseFault> {
     let (is_front, size) = (cut.bytes().starts_with(key.bytes()), cut.bytes().len());
-    let is_copied = cut.copied(alloc)? == *cut;
+    let is_copied = cut_has_copy(alloc, cut)?;
     let text = cut.text(alloc)?;
     Ok(format!(in alloc; "{is_front} {size} {is_copied} {text}")?)
 }
 
-fn size_of_cut_line(alloc: Global, version: &str) -> Result<String, ClauseFault> {
-    let text = format!(in alloc; "after {version}")?;
-    match Cut::read(alloc, text.as_str())? {
-        Some(cut) => sizes_of_cut(alloc, &cut, &key(alloc, version)?),
+fn cut_size_line(alloc: Global, text: &str, key: &Key) -> Result<String, ClauseFault> {
+    match Cut::read(alloc, text)? {
+        Some(cut) => sizes_of_cut(alloc, &cut, key),
         None => Ok(String::from_str(alloc, "no cut")?),
     }
 }
 
-fn expect_sizes(rt: &(impl Abort + AllocGlobal), size: usize) -> Result<(), ClauseFault> {
-    let version = labelled(rt.alloc(), size.saturating_sub(43))?;
+fn expect_key_size(
+    rt: &(impl Abort + AllocGlobal),
+    key: &Key,
+    size: usize,
+) -> Result<(), VersionFault> {
+    let line = size_line(rt.alloc(), key)?;
     let want = format!(in rt.alloc(); "{size} true true")?;
-    let line = size_line(rt.alloc(), version.as_str())?;
-    assert_eq!(rt; line.as_str(), want.as_str());
-    let want = format!(in rt.alloc(); "true {} true after {version}", size.saturating_add(1))?;
-    let line = size_of_cut_line(rt.alloc(), version.as_str())?;
     assert_eq!(rt; line.as_str(), want.as_str());
     Ok(())
+}
+
+fn expect_cut_size(
+    rt: &(impl Abort + AllocGlobal),
+    version: &str,
+    key: &Key,
+    size: usize,
+) -> Result<(), ClauseFault> {
+    let text = format!(in rt.alloc(); "after {version}")?;
+    let line = cut_size_line(rt.alloc(), text.as_str(), key)?;
+    let want = format!(in rt.alloc(); "true {size} true {text}")?;
+    assert_eq!(rt; line.as_str(), want.as_str());
+    Ok(())
+}
+
+fn expect_sizes(
+    rt: &(impl Abort + AllocGlobal),
+    version: &str,
+    size: usize,
+) -> Result<(), ClauseFault> {
+    let key = key(rt.alloc(), version)?;
+    expect_key_size(rt, &key, size)?;
+    expect_cut_size(rt, version, &key, size.saturating_add(1))
 }
 
 // Labels that grow by a letter, until the bytes of the key and of the cut no longer lie in the value.
 #[test]
 fn across_the_edge(rt: HostRuntime) -> Result<(), Fail> {
     for size in 44..70 {
-        expect_sizes(&rt, size)?;
+        let version = labelled(rt.alloc(), size - 43)?;
+        expect_sizes(&rt, version.as_str(), size)?;
     }
     Ok(())
 }
@@ -468,21 +547,28 @@ fn made_places(alloc: Global) -> Result<Places, ClauseFault> {
     Ok(Places { keys, cuts, set })
 }
 
+fn is_key_order(one: &Key, other: &Key, wanted: Ordering) -> bool {
+    one.cmp(other) == wanted
+        && one.bytes().cmp(other.bytes()) == wanted
+        && (one == other) == (wanted == Ordering::Equal)
+}
+
 fn compare_keys(rt: &impl Abort, keys: &[Key]) {
     for (i, one) in keys.iter().enumerate() {
         for (j, other) in keys.iter().enumerate() {
-            assert_eq!(rt; one.cmp(other), i.cmp(&j), "at {i} and {j}");
-            assert_eq!(rt; one.bytes().cmp(other.bytes()), i.cmp(&j), "at {i} and {j}");
-            assert_eq!(rt; one == other, i == j, "at {i} and {j}");
+            assert!(rt; is_key_order(one, other, i.cmp(&j)), "at {i} and {j}");
         }
     }
+}
+
+fn is_cut_order(one: &Cut, other: &Cut, wanted: Ordering) -> bool {
+    one.cmp(other) == wanted && one.bytes().cmp(other.bytes()) == wanted
 }
 
 fn compare_cuts(rt: &impl Abort, cuts: &[Cut]) {
     for (i, one) in cuts.iter().enumerate() {
         for (j, other) in cuts.iter().enumerate() {
-            assert_eq!(rt; one.cmp(other), i.cmp(&j), "at {i} and {j}");
-            assert_eq!(rt; one.bytes().cmp(other.bytes()), i.cmp(&j), "at {i} and {j}");
+            assert!(rt; is_cut_order(one, other, i.cmp(&j)), "at {i} and {j}");
         }
     }
 }
