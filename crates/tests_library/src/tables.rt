@@ -9,7 +9,6 @@ use pep_table::{
 };
 use pep_version::Version;
 use std::alloc::Global;
-use std::process::Abort;
 use std::test::Fail;
 
 /// The requirement of a line, which is one.
@@ -63,110 +62,87 @@ pub(crate) fn entry<'t>(
     table.get(&name(alloc, text)?).ok_or(TableFault::NoMemory)
 }
 
-fn text(alloc: Global, lines: &[&str]) -> Result<String, TableFault> {
-    table(alloc, lines)?.text(alloc)
-}
-
-fn expect_texts(
-    rt: &(impl Abort + AllocGlobal),
-    rows: &[(&[&str], &str)],
-) -> Result<(), TableFault> {
-    for &(lines, wanted) in rows {
-        let text = text(rt.alloc(), lines)?;
-        assert_eq!(rt; text.as_str(), wanted);
+// The text of the table of the lines, or why there is none.
+fn table_line(alloc: Global, lines: &[&str]) -> Result<String, TableFault> {
+    match table(alloc, lines) {
+        Ok(table) => table.text(alloc),
+        Err(fault) => Ok(format!(in alloc; "refused {}: {fault}", fault.code())?),
     }
-    Ok(())
 }
 
-#[test]
-fn texts_of_clauses(rt: HostRuntime) -> Result<(), Fail> {
-    expect_texts(
-        &rt,
-        &[
-            (&[], ""),
-            (
-                &["flask>=2.0", "Flask<3"],
-                "flask open\n  range before 2 to before 3.dev0\n",
-            ),
-            (
-                &["Flask<3", "flask>=2.0", "flask>=2.0"],
-                "flask open\n  range before 2 to before 3.dev0\n",
-            ),
-            (&["a>1.0a5,<1.0a6.dev0"], "a none\n"),
-            (
-                &["a!=1.0"],
-                "a open\n  range before 0.dev0 to before 1\n  range before 1.post0.dev0 to end\n",
-            ),
-            (&["a==1.0+x", "a!=1.0+x"], "a none\n"),
-            (
-                &["b>=1.1", "a<2", "b<1.1"],
-                "a open\n  range before 0.dev0 to before 2.dev0\nb none\n",
-            ),
-            (
-                &["a", "a.b", "a-b", "A_B"],
-                "a open\n  range before 0.dev0 to end\na-b open\n  range before 0.dev0 to end\n",
-            ),
-        ],
-    )?;
-    Ok(())
-}
+// Requirement lines, and the text of their table.
+const TEXTS: [(&[&str], &str); 19] = [
+    (&[], ""),
+    (
+        &["flask>=2.0", "Flask<3"],
+        "flask open\n  range before 2 to before 3.dev0\n",
+    ),
+    (
+        &["Flask<3", "flask>=2.0", "flask>=2.0"],
+        "flask open\n  range before 2 to before 3.dev0\n",
+    ),
+    (&["a>1.0a5,<1.0a6.dev0"], "a none\n"),
+    (
+        &["a!=1.0"],
+        "a open\n  range before 0.dev0 to before 1\n  range before 1.post0.dev0 to end\n",
+    ),
+    (&["a==1.0+x", "a!=1.0+x"], "a none\n"),
+    (
+        &["b>=1.1", "a<2", "b<1.1"],
+        "a open\n  range before 0.dev0 to before 2.dev0\nb none\n",
+    ),
+    (
+        &["a", "a.b", "a-b", "A_B"],
+        "a open\n  range before 0.dev0 to end\na-b open\n  range before 0.dev0 to end\n",
+    ),
+    (
+        &["Foo_Bar[X.y, x-Y] >= 1"],
+        "foo-bar open\n  extra x-y\n  range before 1 to end\n",
+    ),
+    (
+        &["a[z]", "a[b,z]"],
+        "a open\n  extra b\n  extra z\n  range before 0.dev0 to end\n",
+    ),
+    (
+        &["a===1.0"],
+        "a open\n  text 1.0\n  range before 0.dev0 to end\n",
+    ),
+    (
+        &["a===1.0", "a===1.00"],
+        "a none\n  text 1.0\n  text 1.00\n  range before 0.dev0 to end\n",
+    ),
+    (
+        &["a===FOO"],
+        "a none\n  text foo\n  range before 0.dev0 to end\n",
+    ),
+    (
+        &["a===1.0,>=1.1"],
+        "a none\n  text 1.0\n  range before 1.1 to end\n",
+    ),
+    (
+        &["a @ HTTPS://x.test/1", "a @ https://x.test/1"],
+        "a open\n  url https://x.test/1\n  range before 0.dev0 to end\n",
+    ),
+    (&["a; python_version >= \"3.10\""], ""),
+    (
+        &["a>=1; os_name == 'posix'", "a<2; os_name == 'nt'"],
+        "a open\n  range before 1 to end\n",
+    ),
+    (
+        &["a; \"dog\" ~= \"fred\"", "b"],
+        "refused 28: requirement 1: an undefined marker",
+    ),
+    (
+        &["a", "b; os_name == \"zz\" and \"dog\" ~= \"fred\""],
+        "refused 28: requirement 2: an undefined marker",
+    ),
+];
 
 #[test]
-fn texts_of_extras_urls_and_texts(rt: HostRuntime) -> Result<(), Fail> {
-    expect_texts(
-        &rt,
-        &[
-            (
-                &["Foo_Bar[X.y, x-Y] >= 1"],
-                "foo-bar open\n  extra x-y\n  range before 1 to end\n",
-            ),
-            (
-                &["a[z]", "a[b,z]"],
-                "a open\n  extra b\n  extra z\n  range before 0.dev0 to end\n",
-            ),
-            (
-                &["a===1.0"],
-                "a open\n  text 1.0\n  range before 0.dev0 to end\n",
-            ),
-            (
-                &["a===1.0", "a===1.00"],
-                "a none\n  text 1.0\n  text 1.00\n  range before 0.dev0 to end\n",
-            ),
-            (
-                &["a===FOO"],
-                "a none\n  text foo\n  range before 0.dev0 to end\n",
-            ),
-            (
-                &["a===1.0,>=1.1"],
-                "a none\n  text 1.0\n  range before 1.1 to end\n",
-            ),
-            (
-                &["a @ HTTPS://x.test/1", "a @ https://x.test/1"],
-                "a open\n  url https://x.test/1\n  range before 0.dev0 to end\n",
-            ),
-        ],
-    )?;
-    Ok(())
-}
-
-#[test]
-fn markers(rt: HostRuntime) -> Result<(), Fail> {
-    expect_texts(
-        &rt,
-        &[
-            (&["a; python_version >= \"3.10\""], ""),
-            (
-                &["a>=1; os_name == 'posix'", "a<2; os_name == 'nt'"],
-                "a open\n  range before 1 to end\n",
-            ),
-        ],
-    )?;
-    for &(lines, number) in &[
-        (["a; \"dog\" ~= \"fred\"", "b"], 1),
-        (["a", "b; os_name == \"zz\" and \"dog\" ~= \"fred\""], 2),
-    ] {
-        let fault = table(rt.alloc(), &lines).err();
-        assert_eq!(rt; fault, Some(TableFault::Undefined(number)));
+fn texts(rt: HostRuntime) -> Result<(), Fail> {
+    for &(lines, want) in &TEXTS {
+        let line = table_line(rt.alloc(), lines)?;
+        assert_eq!(rt; line.as_str(), want, "of {lines:?}");
     }
     Ok(())
 }
@@ -179,12 +155,14 @@ fn joined(alloc: Global, line: &str, other: &str) -> Result<Table, TableFault> {
     table(alloc, &[line])?.joined(alloc, &table(alloc, &[other])?)
 }
 
+const URLS: [&str; 2] = ["a @ https://x.test/1", "a @ https://x.test/2"];
+
 #[test]
 fn conflicts(rt: HostRuntime) -> Result<(), Fail> {
-    let (first, second) = ("a @ https://x.test/1", "a @ https://x.test/2");
-    let both = joined(rt.alloc(), first, second)?;
-    assert_eq!(rt; both.text(rt.alloc())?.as_str(), CONFLICT);
-    assert!(rt; joined(rt.alloc(), second, first)? == both);
+    let both = joined(rt.alloc(), URLS[0], URLS[1])?;
+    let text = both.text(rt.alloc())?;
+    assert_eq!(rt; text.as_str(), CONFLICT);
+    assert!(rt; joined(rt.alloc(), URLS[1], URLS[0])? == both);
     Ok(())
 }
 
@@ -193,11 +171,18 @@ pub(crate) fn verdict(alloc: Global, table: &Table) -> Result<Option<Verdict>, T
     table.verdict(alloc, &name(alloc, "a")?)
 }
 
+// The join of a conflict and of a table that has none.
+fn later(alloc: Global) -> Result<Table, TableFault> {
+    let both = joined(alloc, URLS[0], URLS[1])?;
+    both.joined(
+        alloc,
+        &table(alloc, &["a>=1", "a @ https://x.test/1", "b"])?,
+    )
+}
+
 #[test]
 fn conflicts_stay(rt: HostRuntime) -> Result<(), Fail> {
-    let both = joined(rt.alloc(), "a @ https://x.test/1", "a @ https://x.test/2")?;
-    let third = table(rt.alloc(), &["a>=1", "a @ https://x.test/1", "b"])?;
-    let later = both.joined(rt.alloc(), &third)?;
+    let later = later(rt.alloc())?;
     assert_eq!(rt; verdict(rt.alloc(), &later)?, Some(Verdict::Conflict));
     Ok(())
 }
@@ -219,13 +204,22 @@ fn tables(alloc: Global) -> Result<Vec<Table>, TableFault> {
     Ok(tables)
 }
 
+// The join of them all.
+fn all_joined(alloc: Global) -> Result<Table, TableFault> {
+    join_all(alloc, Table::empty(alloc), tables(alloc)?.iter())
+}
+
+// The same from the last to the first.
+fn all_joined_back(alloc: Global) -> Result<Table, TableFault> {
+    join_all(alloc, Table::empty(alloc), tables(alloc)?.iter().rev())
+}
+
 #[test]
 fn joins(rt: HostRuntime) -> Result<(), Fail> {
-    let (tables, whole) = (tables(rt.alloc())?, table(rt.alloc(), &WHOLE)?);
-    let joined = join_all(rt.alloc(), Table::empty(rt.alloc()), tables.iter())?;
+    let whole = table(rt.alloc(), &WHOLE)?;
+    let joined = all_joined(rt.alloc())?;
     assert!(rt; joined == whole);
-    let back = join_all(rt.alloc(), Table::empty(rt.alloc()), tables.iter().rev())?;
-    assert!(rt; back == whole);
+    assert!(rt; all_joined_back(rt.alloc())? == whole);
     assert!(rt; whole.joined(rt.alloc(), &joined)? == whole);
     Ok(())
 }
@@ -247,46 +241,65 @@ pub(crate) fn gathered(alloc: Global, tables: &[Table]) -> Result<Table, TableFa
     gathering.finish(alloc)
 }
 
+fn gathered_line(alloc: Global) -> Result<String, TableFault> {
+    gathered(alloc, tables(alloc)?.as_slice())?.text(alloc)
+}
+
 #[test]
 fn gathers_tables(rt: HostRuntime) -> Result<(), Fail> {
-    let gathered = gathered(rt.alloc(), tables(rt.alloc())?.as_slice())?;
-    assert!(rt; gathered.text(rt.alloc())? == text(rt.alloc(), &WHOLE)?);
+    let line = gathered_line(rt.alloc())?;
+    assert!(rt; line == table_line(rt.alloc(), &WHOLE)?);
     Ok(())
 }
 
-fn expect_items<T: Kept>(rt: &impl Abort, values: &Sorted<T>, wanted: &[&str]) {
-    let items = values.items();
-    assert_eq!(rt; items.len(), wanted.len());
-    for (item, want) in items.iter().zip(wanted) {
-        assert_eq!(rt; item.as_text(), *want);
+// ---- entries
+
+// Appends the texts of the values, each in brackets.
+fn push_items<T: Kept>(line: &mut String, values: &Sorted<T>) -> Result<(), TableFault> {
+    for item in values.items() {
+        line.push_str("[")?;
+        line.push_str(item.as_text())?;
+        line.push_str("]")?;
     }
+    Ok(())
+}
+
+// The extras, URLs and texts of an entry, and how many ranges it has.
+fn shown(alloc: Global, entry: &Entry) -> Result<String, TableFault> {
+    let mut line = String::from_str(alloc, "extras")?;
+    push_items(&mut line, entry.extras())?;
+    line.push_str(" urls")?;
+    push_items(&mut line, entry.urls())?;
+    line.push_str(" texts")?;
+    push_items(&mut line, entry.texts())?;
+    let ranges = format!(in alloc; " ranges {}", entry.versions().ranges().len())?;
+    line.push_str(ranges.as_str())?;
+    Ok(line)
 }
 
 const ENTRIES: [&str; 3] = ["a[y,x]>=1,===1.0", "b @ https://x.test/1", "c"];
 
-#[test]
-fn entry_of_clauses(rt: HostRuntime) -> Result<(), Fail> {
-    let table = table(rt.alloc(), &ENTRIES)?;
-    let entry = entry(rt.alloc(), &table, "A")?;
-    expect_items(&rt, entry.extras(), &["x", "y"]);
-    expect_items(&rt, entry.urls(), &[]);
-    expect_items(&rt, entry.texts(), &["1.0"]);
-    assert_eq!(rt; entry.versions().ranges().len(), 1);
-    Ok(())
+fn entry_of_line(alloc: Global, table: &Table, text: &str) -> Result<String, TableFault> {
+    match table.get(&name(alloc, text)?) {
+        Some(entry) => shown(alloc, entry),
+        None => Ok(String::from_str(alloc, "no entry")?),
+    }
 }
 
-#[test]
-fn entry_of_a_url(rt: HostRuntime) -> Result<(), Fail> {
-    let table = table(rt.alloc(), &ENTRIES)?;
-    let entry = entry(rt.alloc(), &table, "b")?;
-    expect_items(&rt, entry.urls(), &["https://x.test/1"]);
-    Ok(())
-}
+// Names, and what is demanded of them.
+const DEMANDED: [(&str, &str); 3] = [
+    ("A", "extras[x][y] urls texts[1.0] ranges 1"),
+    ("b", "extras urls[https://x.test/1] texts ranges 1"),
+    ("d", "no entry"),
+];
 
 #[test]
-fn no_entry(rt: HostRuntime) -> Result<(), Fail> {
+fn entries(rt: HostRuntime) -> Result<(), Fail> {
     let table = table(rt.alloc(), &ENTRIES)?;
-    assert!(rt; table.get(&name(rt.alloc(), "d")?).is_none());
+    for &(name, want) in &DEMANDED {
+        let line = entry_of_line(rt.alloc(), &table, name)?;
+        assert_eq!(rt; line.as_str(), want, "of {name}");
+    }
     Ok(())
 }
 
@@ -295,13 +308,21 @@ fn joined_entry(alloc: Global, table: &Table) -> Result<Entry, TableFault> {
     entry(alloc, table, "a")?.joined(alloc, entry(alloc, table, "b")?)
 }
 
+// The join, whether it is another than the entry of `a`, and whether its copy is equal to it.
+fn joined_entry_line(alloc: Global, table: &Table, both: &Entry) -> Result<String, TableFault> {
+    let is_another = *both != *entry(alloc, table, "a")?;
+    let is_same = both.copied(alloc)? == *both;
+    let text = shown(alloc, both)?;
+    Ok(format!(in alloc; "{text} {is_another} {is_same}")?)
+}
+
 #[test]
 fn joined_entries(rt: HostRuntime) -> Result<(), Fail> {
     let table = table(rt.alloc(), &ENTRIES)?;
     let both = joined_entry(rt.alloc(), &table)?;
-    expect_items(&rt, both.extras(), &["x", "y"]);
-    expect_items(&rt, both.urls(), &["https://x.test/1"]);
-    assert!(rt; both != *entry(rt.alloc(), &table, "a")?);
+    let line = joined_entry_line(rt.alloc(), &table, &both)?;
+    let want = "extras[x][y] urls[https://x.test/1] texts[1.0] ranges 1 true true";
+    assert_eq!(rt; line.as_str(), want);
     Ok(())
 }
 
@@ -312,13 +333,6 @@ fn copies(rt: HostRuntime) -> Result<(), Fail> {
     Ok(())
 }
 
-#[test]
-fn copies_of_entries(rt: HostRuntime) -> Result<(), Fail> {
-    let both = joined_entry(rt.alloc(), &table(rt.alloc(), &ENTRIES)?)?;
-    assert!(rt; both.copied(rt.alloc())? == both);
-    Ok(())
-}
-
 // The extras of `a` and of `b`, joined.
 fn joined_extras(alloc: Global, lines: &[&str]) -> Result<Sorted<Name>, TableFault> {
     let table = table(alloc, lines)?;
@@ -326,12 +340,20 @@ fn joined_extras(alloc: Global, lines: &[&str]) -> Result<Sorted<Name>, TableFau
     extras.joined(alloc, entry(alloc, &table, "b")?.extras())
 }
 
+// The values, and whether a copy is equal to them.
+fn sorted_line(alloc: Global, values: &Sorted<Name>) -> Result<String, TableFault> {
+    let mut line = String::new(alloc);
+    push_items(&mut line, values)?;
+    let is_same = values.copied(alloc)? == *values;
+    Ok(format!(in alloc; "{line} {is_same}")?)
+}
+
 #[test]
 fn sorted_values(rt: HostRuntime) -> Result<(), Fail> {
     let union = joined_extras(rt.alloc(), &["a[y,x]", "b[z,x]"])?;
-    expect_items(&rt, &union, &["x", "y", "z"]);
-    assert!(rt; union.copied(rt.alloc())? == union);
-    expect_items(&rt, &Sorted::<String>::new(rt.alloc()), &[]);
+    let line = sorted_line(rt.alloc(), &union)?;
+    assert_eq!(rt; line.as_str(), "[x][y][z] true");
+    assert!(rt; Sorted::<String>::new(rt.alloc()).items().is_empty());
     Ok(())
 }
 
@@ -398,19 +420,25 @@ fn answers(rt: HostRuntime) -> Result<(), Fail> {
     Ok(())
 }
 
+// Lines, and the verdict on `a`.
+const VERDICTS: [(&[&str], Option<Verdict>); 6] = [
+    (&["b"], None),
+    (&["a"], Some(Verdict::Possible)),
+    (&["a===1.0", "a<2"], Some(Verdict::Possible)),
+    (&["a===1.0", "a>2"], Some(Verdict::Nothing)),
+    (&["a===1.0", "a===1.00"], Some(Verdict::Nothing)),
+    (&["a<1", "a>1"], Some(Verdict::Nothing)),
+];
+
+fn verdict_of(alloc: Global, lines: &[&str]) -> Result<Option<Verdict>, TableFault> {
+    verdict(alloc, &table(alloc, lines)?)
+}
+
 #[test]
 fn verdicts(rt: HostRuntime) -> Result<(), Fail> {
-    let rows: [(&[&str], Option<Verdict>); 6] = [
-        (&["b"], None),
-        (&["a"], Some(Verdict::Possible)),
-        (&["a===1.0", "a<2"], Some(Verdict::Possible)),
-        (&["a===1.0", "a>2"], Some(Verdict::Nothing)),
-        (&["a===1.0", "a===1.00"], Some(Verdict::Nothing)),
-        (&["a<1", "a>1"], Some(Verdict::Nothing)),
-    ];
-    for &(lines, wanted) in &rows {
-        let verdict = verdict(rt.alloc(), &table(rt.alloc(), lines)?)?;
-        assert_eq!(rt; verdict, wanted);
+    for &(lines, wanted) in &VERDICTS {
+        let verdict = verdict_of(rt.alloc(), lines)?;
+        assert_eq!(rt; verdict, wanted, "of {lines:?}");
     }
     Ok(())
 }
