@@ -9,7 +9,7 @@ mod environments;
 #[cfg(test)]
 mod example;
 #[cfg(test)]
-mod faults;
+mod fault_lines;
 #[cfg(test)]
 mod folders;
 #[cfg(test)]
