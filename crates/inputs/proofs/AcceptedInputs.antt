@@ -11,10 +11,10 @@ use Rattle.pep_require.specs.Requirement.{HasDefinedMarker}
 use Rattle.pep_require.specs.Requirement.{RequirementParts}
 use Rattle.pep_table.proofs.SameDemands.{same_demands}
 use Rattle.pep_table.proofs.Taking.{applying_is_table, no_demands}
-use Rattle.pep_table.specs.Demand.{ApplyingDemands, Demand, Demands, Together}
-use Rattle.pep_table.specs.Gathering.{TakesApplying}
-use Rattle.pep_table.specs.Table.{HasExactPoints, IsTable, IsValidTable, TableDemands}
-use Rattle.pep_table.specs.Table.{TableParts}
+use Rattle.demands.specs.Demand.{ApplyingDemands, Demand, Demands, Together}
+use Rattle.demands.specs.Gathering.{TakesApplying}
+use Rattle.demands.specs.Table.{HasExactPoints, IsTable, IsValidTable, TableDemands}
+use Rattle.demands.specs.Table.{TableParts}
 use Rattle.pep_table.proofs.JoinedDemands.{joined_is_table, own_table}
 use Rattle.pep_table.proofs.OneTableOfText.{one_table_of_text}
 use Rattle.pep_table.proofs.TableBytes.{table_utf8}

@@ -12,8 +12,8 @@ use Rattle.pep_require.specs.Requirement.{HasUndefinedMarker, RequirementParts}
 use Rattle.pep_require.specs.declared.fault.RequireFault.TheVariants as require
 use Rattle.pep_table.proofs.FirstFault.{next_mapped}
 use Rattle.pep_table.proofs.Taking.{all_taken}
-use Rattle.pep_table.specs.Gathering.{TakesApplying}
-use Rattle.pep_table.specs.Table.{TableParts}
+use Rattle.demands.specs.Gathering.{TakesApplying}
+use Rattle.demands.specs.Table.{TableParts}
 use Rattle.faults.specs.declared.fault.Cause.{Cause}
 use Rattle.faults.specs.declared.fault.Cause.TheVariants as cause
 use Rattle.faults.specs.declared.fault.Fault.{Fault}

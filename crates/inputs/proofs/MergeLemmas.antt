@@ -2,14 +2,14 @@
 use Rattle.std.proofs.Common.{ℕ, List, Option, Some, None, Result, Ok, Err, IfOk}
 use Rattle.std.specs.Prelude.{All, IfSome}
 use Rattle.pep_marker.specs.Environment.{EnvironmentParts}
-use Rattle.pep_table.proofs.Verdicts.{verdict_of_demands}
-use Rattle.pep_table.specs.Demand.{Demand, Demands}
-use Rattle.pep_table.specs.Table.{EntryParts, HasExactPoints, IsEntry, IsTable, IsValidEntry}
-use Rattle.pep_table.specs.Table.{TableParts, entry_at}
+use Rattle.demands.proofs.Verdicts.{verdict_of_demands}
+use Rattle.demands.specs.Demand.{Demand, Demands}
+use Rattle.demands.specs.Table.{EntryParts, HasExactPoints, IsEntry, IsTable, IsValidEntry}
+use Rattle.demands.specs.Table.{TableParts, entry_at}
 use Rattle.pep_table.specs.TableLaws.{entry_valid}
 use Rattle.pep_table.specs.TableText.{IsTableText, Shows}
-use Rattle.pep_table.specs.Verdict.{IsVerdict}
-use Rattle.pep_table.specs.declared.verdict.Verdict.{Verdict}
+use Rattle.demands.specs.Verdict.{IsVerdict}
+use Rattle.demands.specs.declared.verdict.Verdict.{Verdict}
 use Rattle.inputs.specs.declared.input.Input.{Input}
 use Rattle.inputs.specs.Gathered.{Gathered, IsAccepted}
 use Rattle.inputs.specs.Merge.{IsMerge, ShowsVerdicts}

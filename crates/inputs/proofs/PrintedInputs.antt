@@ -8,10 +8,10 @@ use Rattle.pep_marker.specs.Environment.{EnvironmentParts}
 use Rattle.pep_table.proofs.JoinedDemands.{ExactEntry, HasEntry, either, from_both, own_table, same_at}
 use Rattle.pep_table.proofs.JoinedDemands.{table_at, undemanded}
 use Rattle.pep_table.proofs.SameDemands.{same_demands, table_from_entries}
-use Rattle.pep_table.specs.Demand.{AdmitsBesideTexts, Demand, Demands, Together}
+use Rattle.demands.specs.Demand.{AdmitsBesideTexts, Demand, Demands, Together}
 use Rattle.pep_table.specs.OneText.{one_text}
-use Rattle.pep_table.specs.Table.{AdmitsPoint, EntryParts, HasExactPoints, IsEntry, IsTable}
-use Rattle.pep_table.specs.Table.{TableDemands, TableParts, entry_at}
+use Rattle.demands.specs.Table.{AdmitsPoint, EntryParts, HasExactPoints, IsEntry, IsTable}
+use Rattle.demands.specs.Table.{TableDemands, TableParts, entry_at}
 use Rattle.pep_table.specs.TableText.{IsTableText}
 use Rattle.inputs.specs.declared.input.Input.{Input}
 use Rattle.inputs.specs.declared.input.Kind.{Kind}

@@ -8,8 +8,8 @@ use Rattle.pep_require.proofs.LineLaws.{one_requirement}
 use Rattle.pep_require.specs.Reads.{Reads}
 use Rattle.pep_require.specs.Requirement.{Applies, RequirementParts}
 use Rattle.pep_table.proofs.Members.{in_either, in_first, in_none, in_rest}
-use Rattle.pep_table.specs.Demand.{Demand, Demands, HaveSameDemands, RequirementDemands}
-use Rattle.pep_table.specs.Table.{TableDemands, TableParts}
+use Rattle.demands.specs.Demand.{Demand, Demands, HaveSameDemands, RequirementDemands}
+use Rattle.demands.specs.Table.{TableDemands, TableParts}
 use Rattle.inputs.specs.declared.input.Input.{Input}
 use Rattle.inputs.specs.declared.input.Kind.{Kind}
 use Rattle.inputs.specs.declared.input.Kind.TheVariants as kind

@@ -2,8 +2,8 @@
 use Rattle.std.proofs.Common.{◌≡◌, ℕ, ◌≤◌, ◌⊎◌, List, length, inl, inr}
 use Rattle.std.specs.Prelude.{IsUtf8}
 use Rattle.pep_table.specs.TableText.{IsBadTable}
-use Rattle.pep_table.specs.declared.fault.TableFault.{TableFault}
-use Rattle.pep_table.specs.declared.fault.TableFault.TheVariants as table_fault
+use Rattle.demands.specs.declared.fault.TableFault.{TableFault}
+use Rattle.demands.specs.declared.fault.TableFault.TheVariants as table_fault
 use Rattle.faults.specs.declared.fault.Cause.{Cause}
 use Rattle.faults.specs.declared.fault.Cause.TheVariants as cause
 use Rattle.faults.specs.declared.fault.LineFault.TheVariants as line_fault

@@ -2,8 +2,8 @@
 use Rattle.std.specs.Prelude.{ℕ, ◌⊎◌, ◌↔◌, List, [], ◌∷◌, All, Contains}
 use Rattle.pep_marker.specs.Environment.{EnvironmentParts}
 use Rattle.pep_require.specs.Requirement.{HasDefinedMarker, RequirementParts}
-use Rattle.pep_table.specs.Demand.{ApplyingDemands, Demands}
-use Rattle.pep_table.specs.Table.{TableDemands, TableParts}
+use Rattle.demands.specs.Demand.{ApplyingDemands, Demands}
+use Rattle.demands.specs.Table.{TableDemands, TableParts}
 use Rattle.inputs.specs.declared.input.Input.{Input}
 use Rattle.inputs.specs.declared.input.Kind.{Kind}
 use Rattle.inputs.specs.Lists.{HoldsTable, Lists, input_texts}

@@ -2,9 +2,9 @@
 use Rattle.std.specs.Prelude.{◌≡◌, ℕ, ◌⊎◌, List, [], ◌∷◌}
 use Rattle.pep_marker.specs.Environment.{EnvironmentParts}
 use Rattle.pep_require.specs.Requirement.{RequirementParts}
-use Rattle.pep_table.specs.Gathering.{TakesApplying}
-use Rattle.pep_table.specs.Join.{JoinsTables}
-use Rattle.pep_table.specs.Table.{TableParts}
+use Rattle.demands.specs.Gathering.{TakesApplying}
+use Rattle.demands.specs.Join.{JoinsTables}
+use Rattle.demands.specs.Table.{TableParts}
 use Rattle.faults.specs.declared.fault.Cause.{Cause}
 use Rattle.faults.specs.declared.fault.Cause.TheVariants.{NoMemory}
 use Rattle.faults.specs.declared.fault.LineFault.{LineFault}

@@ -11,7 +11,7 @@ use Rattle.pep_require.specs.Requirement.{RequirementParts}
 use Rattle.inputs.specs.declared.input.Kind.{Kind}
 use Rattle.inputs.specs.declared.input.Kind.TheVariants as kind
 pub use Rattle.inputs.specs.Limits.{input_limit}
-use Rattle.pep_table.specs.Table.{TableParts}
+use Rattle.demands.specs.Table.{TableParts}
 use Rattle.inputs.specs.Project.{project_file}
 use Rattle.inputs.specs.TableFiles.{IsTableFile}
 

@@ -1,11 +1,11 @@
 -- What merging inputs in an environment gives.
 use Rattle.std.specs.Prelude.{ℕ, List, All, IfSome}
 use Rattle.pep_marker.specs.Environment.{EnvironmentParts}
-use Rattle.pep_table.specs.declared.verdict.Verdict.{Verdict}
-use Rattle.pep_table.specs.Demand.{Demands}
-use Rattle.pep_table.specs.Table.{HasExactPoints, TableParts, IsTable, entry_at}
+use Rattle.demands.specs.declared.verdict.Verdict.{Verdict}
+use Rattle.demands.specs.Demand.{Demands}
+use Rattle.demands.specs.Table.{HasExactPoints, TableParts, IsTable, entry_at}
 use Rattle.pep_table.specs.TableText.{IsTableText, Shows}
-use Rattle.pep_table.specs.Verdict.{IsVerdict}
+use Rattle.demands.specs.Verdict.{IsVerdict}
 use Rattle.inputs.specs.declared.input.Input.{Input}
 use Rattle.inputs.specs.Gathered.{IsAccepted, Gathered}
 

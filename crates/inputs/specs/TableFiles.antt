@@ -1,6 +1,6 @@
 -- Table files: bytes that are the text of a table, as it was printed.
 use Rattle.std.specs.Prelude.{◌≡◌, ℕ, ◌<◌, ◌≤◌, IsUtf8, List, length}
-use Rattle.pep_table.specs.Table.{IsValidTable, TableParts}
+use Rattle.demands.specs.Table.{IsValidTable, TableParts}
 use Rattle.pep_table.specs.TableText.{IsNoTableText, IsTableText}
 use Rattle.faults.specs.declared.fault.Cause.{Cause}
 use Rattle.faults.specs.declared.fault.Cause.TheVariants as cause

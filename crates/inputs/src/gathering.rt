@@ -16,9 +16,9 @@ ghost use Rattle.std.specs.Prelude.{
   map,
 };
 ghost use Rattle.pep_require.specs.View.{requirement_parts};
-ghost use Rattle.pep_table.specs.Gathering.{TakesApplying};
-ghost use Rattle.pep_table.specs.Join.{JoinsTables};
-ghost use Rattle.pep_table.specs.Table.{HasExactPoints, IsTable, TableParts};
+ghost use Rattle.demands.specs.Gathering.{TakesApplying};
+ghost use Rattle.demands.specs.Join.{JoinsTables};
+ghost use Rattle.demands.specs.Table.{HasExactPoints, IsTable, TableParts};
 ghost use Rattle.inputs.specs.GatheredLines.{
   GathersBytes,
   GathersInputs,

@@ -3,8 +3,8 @@
 ghost use Rattle.std.specs.Prelude.{◌≡◌, ◌∷◌, ◌++◌, ℕ, All, List};
 ghost use Rattle.pep_marker.specs.Environment.{EnvironmentParts};
 ghost use Rattle.pep_require.specs.Requirement.{RequirementParts};
-ghost use Rattle.pep_table.specs.Demand.{HaveSameDemands};
-ghost use Rattle.pep_table.specs.Table.{HasExactPoints, IsTable, TableParts};
+ghost use Rattle.demands.specs.Demand.{HaveSameDemands};
+ghost use Rattle.demands.specs.Table.{HasExactPoints, IsTable, TableParts};
 ghost use Rattle.faults.specs.declared.fault.Cause.{Cause};
 ghost use Rattle.inputs.specs.declared.input.Input.{Input};
 ghost use Rattle.inputs.specs.declared.input.Kind.TheVariants as Kind;

@@ -1,8 +1,8 @@
 //! What all inputs demand: the text of its table, and what it says of a version.
 
 ghost use Rattle.std.specs.Prelude.{◌≡◌, All, IfErr, IfOk, string_bytes};
-ghost use Rattle.pep_table.specs.Answer.{IsAnswer};
-ghost use Rattle.pep_table.specs.Table.{TableDemands};
+ghost use Rattle.demands.specs.Answer.{IsAnswer};
+ghost use Rattle.demands.specs.Table.{TableDemands};
 ghost use Rattle.pep_table.specs.TableText.{IsTableText};
 ghost use Rattle.inputs.specs.Gathered.{Gathered, IsAccepted};
 ghost use Rattle.inputs.specs.Merge.{IsMerge};

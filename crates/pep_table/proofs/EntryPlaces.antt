@@ -15,11 +15,11 @@ use Rattle.std.proofs.lemmas.List.Sorted.{IsNonDecreasingBy-from_all_adjacent}
 use Rattle.std.proofs.lemmas.Slice.Eq.{bytes_eq-Decides}
 use Rattle.pep_require.specs.Requirement.{IsAscending}
 use Rattle.pep_require.proofs.Ascending.{IsIn, first_below, irreflexive, rest_ascends}
-use Rattle.pep_table.specs.Join.{JoinsAt, JoinsTables}
+use Rattle.demands.specs.Join.{JoinsAt, JoinsTables}
 use Rattle.pep_table.specs.OneText.{absent, entry_first, entry_other, eq_true, name_there}
-use Rattle.pep_table.specs.Table.{EntryParts, IsValidTable, TableParts, entry_at, names}
+use Rattle.demands.specs.Table.{EntryParts, IsValidTable, TableParts, entry_at, names}
 use Rattle.pep_table.specs.TableLaws.{alone, left_kept}
-use Rattle.pep_table.proofs.KeptSets.{above, same_text, text_cmp}
+use Rattle.demands.proofs.KeptSets.{above, same_text, text_cmp}
 
 abbrev Named : Type 0
 Named = List ℕ × EntryParts

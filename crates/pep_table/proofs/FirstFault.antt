@@ -10,10 +10,10 @@ use Rattle.pep_marker.specs.Environment.{EnvironmentParts}
 use Rattle.pep_marker.specs.declared.fault.MarkerFault.{MarkerFault}
 use Rattle.pep_marker.specs.declared.fault.MarkerFault.TheVariants as marker_fault
 use Rattle.pep_require.specs.Requirement.{HasDefinedMarker, HasUndefinedMarker, RequirementParts}
-use Rattle.pep_table.specs.Gathering.{IsFirstUndefined, TakesApplying}
-use Rattle.pep_table.specs.Table.{TableParts}
-use Rattle.pep_table.specs.declared.fault.TableFault.{TableFault}
-use Rattle.pep_table.specs.declared.fault.TableFault.TheVariants as table_fault
+use Rattle.demands.specs.Gathering.{IsFirstUndefined, TakesApplying}
+use Rattle.demands.specs.Table.{TableParts}
+use Rattle.demands.specs.declared.fault.TableFault.{TableFault}
+use Rattle.demands.specs.declared.fault.TableFault.TheVariants as table_fault
 use Rattle.pep_table.proofs.EntryPlaces.{whole}
 
 -- where requirements are taken, the marker of each is defined

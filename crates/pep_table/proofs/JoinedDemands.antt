@@ -16,11 +16,12 @@ use Rattle.specifiers.specs.Clause.{demanded}
 use Rattle.pep_clause.specs.Cut.{Cut, IsCut, before}
 use Rattle.pep_clause.specs.VersionSet.{In, IsPoint, Range, all_versions, is_in, is_point}
 use Rattle.pep_table.specs.TableLaws.{right_kept}
-use Rattle.pep_table.specs.Demand.{AdmitsBesideTexts, Demand, Demands, Together, presence, extra}
-use Rattle.pep_table.specs.Demand.{url, clause, ranges}
-use Rattle.pep_table.specs.Join.{IsIntersection, JoinsAt, JoinsEntries, JoinsTables}
-use Rattle.pep_table.specs.Table.{AdmitsPoint, EntryDemands, EntryParts, HasExactPoints, IsEntry}
-use Rattle.pep_table.specs.Table.{IsTable, IsValidTable, TableDemands, TableParts, entry_at}
+use Rattle.demands.proofs.OwnEntry.{own_entry}
+use Rattle.demands.specs.Demand.{AdmitsBesideTexts, Demand, Demands, Together, presence, extra}
+use Rattle.demands.specs.Demand.{url, clause, ranges}
+use Rattle.demands.specs.Join.{IsIntersection, JoinsAt, JoinsEntries, JoinsTables}
+use Rattle.demands.specs.Table.{AdmitsPoint, EntryDemands, EntryParts, HasExactPoints, IsEntry}
+use Rattle.demands.specs.Table.{IsTable, IsValidTable, TableDemands, TableParts, entry_at}
 
 -- ---- what a table says of one name
 
@@ -212,15 +213,6 @@ table_at Q t name h g =
 
 -- ---- a table's own demands
 
-own_admits : (e : EntryParts) (v : Version) → In e.versions v → (d : Demand) → EntryDemands e d →
-    AdmitsBesideTexts d v
-own_admits e v m (clause (demanded t)) q = tt
-own_admits e v m (clause c) q = absurd q
-own_admits e v m (ranges l) q = subst (λ (k : List Range). In k v) q m
-own_admits e v m presence q = tt
-own_admits e v m (extra x) q = tt
-own_admits e v m (url u) q = tt
-
 own_point : (e : EntryParts) (cut : Cut) → IsPoint all_versions cut → IsPoint e.versions cut →
     (d : Demand) → EntryDemands e d → AdmitsPoint d cut
 own_point e cut all m (clause (demanded t)) q = all
@@ -229,15 +221,6 @@ own_point e cut all m (ranges l) q = subst (λ (k : List Range). IsPoint k cut) 
 own_point e cut all m presence q = tt
 own_point e cut all m (extra x) q = tt
 own_point e cut all m (url u) q = tt
-
--- an entry is that of its own demands
-pub own_entry : (e : EntryParts) → IsEntry (EntryDemands e) e
-own_entry e = record {
-  extras = λ x. (λ m. m, λ m. m);
-  urls = λ u. (λ m. m, λ m. m);
-  texts = λ t. (λ m. m, λ m. m);
-  versions = λ v is. (λ m. own_admits e v m, λ f. f (ranges e.versions) refl);
-}
 
 own_points : (e : EntryParts) → ExactEntry (EntryDemands e) e
 own_points e = λ cut is. (

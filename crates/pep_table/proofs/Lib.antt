@@ -1,17 +1,10 @@
-pub mod KeptSets
 pub mod NamedEntries
 pub mod EntryPlaces
 pub mod FirstFault
-pub mod ValidEntries
-pub mod TakenClauses
-pub mod JoinedItems
 pub mod AllJoined
 pub mod JoinedDemands
-pub mod Answers
-pub mod Verdicts
 pub mod NameDemands
 pub mod TableAnswers
-pub mod EntryTexts
 pub mod MergeLaws
 pub mod SameDemands
 pub mod Members
@@ -21,7 +14,6 @@ pub mod CutTexts
 pub mod TableLines
 pub mod OneTableOfText
 pub mod PrintedEntries
-pub mod SameLemmas
 pub mod AscendingItems
 pub mod ReadItems
 pub mod ReadRanges
@@ -29,3 +21,4 @@ pub mod ReadParts
 pub mod ReadTables
 pub mod RangeWords
 pub mod TableBytes
+pub mod SameLemmas

@@ -4,12 +4,12 @@ use Rattle.std.specs.List.{AllZip}
 use Rattle.pep_marker.specs.Environment.{EnvironmentParts}
 use Rattle.pep_table.proofs.JoinedDemands.{joined_is_table, own_table}
 use Rattle.pep_table.proofs.OneTableOfText.{one_table_of_text}
-use Rattle.pep_table.specs.Demand.{Demands}
+use Rattle.demands.specs.Demand.{Demands}
 use Rattle.pep_table.specs.MergeTree.{IsAcceptedTree, MakesTable, MergeTree, MergesAlike}
-use Rattle.pep_table.specs.Join.{JoinsAll, JoinsTables}
+use Rattle.demands.specs.Join.{JoinsAll, JoinsTables}
 use Rattle.pep_table.specs.MergeTree.{TreeDemands, all_joined, input, table, joined, printed}
 use Rattle.pep_table.specs.OneText.{one_text}
-use Rattle.pep_table.specs.Table.{HasExactPoints, IsTable, IsValidTable, TableDemands, TableParts}
+use Rattle.demands.specs.Table.{HasExactPoints, IsTable, IsValidTable, TableDemands, TableParts}
 
 abbrev IsExactTable : Demands → TableParts → Type 0
 IsExactTable Q t = IsTable Q t × HasExactPoints Q t

@@ -2,14 +2,14 @@
 use Rattle.std.proofs.Common.{◌≡◌, ℕ, Bool, List, Some, sym, subst, ◌∙◌}
 use Rattle.std.specs.Prelude.{◌↔◌}
 use Rattle.pep_version.specs.Version.{Version}
-use Rattle.pep_table.specs.Answer.{IsAnswer}
-use Rattle.pep_table.specs.Demand.{Demand, url}
-use Rattle.pep_table.specs.Table.{EntryDemands, EntryParts, TableDemands, TableParts, entry_at}
-use Rattle.pep_table.specs.Verdict.{HasConflict, IsVerdict, MeetsAll}
-use Rattle.pep_table.specs.declared.verdict.Verdict.{Verdict}
-use Rattle.pep_table.specs.declared.verdict.Verdict.TheVariants as verdicts
-use Rattle.pep_table.specs.declared.verdict.Answer.{Answer}
-use Rattle.pep_table.specs.declared.verdict.Answer.TheVariants as answers
+use Rattle.demands.specs.Answer.{IsAnswer}
+use Rattle.demands.specs.Demand.{Demand, url}
+use Rattle.demands.specs.Table.{EntryDemands, EntryParts, TableDemands, TableParts, entry_at}
+use Rattle.demands.specs.Verdict.{HasConflict, IsVerdict, MeetsAll}
+use Rattle.demands.specs.declared.verdict.Verdict.{Verdict}
+use Rattle.demands.specs.declared.verdict.Verdict.TheVariants as verdicts
+use Rattle.demands.specs.declared.verdict.Answer.{Answer}
+use Rattle.demands.specs.declared.verdict.Answer.TheVariants as answers
 
 -- ---- demands that are the same
 

@@ -13,18 +13,18 @@ use Rattle.std.proofs.lemmas.Slice.Eq.{bytes_eq-Decides}
 use Rattle.pep_marker.specs.Name.{IsNormalName, name_cmp}
 use Rattle.pep_require.specs.Requirement.{IsAscending, RequirementParts}
 use Rattle.pep_require.proofs.Ascending.{Contains-from_IsIn, IsIn-from_Contains, rest_ascends}
-use Rattle.pep_table.specs.EntryLaws.{IsJoin-JoinsEntries}
-use Rattle.pep_table.specs.Gathering.{HasValidParts, TakesEntry, TakesRequirement, bare_entry}
-use Rattle.pep_table.specs.Join.{JoinsAt, JoinsEntries, JoinsTables}
+use Rattle.demands.specs.EntryLaws.{IsJoin-JoinsEntries}
+use Rattle.demands.specs.Gathering.{HasValidParts, TakesEntry, TakesRequirement, bare_entry}
+use Rattle.demands.specs.Join.{JoinsAt, JoinsEntries, JoinsTables}
 use Rattle.pep_table.specs.OneText.{entry_first, entry_other, entry_there, eq_false, eq_true}
 use Rattle.pep_table.specs.OneText.{first_apart, name_there, valid_at}
-use Rattle.pep_table.specs.JoinLaws.{IsJoin-IsUnion}
-use Rattle.pep_table.specs.Table.{EntryParts, IsValidEntry, IsValidTable, TableParts, entry_at}
-use Rattle.pep_table.specs.Table.{names}
+use Rattle.demands.specs.JoinLaws.{IsJoin-IsUnion}
+use Rattle.demands.specs.Table.{EntryParts, IsValidEntry, IsValidTable, TableParts, entry_at}
+use Rattle.demands.specs.Table.{names}
 use Rattle.pep_table.specs.TableLaws.{alone}
-use Rattle.pep_table.proofs.KeptSets.{ascending_map, union_none}
-use Rattle.pep_table.proofs.TakenClauses.{all_meets}
-use Rattle.pep_table.proofs.ValidEntries.{bare_valid, joined_valid, taken_valid}
+use Rattle.demands.proofs.KeptSets.{ascending_map, union_none}
+use Rattle.demands.proofs.TakenClauses.{all_meets}
+use Rattle.demands.proofs.ValidEntries.{bare_valid, joined_valid, taken_valid}
 
 -- ---- the map of names
 

@@ -12,7 +12,7 @@ use Rattle.pep_table.proofs.TableLines.{header_name, kind_line, lines_feed, line
 use Rattle.pep_table.proofs.TableLines.{lines_one, range_lines, table_stops, text_entries}
 use Rattle.pep_table.proofs.TableLines.{text_lines, url_lines}
 use Rattle.pep_table.specs.EntryReading.{head_line}
-use Rattle.pep_table.specs.Table.{EntryParts, IsValidEntry, IsValidTable, TableParts}
+use Rattle.demands.specs.Table.{EntryParts, IsValidEntry, IsValidTable, TableParts}
 use Rattle.pep_table.specs.TableText.{IsTableText, range_text}
 
 -- ---- lines of one kind

@@ -1,8 +1,8 @@
 -- The text of a table, entry by entry.
 use Rattle.std.proofs.Common.{◌≡◌, ℕ, List, [], ◌∷◌, ◌++◌}
 use Rattle.std.proofs.Common.{refl, sym, ap, subst, ◌∙◌, append-nil, append_assoc}
-use Rattle.pep_table.specs.declared.verdict.Verdict.{Verdict}
-use Rattle.pep_table.specs.Table.{EntryParts, TableParts}
+use Rattle.demands.specs.declared.verdict.Verdict.{Verdict}
+use Rattle.demands.specs.Table.{EntryParts, TableParts}
 use Rattle.pep_table.specs.TableText.{IsTableText, Shows, entry_text}
 
 -- the text x, with a text of the entries that are left, is a text of the table

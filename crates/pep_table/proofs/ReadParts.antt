@@ -15,15 +15,15 @@ use Rattle.pep_table.proofs.ReadItems.{cut_one, feed_one, lacks, line_first}
 use Rattle.pep_table.proofs.ReadRanges.{plain_each}
 use Rattle.pep_table.proofs.Runs.{map_one}
 use Rattle.pep_table.proofs.TableLines.{demanded_plain, header_feed, header_name, name_plain, url_plain}
-use Rattle.pep_table.specs.declared.verdict.Verdict.{Verdict}
-use Rattle.pep_table.specs.declared.verdict.Verdict.TheVariants.{Possible, Nothing, Conflict}
+use Rattle.demands.specs.declared.verdict.Verdict.{Verdict}
+use Rattle.demands.specs.declared.verdict.Verdict.TheVariants.{Possible, Nothing, Conflict}
 use Rattle.pep_table.specs.EntryReading.{BeginsSpace, HasHead, HasNoHead, HasNoParts, HasParts, head_line}
 use Rattle.pep_table.specs.EntryReading.{parts_then, ranges_then, texts_then, urls_then}
-use Rattle.pep_table.specs.Table.{EntryParts, IsValidEntry, is_url_text}
+use Rattle.demands.specs.Table.{EntryParts, IsValidEntry, is_url_text}
 use Rattle.pep_table.specs.TableReading.{AreItems, AreRanges, BeginsKind, Front, HasNoFeed}
 use Rattle.pep_table.specs.TableReading.{HasNoFront, kind_front}
 use Rattle.pep_table.specs.TableText.{kind_lines, range_text}
-use Rattle.pep_table.specs.Verdict.{verdict_word}
+use Rattle.demands.specs.Verdict.{verdict_word}
 
 -- ---- lines of one kind in front are told by the text
 

@@ -14,14 +14,14 @@ use Rattle.pep_table.proofs.ReadItems.{all_behind, ascending_front}
 use Rattle.pep_table.proofs.ReadParts.{one_head}
 use Rattle.pep_table.proofs.TableLines.{name_plain, regroup}
 use Rattle.pep_table.specs.OneText.{entry_verdict_one}
-use Rattle.pep_table.specs.declared.verdict.Verdict.{Verdict}
+use Rattle.demands.specs.declared.verdict.Verdict.{Verdict}
 use Rattle.pep_table.specs.EntryReading.{BeginsSpace, HasHead, HasNext, HasNoHead, HasNoNext}
 use Rattle.pep_table.specs.EntryReading.{HasNoParts, HasParts, IsEntryAt, head_line, parts_then}
 use Rattle.pep_table.specs.EntryReading.{ranges_then, texts_then, urls_then}
-use Rattle.pep_table.specs.Table.{EntryParts, IsValidEntry, IsValidTable, TableParts, names}
+use Rattle.demands.specs.Table.{EntryParts, IsValidEntry, IsValidTable, TableParts, names}
 use Rattle.pep_table.specs.TableText.{IsNoTableText, IsTableText, Shows, entry_text, kind_lines}
 use Rattle.pep_table.specs.TableText.{line, range_text}
-use Rattle.pep_table.specs.Verdict.{verdict_word}
+use Rattle.demands.specs.Verdict.{verdict_word}
 
 -- ---- an entry's text is its first line and the lines behind it
 

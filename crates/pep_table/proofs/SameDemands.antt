@@ -2,9 +2,9 @@
 use Rattle.std.proofs.Common.{ℕ, List}
 use Rattle.std.proofs.lemmas.Option.{IfSome_then}
 use Rattle.pep_table.proofs.JoinedDemands.{HasEntry, same_entry, same_exact}
-use Rattle.pep_table.specs.Demand.{Demands, HaveSameDemands}
-use Rattle.pep_table.specs.Table.{HasExactPoints, IsTable, IsValidTable, TableParts}
-use Rattle.pep_table.specs.Table.{entry_at}
+use Rattle.demands.specs.Demand.{Demands, HaveSameDemands}
+use Rattle.demands.specs.Table.{HasExactPoints, IsTable, IsValidTable, TableParts}
+use Rattle.demands.specs.Table.{entry_at}
 
 -- the table of one is the table of the other
 pub same_table : (Q W : Demands) (t : TableParts) → HaveSameDemands Q W → IsTable Q t → IsTable W t

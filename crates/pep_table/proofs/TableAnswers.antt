@@ -2,17 +2,17 @@
 use Rattle.std.proofs.Common.{ℕ, Bool, List, Option, Some, None}
 use Rattle.std.specs.Prelude.{IfSome}
 use Rattle.pep_version.specs.Version.{IsVersion, Version}
-use Rattle.pep_table.proofs.Answers.{conflict_exactly, meets_exactly}
+use Rattle.demands.proofs.Answers.{conflict_exactly, meets_exactly}
 use Rattle.pep_table.proofs.JoinedDemands.{IsNamed, undemanded}
-use Rattle.pep_table.specs.Answer.{IsAnswer}
-use Rattle.pep_table.specs.Demand.{Demand, Demands, url}
-use Rattle.pep_table.specs.Table.{EntryParts, IsEntry, IsTable, IsValidEntry, TableParts, entry_at}
+use Rattle.demands.specs.Answer.{IsAnswer}
+use Rattle.demands.specs.Demand.{Demand, Demands, url}
+use Rattle.demands.specs.Table.{EntryParts, IsEntry, IsTable, IsValidEntry, TableParts, entry_at}
 use Rattle.pep_table.specs.TableLaws.{entry_valid}
-use Rattle.pep_table.specs.Verdict.{HasConflict, IsVerdict, MeetsAll}
-use Rattle.pep_table.specs.declared.verdict.Verdict.{Verdict}
-use Rattle.pep_table.specs.declared.verdict.Verdict.TheVariants as verdicts
-use Rattle.pep_table.specs.declared.verdict.Answer.{Answer}
-use Rattle.pep_table.specs.declared.verdict.Answer.TheVariants as answers
+use Rattle.demands.specs.Verdict.{HasConflict, IsVerdict, MeetsAll}
+use Rattle.demands.specs.declared.verdict.Verdict.{Verdict}
+use Rattle.demands.specs.declared.verdict.Verdict.TheVariants as verdicts
+use Rattle.demands.specs.declared.verdict.Answer.{Answer}
+use Rattle.demands.specs.declared.verdict.Answer.TheVariants as answers
 
 conflict_at : (Q W : Demand → Type 0) (o : Option EntryParts) → IfSome o IsValidEntry →
     IsNamed Q o → IfSome o (IsEntry Q) → IfSome o (IsEntry W) → HasConflict Q → HasConflict W

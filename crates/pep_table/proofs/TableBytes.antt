@@ -16,13 +16,13 @@ use Rattle.pep_marker.proofs.RunLemmas.{ascii-class}
 use Rattle.pep_table.proofs.CutTexts.{HasCuts, have_cuts, is_plain, normal_plain}
 use Rattle.pep_table.proofs.Runs.{all_append, each_map}
 use Rattle.pep_table.proofs.TableLines.{IsTextEntry, demanded_plain, name_plain, text_entries, url_plain}
-use Rattle.pep_table.specs.declared.verdict.Verdict.{Verdict}
-use Rattle.pep_table.specs.declared.verdict.Verdict.TheVariants.{Possible, Nothing, Conflict}
+use Rattle.demands.specs.declared.verdict.Verdict.{Verdict}
+use Rattle.demands.specs.declared.verdict.Verdict.TheVariants.{Possible, Nothing, Conflict}
 use Rattle.pep_table.specs.EntryReading.{head_line}
-use Rattle.pep_table.specs.Table.{EntryParts, IsValidEntry, IsValidTable, TableParts, is_url_text}
+use Rattle.demands.specs.Table.{EntryParts, IsValidEntry, IsValidTable, TableParts, is_url_text}
 use Rattle.pep_table.specs.TableReading.{kind_front}
 use Rattle.pep_table.specs.TableText.{IsTableText, entry_text, kind_lines, line, range_text}
-use Rattle.pep_table.specs.Verdict.{verdict_word}
+use Rattle.demands.specs.Verdict.{verdict_word}
 
 is_small : ℕ → Bool
 is_small b = nat_lt b 128

@@ -15,12 +15,12 @@ use Rattle.pep_require.specs.Reads.{is_url_byte}
 use Rattle.pep_table.proofs.CutTexts.{HasCuts, HasNoFeed, have_cuts, is_not_feed, is_not_space}
 use Rattle.pep_table.proofs.CutTexts.{is_plain, range_feed, without_feed, without_space}
 use Rattle.pep_table.proofs.Runs.{Stops, all_append, each_append, each_map, run_one}
-use Rattle.pep_table.specs.declared.verdict.Verdict.{Verdict}
-use Rattle.pep_table.specs.declared.verdict.Verdict.TheVariants.{Possible, Nothing, Conflict}
+use Rattle.demands.specs.declared.verdict.Verdict.{Verdict}
+use Rattle.demands.specs.declared.verdict.Verdict.TheVariants.{Possible, Nothing, Conflict}
 use Rattle.pep_table.specs.EntryReading.{head_line}
-use Rattle.pep_table.specs.Table.{EntryParts, IsValidEntry, TableParts, is_url_text, names}
+use Rattle.demands.specs.Table.{EntryParts, IsValidEntry, TableParts, is_url_text, names}
 use Rattle.pep_table.specs.TableText.{IsTableText, entry_text, kind_lines, line, range_text}
-use Rattle.pep_table.specs.Verdict.{verdict_word}
+use Rattle.demands.specs.Verdict.{verdict_word}
 
 -- ---- the lines of a table, without their line feeds
 

@@ -26,14 +26,14 @@ use Rattle.pep_table.proofs.JoinedDemands.{ExactEntry, HasEntry, at_place, eithe
 use Rattle.pep_table.proofs.JoinedDemands.{same_at, table_at, undemanded}
 use Rattle.pep_table.proofs.Members.{in_either, in_first, in_none, in_rest, passes_from, passes_of}
 use Rattle.pep_table.proofs.SameDemands.{same_demands, table_from_entries}
-use Rattle.pep_table.specs.Demand.{AdmitsBesideTexts, ApplyingDemands, Demand, Demands}
-use Rattle.pep_table.specs.Demand.{RequirementDemands, TargetDemands, Together, presence, extra}
-use Rattle.pep_table.specs.Demand.{url, clause, ranges}
-use Rattle.pep_table.specs.Gathering.{MeetsClauses, TakesApplying, TakesEntry, TakesIf}
-use Rattle.pep_table.specs.Gathering.{TakesRequirement, bare_entry, target_clauses, target_urls}
-use Rattle.pep_table.specs.Gathering.{texts_of}
-use Rattle.pep_table.specs.Table.{AdmitsPoint, EntryParts, HasExactPoints, IsEntry, IsTable}
-use Rattle.pep_table.specs.Table.{TableParts, entry_at}
+use Rattle.demands.specs.Demand.{AdmitsBesideTexts, ApplyingDemands, Demand, Demands}
+use Rattle.demands.specs.Demand.{RequirementDemands, TargetDemands, Together, presence, extra}
+use Rattle.demands.specs.Demand.{url, clause, ranges}
+use Rattle.demands.specs.Gathering.{MeetsClauses, TakesApplying, TakesEntry, TakesIf}
+use Rattle.demands.specs.Gathering.{TakesRequirement, bare_entry, target_clauses, target_urls}
+use Rattle.demands.specs.Gathering.{texts_of}
+use Rattle.demands.specs.Table.{AdmitsPoint, EntryParts, HasExactPoints, IsEntry, IsTable}
+use Rattle.demands.specs.Table.{TableParts, entry_at}
 
 -- The set of the clause holds what the clause admits, as `VersionSet::of` says; of `===` this says
 -- nothing. It is so of each clause that some text is read as, and not of all others: `<=` of a

@@ -2,10 +2,10 @@
 use Rattle.std.specs.Prelude.{◌≡◌, ℕ, codes, List, [], ◌∷◌, ◌++◌, map}
 use Rattle.pep_marker.specs.Name.{IsNormalName}
 use Rattle.pep_require.specs.Requirement.{IsAscending}
-use Rattle.pep_table.specs.declared.verdict.Verdict.{Verdict}
-use Rattle.pep_table.specs.Table.{EntryParts, IsValidEntry}
+use Rattle.demands.specs.declared.verdict.Verdict.{Verdict}
+use Rattle.demands.specs.Table.{EntryParts, IsValidEntry}
 use Rattle.pep_table.specs.TableText.{Shows, entry_text, kind_lines, line, range_text}
-use Rattle.pep_table.specs.Verdict.{verdict_word}
+use Rattle.demands.specs.Verdict.{verdict_word}
 
 -- as no text of a table does
 abbrev pub BeginsSpace : List ℕ → Type 0

@@ -18,13 +18,13 @@ use Rattle.specifiers.specs.Clause.{demanded}
 use Rattle.pep_require.specs.Requirement.{IsAscending}
 use Rattle.pep_require.proofs.Ascending.{Contains-from_IsIn, IsIn, IsIn-from_Contains}
 use Rattle.pep_require.proofs.Ascending.{ascending_same, first_below, irreflexive, rest_ascends}
-use Rattle.pep_table.specs.declared.verdict.Verdict.{Verdict}
-use Rattle.pep_table.specs.declared.verdict.Verdict.TheVariants.{Possible, Nothing, Conflict}
-use Rattle.pep_table.specs.Demand.{Demand, Demands, HaveSameDemands, clause, extra, url}
-use Rattle.pep_table.specs.Table.{AdmitsPoint, EntryParts, HasExactPoints, IsEntry, IsTable}
-use Rattle.pep_table.specs.Table.{IsValidEntry, TableParts, entry_at, names}
+use Rattle.demands.specs.declared.verdict.Verdict.{Verdict}
+use Rattle.demands.specs.declared.verdict.Verdict.TheVariants.{Possible, Nothing, Conflict}
+use Rattle.demands.specs.Demand.{Demand, Demands, HaveSameDemands, clause, extra, url}
+use Rattle.demands.specs.Table.{AdmitsPoint, EntryParts, HasExactPoints, IsEntry, IsTable}
+use Rattle.demands.specs.Table.{IsValidEntry, TableParts, entry_at, names}
 use Rattle.pep_table.specs.TableText.{IsTableText, entry_text}
-use Rattle.pep_table.specs.Verdict.{IsEntryVerdict}
+use Rattle.demands.specs.Verdict.{IsEntryVerdict}
 
 -- ---- an entry has one verdict
 

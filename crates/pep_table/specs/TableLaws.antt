@@ -4,10 +4,10 @@ use Rattle.std.proofs.Common.{subst, ◌∙◌, Option, Some, None}
 use Rattle.std.proofs.lemmas.List.Elements.{All-head, All-tail}
 use Rattle.std.specs.List.{All}
 use Rattle.std.specs.Prelude.{bytes_eq, IfSome}
-use Rattle.pep_table.specs.EntryLaws.{IsJoin-JoinsEntries}
-use Rattle.pep_table.specs.Join.{IsJoin, JoinsAt, JoinsTables}
+use Rattle.demands.specs.EntryLaws.{IsJoin-JoinsEntries}
+use Rattle.demands.specs.Join.{IsJoin, JoinsAt, JoinsTables}
 use Rattle.pep_table.specs.OneText.{one_table}
-use Rattle.pep_table.specs.Table.{EntryParts, IsValidEntry, IsValidTable, TableParts, entry_at}
+use Rattle.demands.specs.Table.{EntryParts, IsValidEntry, IsValidTable, TableParts, entry_at}
 
 -- ---- entries of a valid table
 

@@ -3,17 +3,14 @@
 ghost use Rattle.std.specs.Prelude.{◌≡◌, ◌⊎◌, ◌∷◌, [], IfErr, IfOk, string_bytes};
 ghost use Rattle.pep_require.specs.Requirement.{HasUndefinedMarker};
 ghost use Rattle.pep_require.specs.View.{requirement_parts};
-ghost use Rattle.pep_table.specs.Gathering.{TakesApplying, TakesRequirement};
-ghost use Rattle.pep_table.specs.Join.{JoinsTables};
-ghost use Rattle.pep_table.specs.Table.{IsValidTable};
+ghost use Rattle.demands.specs.Gathering.{TakesApplying, TakesRequirement};
+ghost use Rattle.demands.specs.Join.{JoinsTables};
+ghost use Rattle.demands.specs.Table.{IsValidTable};
 ghost use Rattle.pep_table.specs.TableText.{IsTableText};
 
-use crate::entry::Entry;
-use crate::fault::TableFault;
-use crate::gathered::Gathered;
-use crate::sorted::Kept;
 use crate::table::Table;
 use crate::text::push_entry;
+use demands::{Entry, Gathered, Kept, TableFault};
 use pep_marker::{Environment, MarkerFault, Name};
 use pep_require::Requirement;
 use std::alloc::Global;
@@ -27,7 +24,7 @@ pub struct Gathering {
 }
 
 impl Model for Gathering {
-    ghost use Rattle.pep_table.specs.Table.{IsValidTable, TableParts};
+    ghost use Rattle.demands.specs.Table.{IsValidTable, TableParts};
 
     ghost Value = { TableParts };
 

@@ -4,16 +4,16 @@ ghost use Rattle.std.specs.Prelude.{◌≡◌, ◌↔◌, ℕ, Bool, Contains, I
 ghost use Rattle.std.specs.List.{AllZip};
 ghost use Rattle.pep_version.specs.Version.{IsVersion, Version};
 ghost use Rattle.pep_marker.specs.Environment.{EnvironmentParts};
-ghost use Rattle.pep_table.specs.Answer.{IsAnswer};
-ghost use Rattle.pep_table.specs.Demand.{
+ghost use Rattle.demands.specs.Answer.{IsAnswer};
+ghost use Rattle.demands.specs.Demand.{
   ApplyingDemands,
   Demand,
   Listed,
   RequirementDemands,
   Together,
 };
-ghost use Rattle.pep_table.specs.Gathering.{TakesApplying, TakesRequirement};
-ghost use Rattle.pep_table.specs.Join.{IsJoin, IsUnion, JoinsAll, JoinsTables};
+ghost use Rattle.demands.specs.Gathering.{TakesApplying, TakesRequirement};
+ghost use Rattle.demands.specs.Join.{IsJoin, IsUnion, JoinsAll, JoinsTables};
 ghost use Rattle.pep_table.specs.MergeTree.{
   MakesTable,
   MergeTree,
@@ -23,7 +23,7 @@ ghost use Rattle.pep_table.specs.MergeTree.{
   joined,
   printed,
 };
-ghost use Rattle.pep_table.specs.Table.{
+ghost use Rattle.demands.specs.Table.{
   HasExactPoints,
   IsTable,
   IsValidTable,
@@ -31,11 +31,10 @@ ghost use Rattle.pep_table.specs.Table.{
   TableParts,
 };
 ghost use Rattle.pep_table.specs.TableText.{IsTableText};
-ghost use Rattle.pep_table.specs.Verdict.{IsVerdict};
+ghost use Rattle.demands.specs.Verdict.{IsVerdict};
 ghost use Rattle.pep_require.specs.Requirement.{IsAscending, RequirementParts};
 
-use crate::join::Join;
-use crate::verdict::{Answer, Verdict};
+use demands::{Answer, Join, Verdict};
 
 /// A table has one text.
 pub fn one_table_text()

@@ -25,16 +25,14 @@ ghost use Rattle.pep_table.specs.EntryReading.{
   HasNoParts,
   HasParts,
 };
-ghost use Rattle.pep_table.specs.Table.{IsValidTable, names};
+ghost use Rattle.demands.specs.Table.{IsValidTable, names};
 ghost use Rattle.pep_table.specs.TableText.{IsBadTable, IsNoTableText, IsTableText};
-ghost use Rattle.pep_table.specs.Verdict.{verdict_word};
+ghost use Rattle.demands.specs.Verdict.{verdict_word};
 
-use crate::entry::Entry;
-use crate::fault::TableFault;
 use crate::read::items::{Extras, Texts, Urls, listed_name, read_items};
 use crate::read::ranges::read_ranges;
 use crate::table::Table;
-use crate::verdict::Verdict;
+use demands::{Entry, TableFault, Verdict};
 use pep_marker::Name;
 use std::alloc::{AllocError, AllocFailed, Global};
 

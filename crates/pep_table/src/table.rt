@@ -4,15 +4,12 @@ ghost use Rattle.std.specs.Prelude.{◌≡◌, ◌≢◌, ◌⊎◌, [], All, If
 ghost use Rattle.std.specs.Option.{option_map};
 ghost use Rattle.pep_require.specs.Requirement.{HasDefinedMarker};
 ghost use Rattle.pep_require.specs.View.{requirement_parts};
-ghost use Rattle.pep_table.specs.Demand.{ApplyingDemands};
-ghost use Rattle.pep_table.specs.Gathering.{IsFirstUndefined};
-ghost use Rattle.pep_table.specs.Table.{HasExactPoints, IsTable, IsValidTable, entry_at};
+ghost use Rattle.demands.specs.Demand.{ApplyingDemands};
+ghost use Rattle.demands.specs.Gathering.{IsFirstUndefined};
+ghost use Rattle.demands.specs.Table.{HasExactPoints, IsTable, IsValidTable, entry_at};
 
-use crate::entry::Entry;
-use crate::fault::TableFault;
 use crate::gathering::Gathering;
-use crate::join::Join;
-use crate::sorted::Kept;
+use demands::{Entry, Join, Kept, TableFault};
 use pep_marker::{Environment, MarkerFault, Name};
 use pep_require::Requirement;
 use std::alloc::Global;
@@ -25,7 +22,7 @@ pub struct Table {
 }
 
 impl Model for Table {
-    ghost use Rattle.pep_table.specs.Table.{IsValidTable, TableParts};
+    ghost use Rattle.demands.specs.Table.{IsValidTable, TableParts};
 
     ghost Value = { TableParts };
 
@@ -123,8 +120,8 @@ impl Table {
 }
 
 impl Join for Table {
-    ghost use Rattle.pep_table.specs.Join.{JoinsTables};
-    ghost use Rattle.pep_table.specs.Table.{IsValidTable};
+    ghost use Rattle.demands.specs.Join.{JoinsTables};
+    ghost use Rattle.demands.specs.Table.{IsValidTable};
     ghost use Rattle.pep_table.specs.TableLaws.{IsJoin-JoinsTables};
 
     ghost is_value = { IsValidTable };

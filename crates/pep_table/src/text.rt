@@ -9,13 +9,10 @@ ghost use Rattle.pep_table.specs.TableText.{
   line,
   range_text,
 };
-ghost use Rattle.pep_table.specs.Verdict.{verdict_word};
+ghost use Rattle.demands.specs.Verdict.{verdict_word};
 
-use crate::entry::Entry;
-use crate::fault::TableFault;
-use crate::sorted::Kept;
 use crate::table::Table;
-use crate::verdict::Verdict;
+use demands::{Entry, Kept, TableFault, Verdict};
 use pep_clause::{Cut, Range};
 use pep_marker::Name;
 use std::alloc::Global;

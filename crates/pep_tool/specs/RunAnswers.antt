@@ -7,9 +7,9 @@ use Rattle.pep_marker.specs.Environment.{EnvironmentParts}
 use Rattle.pep_marker.specs.Name.{name_of}
 use Rattle.pep_marker.specs.declared.fault.MarkerFault.TheVariants as marker_fault
 use Rattle.pep_require.specs.Requirement.{RequirementParts}
-use Rattle.pep_table.specs.Answer.{IsAnswer}
-use Rattle.pep_table.specs.declared.verdict.Answer.{Answer}
-use Rattle.pep_table.specs.declared.verdict.Answer.TheVariants.{Conflict, No, Yes}
+use Rattle.demands.specs.Answer.{IsAnswer}
+use Rattle.demands.specs.declared.verdict.Answer.{Answer}
+use Rattle.demands.specs.declared.verdict.Answer.TheVariants.{Conflict, No, Yes}
 use Rattle.pep_version.specs.Spelling.{Reads}
 use Rattle.pep_version.specs.Text.{normal_text}
 use Rattle.pep_version.specs.Version.{Version}

@@ -26,12 +26,11 @@ ghost use Rattle.specifiers.specs.Clause.{is_clause_byte, is_demanded_text};
 ghost use Rattle.pep_require.specs.Reads.{is_url_byte};
 ghost use Rattle.pep_marker.specs.Name.{IsNormalName};
 ghost use Rattle.pep_require.specs.Requirement.{IsAscending};
-ghost use Rattle.pep_table.specs.Table.{is_url_text};
+ghost use Rattle.demands.specs.Table.{is_url_text};
 ghost use Rattle.pep_table.specs.TableReading.{AreItems, Front, HasNoFront, kind_front};
 
-use crate::fault::TableFault;
 use crate::read::Halt;
-use crate::sorted::{Kept, Sorted};
+use demands::{Kept, Sorted, TableFault};
 use pep_clause::is_clause_byte;
 use pep_marker::{MarkerFault, Name};
 use std::alloc::Global;
@@ -130,7 +129,7 @@ fn is_demanded_text(text: &str) -> bool
 
 impl Kind for Urls {
     ghost use Rattle.std.specs.Prelude.{IsTrue, codes};
-    ghost use Rattle.pep_table.specs.Table.{is_url_text};
+    ghost use Rattle.demands.specs.Table.{is_url_text};
 
     type Item = String;
 

@@ -21,8 +21,8 @@ ghost use Rattle.pep_clause.specs.VersionSet.{IsNormal, Range};
 ghost use Rattle.pep_table.specs.TableReading.{AreRanges, Front, HasNoFront, IsRange};
 ghost use Rattle.pep_table.specs.TableText.{range_text};
 
-use crate::fault::TableFault;
 use crate::read::Halt;
+use demands::TableFault;
 use pep_clause::{Cut, Range, VersionSet};
 use std::alloc::Global;
 

@@ -17,7 +17,7 @@ ghost use Rattle.std.specs.Prelude.{
   string_bytes,
 };
 ghost use Rattle.pep_require.specs.View.{requirement_parts};
-ghost use Rattle.pep_table.specs.Table.{HasExactPoints, IsTable};
+ghost use Rattle.demands.specs.Table.{HasExactPoints, IsTable};
 ghost use Rattle.devices.specs.Device.{Device, IsFresh};
 ghost use Rattle.inputs.specs.Gathered.{Gathered, IsAccepted};
 ghost use Rattle.inputs.specs.Lists.{Lists, input_limit};

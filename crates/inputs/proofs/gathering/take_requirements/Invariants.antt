@@ -1,6 +1,6 @@
 use Rattle.std.proofs.Common.{◌≡◌, map, take}
 use Rattle.pep_require.specs.View.{requirement_parts}
-use Rattle.pep_table.specs.Gathering.{TakesApplying}
+use Rattle.demands.specs.Gathering.{TakesApplying}
 use Rattle.inputs.proofs.gathering.take_requirements.Given as goal
 
 abbrev pub invariant-loop-requirement : goal.invariant-loop-requirement

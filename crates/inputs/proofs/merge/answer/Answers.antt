@@ -1,6 +1,6 @@
 use Rattle.std.proofs.Common.{IfOk, subst}
-use Rattle.pep_table.specs.Answer.{IsAnswer}
-use Rattle.pep_table.specs.Table.{TableDemands, TableParts}
+use Rattle.demands.specs.Answer.{IsAnswer}
+use Rattle.demands.specs.Table.{TableDemands, TableParts}
 use Rattle.inputs.proofs.merge.answer.Goals as goal
 
 pub returns : goal.returns

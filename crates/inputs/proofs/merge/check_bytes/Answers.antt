@@ -1,6 +1,6 @@
 use Rattle.pep_table.proofs.JoinedDemands.{own_table}
 use Rattle.pep_table.proofs.TableAnswers.{answer_by_table}
-use Rattle.pep_table.specs.Table.{TableDemands}
+use Rattle.demands.specs.Table.{TableDemands}
 use Rattle.inputs.specs.Gathered.{Gathered}
 use Rattle.inputs.proofs.merge.check_bytes.Goals as goal
 

@@ -1,6 +1,6 @@
 use Rattle.std.proofs.Common.{◌≡◌, ◌⊎◌, subst}
 use Rattle.pep_table.specs.TableText.{IsBadTable}
-use Rattle.pep_table.specs.declared.fault.TableFault.TheVariants.{NoMemory}
+use Rattle.demands.specs.declared.fault.TableFault.TheVariants.{NoMemory}
 use Rattle.inputs.proofs.TableFileLemmas.{text_refused}
 use Rattle.inputs.proofs.table_file.table_in.Goals as goal
 

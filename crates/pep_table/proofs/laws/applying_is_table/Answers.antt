@@ -1,5 +1,5 @@
 use Rattle.pep_table.proofs.Taking as laws
-use Rattle.pep_table.specs.Demand.{Listed}
+use Rattle.demands.specs.Demand.{Listed}
 use Rattle.pep_table.proofs.laws.applying_is_table.Goals as goal
 
 pub returns : goal.returns

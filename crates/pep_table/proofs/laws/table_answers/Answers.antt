@@ -1,7 +1,7 @@
 use Rattle.pep_table.proofs.JoinedDemands.{own_table}
 use Rattle.pep_table.proofs.TableAnswers as laws
-use Rattle.pep_table.specs.Demand.{Listed}
-use Rattle.pep_table.specs.Table.{TableDemands}
+use Rattle.demands.specs.Demand.{Listed}
+use Rattle.demands.specs.Table.{TableDemands}
 use Rattle.pep_table.proofs.laws.table_answers.Goals as goal
 
 pub returns-clause-answers : goal.returns-clause-answers

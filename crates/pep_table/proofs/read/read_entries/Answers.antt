@@ -3,7 +3,7 @@ use Rattle.std.proofs.lemmas.Result.{err_from_is_err_and}
 use Rattle.pep_table.proofs.ReadParts.{further}
 use Rattle.pep_table.proofs.ReadTables.{EntriesSoFar, all_read, entry_more, no_next}
 use Rattle.pep_table.specs.EntryReading.{HasNext, HasNoNext}
-use Rattle.pep_table.specs.Table.{names}
+use Rattle.demands.specs.Table.{names}
 use Rattle.pep_table.proofs.read.read_entries.Goals as goal
 
 pub returns-in_err-name-clause-refused : goal.returns-in_err-name-clause-refused

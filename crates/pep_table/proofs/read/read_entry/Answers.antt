@@ -3,7 +3,7 @@ use Rattle.std.proofs.lemmas.Result.{err_from_is_err_and}
 use Rattle.pep_require.specs.Requirement.{IsAscending}
 use Rattle.pep_table.proofs.ReadParts.{further}
 use Rattle.pep_table.proofs.ReadTables.{entry_read, no_parts, not_behind, other_verdict}
-use Rattle.pep_table.specs.Table.{names}
+use Rattle.demands.specs.Table.{names}
 use Rattle.pep_table.specs.TableText.{Shows}
 use Rattle.pep_table.proofs.read.read_entry.Goals as goal
 

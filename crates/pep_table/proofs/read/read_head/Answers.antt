@@ -2,8 +2,8 @@ use Rattle.std.proofs.Common.{◌≡◌, None, Some, inr, lit<, rules}
 use Rattle.std.proofs.lemmas.Str.Pattern.{split_parts}
 use Rattle.pep_marker.specs.Name.{IsNormalName}
 use Rattle.pep_require.proofs.ExtrasLoops.{all_but_at}
-use Rattle.pep_table.specs.declared.verdict.Verdict.{Verdict}
-use Rattle.pep_table.specs.Verdict.{verdict_word}
+use Rattle.demands.specs.declared.verdict.Verdict.{Verdict}
+use Rattle.demands.specs.Verdict.{verdict_word}
 use Rattle.pep_table.proofs.ReadParts.{no_line, no_name, no_space, no_verdict}
 use Rattle.pep_table.proofs.read.read_head.Goals as goal
 

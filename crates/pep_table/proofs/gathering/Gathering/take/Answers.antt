@@ -3,8 +3,8 @@ use Rattle.std.specs.BTreeMap.{UpdatesBy, get}
 use Rattle.std.specs.Option.{option_copied_mut}
 use Rattle.pep_marker.specs.Name.{name_cmp}
 use Rattle.pep_require.specs.View.{requirement_parts}
-use Rattle.pep_table.specs.Gathering.{TakesEntry, TakesRequirement}
-use Rattle.pep_table.specs.Table.{IsValidTable, TableParts}
+use Rattle.demands.specs.Gathering.{TakesEntry, TakesRequirement}
+use Rattle.demands.specs.Table.{IsValidTable, TableParts}
 use Rattle.pep_table.proofs.NamedEntries.{Entries, map_takes}
 use Rattle.pep_table.proofs.gathering.Gathering.take.Goals as goal
 

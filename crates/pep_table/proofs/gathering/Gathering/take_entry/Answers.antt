@@ -2,8 +2,8 @@ use Rattle.std.proofs.Common.{◌≡◌, ◌∷◌, [], Some, None, ap, subst, s
 use Rattle.std.specs.BTreeMap.{UpdatesBy, get}
 use Rattle.std.specs.Option.{option_copied_mut}
 use Rattle.pep_marker.specs.Name.{name_cmp}
-use Rattle.pep_table.specs.Join.{JoinsEntries, JoinsTables}
-use Rattle.pep_table.specs.Table.{IsValidTable, TableParts}
+use Rattle.demands.specs.Join.{JoinsEntries, JoinsTables}
+use Rattle.demands.specs.Table.{IsValidTable, TableParts}
 use Rattle.pep_table.proofs.NamedEntries.{Entries, map_joins}
 use Rattle.pep_table.proofs.gathering.Gathering.take_entry.Goals as goal
 

@@ -1,9 +1,9 @@
 use Rattle.std.proofs.Common.{◌+◌, ◌≡◌, ◌++◌, [], ◌∷◌, rules, subst, sym, suc, take, drop, ◌∙◌}
 use Rattle.pep_require.specs.Requirement.{IsAscending}
-use Rattle.pep_table.specs.Join.{JoinsTables}
-use Rattle.pep_table.specs.Table.{TableParts, names}
+use Rattle.demands.specs.Join.{JoinsTables}
+use Rattle.demands.specs.Table.{TableParts, names}
 use Rattle.pep_table.proofs.EntryPlaces.{joins_next, joins_none, whole}
-use Rattle.pep_table.proofs.KeptSets.{next_taken}
+use Rattle.demands.proofs.KeptSets.{next_taken}
 use Rattle.pep_table.proofs.gathering.Gathering.take_table.Goals as goal
 
 pub loop-name-init : goal.loop-name-init

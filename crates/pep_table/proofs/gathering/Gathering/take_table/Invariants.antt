@@ -1,5 +1,5 @@
 use Rattle.std.proofs.Common.{take}
-use Rattle.pep_table.specs.Join.{JoinsTables}
+use Rattle.demands.specs.Join.{JoinsTables}
 use Rattle.pep_table.proofs.gathering.Gathering.take_table.Given as goal
 
 abbrev pub invariant-loop-name : goal.invariant-loop-name

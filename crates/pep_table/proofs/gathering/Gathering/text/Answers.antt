@@ -1,6 +1,6 @@
 use Rattle.std.proofs.Common.{◌≡◌, ◌∷◌, ap, rules, string_bytes, subst, sym, ◌∙◌}
 use Rattle.std.specs.List.{All}
-use Rattle.pep_table.specs.Table.{IsValidEntry, TableParts}
+use Rattle.demands.specs.Table.{IsValidEntry, TableParts}
 use Rattle.std.proofs.lemmas.List.Elements.{All-tail}
 use Rattle.pep_table.proofs.PrintedEntries.{all_printed, one_printed}
 use Rattle.pep_table.proofs.gathering.Gathering.text.Goals as goal

@@ -1,6 +1,6 @@
 use Rattle.std.proofs.Common.{string_bytes}
 use Rattle.std.specs.List.{All}
-use Rattle.pep_table.specs.Table.{IsValidEntry}
+use Rattle.demands.specs.Table.{IsValidEntry}
 use Rattle.pep_table.proofs.PrintedEntries.{PrintsUpTo}
 use Rattle.pep_table.proofs.gathering.Gathering.text.Given as goal
 

@@ -1,8 +1,8 @@
 use Rattle.std.proofs.Common.{◌≡◌, ◌∙◌, Some, ap, sym}
 use Rattle.std.proofs.lemmas.Result.{IfOk-weaker}
 use Rattle.std.specs.Option.{option_map}
-use Rattle.pep_table.specs.Answer.{IsAnswer}
-use Rattle.pep_table.specs.Table.{EntryDemands, TableDemands, entry_at}
+use Rattle.demands.specs.Answer.{IsAnswer}
+use Rattle.demands.specs.Table.{EntryDemands, TableDemands, entry_at}
 use Rattle.pep_table.proofs.NameDemands.{answer_too, demands_there}
 use Rattle.pep_table.proofs.table.Table.admits.Goals as goal
 

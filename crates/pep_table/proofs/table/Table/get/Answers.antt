@@ -5,9 +5,9 @@ use Rattle.std.specs.List.Sorted.{IsNonDecreasingBy, IsPartitionPoint}
 use Rattle.std.specs.Ordering.{ordering_index}
 use Rattle.std.specs.Prelude.{slice_index_or}
 use Rattle.std.proofs.lemmas.Fn.{always_returns_same}
-use Rattle.pep_table.specs.Table.{EntryParts, TableParts, entry_at}
+use Rattle.demands.specs.Table.{EntryParts, TableParts, entry_at}
 use Rattle.pep_table.proofs.EntryPlaces.{entry_at-place, none_found}
-use Rattle.pep_table.proofs.KeptSets.{text_cmp, same_text}
+use Rattle.demands.proofs.KeptSets.{text_cmp, same_text}
 use Rattle.pep_table.proofs.table.Table.get.Goals as goal
 
 pub returns-in-Ok : goal.returns-in-Ok

@@ -1,6 +1,6 @@
 use Rattle.std.proofs.Common.{[], map, take}
 use Rattle.pep_require.specs.View.{requirement_parts}
-use Rattle.pep_table.specs.Gathering.{TakesApplying}
+use Rattle.demands.specs.Gathering.{TakesApplying}
 use Rattle.pep_table.proofs.table.Table.of.Given as goal
 
 abbrev pub invariant-loop-i : goal.invariant-loop-i

@@ -1,6 +1,6 @@
 use Rattle.std.proofs.Common.{◌∷◌, ◌+◌, ap, drop, string_bytes, subst, sym, ◌∙◌}
 use Rattle.std.proofs.lemmas.List.{drop_all, drop_more}
-use Rattle.pep_table.specs.Table.{TableParts}
+use Rattle.demands.specs.Table.{TableParts}
 use Rattle.pep_table.specs.TableText.{IsTableText}
 use Rattle.pep_table.proofs.PrintedEntries.{all_printed, one_printed}
 use Rattle.pep_table.proofs.table.Table.text.Goals as goal

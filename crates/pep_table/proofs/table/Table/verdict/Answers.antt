@@ -1,7 +1,7 @@
 use Rattle.std.proofs.Common.{◌≡◌, ◌∙◌, Some, ap, refl, subst, sym}
 use Rattle.std.specs.Option.{option_map}
-use Rattle.pep_table.specs.Table.{EntryDemands, TableDemands, entry_at}
-use Rattle.pep_table.specs.Verdict.{IsEntryVerdict}
+use Rattle.demands.specs.Table.{EntryDemands, TableDemands, entry_at}
+use Rattle.demands.specs.Verdict.{IsEntryVerdict}
 use Rattle.pep_table.proofs.NameDemands.{demands_there, verdict_too}
 use Rattle.pep_table.proofs.table.Table.verdict.Goals as goal
 

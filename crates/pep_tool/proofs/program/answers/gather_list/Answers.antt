@@ -1,7 +1,7 @@
 use Rattle.std.proofs.Common.{IfOk, [], ◌∷◌, subst}
 use Rattle.std.specs.Prelude.{All}
 use Rattle.pep_marker.specs.Environment.{EnvironmentParts}
-use Rattle.pep_table.specs.Table.{HasExactPoints, IsTable}
+use Rattle.demands.specs.Table.{HasExactPoints, IsTable}
 use Rattle.inputs.specs.declared.input.Input.{Input}
 use Rattle.inputs.specs.declared.input.Kind.TheVariants as kind
 use Rattle.inputs.specs.Gathered.{Gathered, IsAccepted}

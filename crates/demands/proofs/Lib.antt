@@ -1,0 +1,9 @@
+pub mod KeptSets
+pub mod ValidEntries
+pub mod TakenClauses
+pub mod JoinedItems
+pub mod Answers
+pub mod Verdicts
+pub mod EntryTexts
+pub mod SameLemmas
+pub mod OwnEntry

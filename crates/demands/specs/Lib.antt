@@ -1,0 +1,12 @@
+pub mod Demand
+pub mod Table
+pub mod Verdict
+pub mod Answer
+pub mod SameTables
+pub mod Join
+pub mod JoinLaws
+pub mod Code
+pub mod Gathering
+pub mod Others
+pub mod IntersectionLaws
+pub mod EntryLaws

@@ -1,0 +1,19 @@
+//! What is demanded of one package: its entry in a table, joined with others and gathered from
+//! requirements, and what it says of versions.
+#![tactic(auto)]
+
+mod entry;
+mod fault;
+mod gathered;
+mod join;
+mod others;
+mod same;
+mod sorted;
+mod verdict;
+
+pub use crate::entry::Entry;
+pub use crate::fault::TableFault;
+pub use crate::gathered::Gathered;
+pub use crate::join::{Join, join_all};
+pub use crate::sorted::{Kept, Sorted};
+pub use crate::verdict::{Answer, Verdict, is_wanted};

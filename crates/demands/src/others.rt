@@ -1,0 +1,201 @@
+// What requirements demand of a package besides its versions.
+
+ghost use Rattle.std.specs.Prelude.{
+  ◌≡◌,
+  ◌∷◌,
+  [],
+  All,
+  IfOk,
+  IfErr,
+  IsTrue,
+  OnOk,
+  false,
+  map,
+  string_bytes,
+};
+ghost use Rattle.pep_require.specs.View.{requirement_parts, target_parts};
+ghost use Rattle.demands.specs.Gathering.{target_clauses, target_urls, texts_of};
+ghost use Rattle.demands.specs.Join.{IsUnion};
+ghost use Rattle.demands.specs.Others.{
+  JoinsOthers,
+  TakesOthers,
+  DemandsNothingElse,
+  entry_with,
+  no_others,
+};
+ghost use Rattle.demands.specs.Table.{IsValidEntry, is_url_text};
+
+use crate::entry::Entry;
+use crate::fault::TableFault;
+use crate::sorted::{Sorted, put, put_all};
+use pep_clause::{Clause, VersionSet};
+use pep_marker::Name;
+use pep_require::{Requirement, Target, UrlText};
+use std::alloc::Global;
+use std::collections::BTreeSet;
+use std::marker::Model;
+
+/// The extras, URLs and texts that requirements demand of one package. Most packages have none. The
+/// sets grow one by one, which the sorted lists of an [`Entry`] would not do well.
+#[derive(Drop)]
+pub(crate) struct Others {
+    extras: BTreeSet<Name>,
+    urls: BTreeSet<String>,
+    texts: BTreeSet<String>,
+}
+
+impl Model for Others {
+    ghost use Rattle.std.specs.Prelude.{map, string_bytes};
+    ghost use Rattle.demands.specs.Others.{OtherParts};
+
+    ghost Value = { OtherParts };
+
+    ghost view = { λ o. record {
+      extras = map (λ n. n) o.extras.keys;
+      urls = map (λ x. string_bytes x) o.urls.keys;
+      texts = map (λ x. string_bytes x) o.texts.keys;
+    } };
+}
+
+// Takes the text that a clause demands, where it demands one.
+fn take_text(alloc: Global, texts: &mut BTreeSet<String>, clause: &Clause) -> Result<(), TableFault>
+    ensures texts { OnOk result (IsUnion (map (λ x. string_bytes x) texts.old.keys)
+        (texts_of (clause.now ∷ [])) (map (λ x. string_bytes x) texts.new.keys)) }
+    ensures faults { IfErr result (λ e. e ≡ TableFault.NoMemory) }
+{
+    // Its clause tells that the set is in order.
+    let _ = texts.len();
+    match clause.exact_text() {
+        Some(text) => put(texts, String::from_str(alloc, text)?),
+        None => Ok(()),
+    }
+}
+
+// Takes the texts that clauses demand.
+fn take_texts(
+    alloc: Global,
+    texts: &mut BTreeSet<String>,
+    clauses: &[Clause],
+) -> Result<(), TableFault>
+    ensures texts { OnOk result (IsUnion (map (λ x. string_bytes x) texts.old.keys)
+        (texts_of clauses.now) (map (λ x. string_bytes x) texts.new.keys)) }
+    ensures faults { IfErr result (λ e. e ≡ TableFault.NoMemory) }
+{
+    // Its clause tells that the set is in order.
+    let _ = texts.len();
+    for clause in clauses {
+        take_text(alloc, texts, clause)?;
+    }
+    Ok(())
+}
+
+// Takes the text of a URL.
+fn take_url(alloc: Global, urls: &mut BTreeSet<String>, url: &UrlText) -> Result<(), TableFault>
+    ensures urls { OnOk result (IsUnion (map (λ x. string_bytes x) urls.old.keys)
+        (url.now.text ∷ []) (map (λ x. string_bytes x) urls.new.keys)) }
+    ensures valid { IsTrue (is_url_text url.now.text) }
+    ensures faults { IfErr result (λ e. e ≡ TableFault.NoMemory) }
+{
+    put(urls, String::from_str(alloc, url.text())?)
+}
+
+// Whether one of the clauses demands a text.
+fn demands_text(clauses: &[Clause]) -> bool
+    ensures { result ≡ false → texts_of clauses.now ≡ [] }
+{
+    for clause in clauses {
+        if clause.exact_text().is_some() {
+            return true;
+        }
+    }
+    false
+}
+
+/// Whether the requirement may demand more than versions.
+pub(crate) fn demands_others(requirement: &Requirement) -> bool
+    ensures { result ≡ false → DemandsNothingElse (requirement_parts requirement.now) }
+{
+    if !requirement.extras().is_empty() {
+        return true;
+    }
+    match requirement.target() {
+        Target::Bounds(clauses) => demands_text(clauses.as_slice()),
+        Target::Direct(_) => true,
+    }
+}
+
+impl Others {
+    /// Nothing.
+    pub(crate) fn new(alloc: Global) -> Others
+        ensures { result ≡ no_others }
+    {
+        Others {
+            extras: BTreeSet::new(alloc),
+            urls: BTreeSet::new(alloc),
+            texts: BTreeSet::new(alloc),
+        }
+    }
+
+    // Takes the URL or the texts that a target demands.
+    fn take_target(&mut self, alloc: Global, target: &Target) -> Result<(), TableFault>
+        ensures extras { OnOk result (self.new.extras ≡ self.old.extras) }
+        ensures urls { OnOk result (IsUnion self.old.urls (target_urls (target_parts target.now))
+            self.new.urls) }
+        ensures texts { OnOk result (IsUnion self.old.texts
+            (texts_of (target_clauses (target_parts target.now))) self.new.texts) }
+        ensures valid { OnOk result (All (λ u. IsTrue (is_url_text u))
+            (target_urls (target_parts target.now))) }
+        ensures faults { IfErr result (λ e. e ≡ TableFault.NoMemory) }
+    {
+        // Their clauses tell that the sets are in order.
+        let _ = self.urls.len();
+        let _ = self.texts.len();
+        match target {
+            Target::Bounds(clauses) => take_texts(alloc, &mut self.texts, clauses.as_slice()),
+            Target::Direct(url) => take_url(alloc, &mut self.urls, url),
+        }
+    }
+
+    /// Takes what a requirement demands.
+    pub(crate) fn take(
+        &mut self,
+        alloc: Global,
+        requirement: &Requirement,
+    ) -> Result<(), TableFault>
+        ensures taken { OnOk result (TakesOthers self.old (requirement_parts requirement.now)
+            self.new) }
+        ensures faults { IfErr result (λ e. e ≡ TableFault.NoMemory) }
+    {
+        put_all(alloc, &mut self.extras, requirement.extras())?;
+        self.take_target(alloc, requirement.target())
+    }
+
+    /// Takes what an entry demands.
+    pub(crate) fn join(&mut self, alloc: Global, entry: &Entry) -> Result<(), TableFault>
+        ensures joined { OnOk result (JoinsOthers self.old entry.now self.new) }
+        ensures faults { IfErr result (λ e. e ≡ TableFault.NoMemory) }
+    {
+        put_all(alloc, &mut self.extras, entry.extras().items())?;
+        put_all(alloc, &mut self.urls, entry.urls().items())?;
+        put_all(alloc, &mut self.texts, entry.texts().items())
+    }
+
+    /// The entry of these and of the versions.
+    pub(crate) fn entry(self, alloc: Global, versions: VersionSet) -> Result<Entry, TableFault>
+        requires { IsValidEntry (entry_with self versions) }
+        ensures same { IfOk result (λ e. e ≡ entry_with self versions) }
+        ensures faults { IfErr result (λ e. e ≡ TableFault.NoMemory) }
+    {
+        let Others {
+            extras,
+            urls,
+            texts,
+        } = self;
+        Ok(Entry::of(
+            Sorted::of(alloc, extras)?,
+            Sorted::of(alloc, urls)?,
+            Sorted::of(alloc, texts)?,
+            versions,
+        ))
+    }
+}

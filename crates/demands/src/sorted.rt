@@ -1,0 +1,206 @@
+//! Values in the order of their texts, each once.
+
+ghost use Rattle.std.specs.Prelude.{
+  ◌≡◌,
+  ◌∷◌,
+  ⊤,
+  All,
+  List,
+  ℕ,
+  IfErr,
+  IfOk,
+  OnOk,
+  [],
+  map,
+  string_bytes,
+};
+ghost use Rattle.std.specs.Cmp.Lexicographic.{slice_cmp};
+ghost use Rattle.std.specs.Ordering.{nat_cmp};
+ghost use Rattle.pep_require.specs.Requirement.{IsAscending};
+ghost use Rattle.demands.specs.Join.{IsUnion};
+
+use crate::fault::TableFault;
+use crate::join::Join;
+use pep_marker::Name;
+use std::alloc::Global;
+use std::collections::BTreeSet;
+use std::marker::Model;
+
+/// What is kept in the order of its text.
+pub trait Kept: Ord + Drop {
+    /// The text of the value.
+    ghost text: { Self → List ℕ };
+
+    /// Holds of every value.
+    ghost is_value: { Self → Type 0 } = { λ _. ⊤ };
+
+    /// The text.
+    fn as_text(&self) -> &str
+        ensures { result.now ≡ text self.now };
+
+    /// An equal value in storage of its own. The only fault is `NoMemory`, 42.
+    fn kept(&self, alloc: Global) -> Result<Self, TableFault>
+        ensures same { IfOk result (λ r. text r ≡ text self.now) }
+        ensures value { is_value self.now }
+        ensures faults { IfErr result (λ e. e ≡ TableFault.NoMemory) };
+
+    /// Values are compared by their texts.
+    ghost order: { (x y : Self) → Self.cmp x y ≡ slice_cmp nat_cmp (text x) (text y) };
+}
+
+impl Kept for Name {
+    ghost use Rattle.std.specs.Prelude.{refl};
+    ghost use Rattle.pep_marker.specs.Name.{IsNormalName};
+
+    ghost text = { λ n. n };
+
+    ghost is_value = { IsNormalName };
+
+    ghost order = { λ x y. refl };
+
+    fn as_text(&self) -> &str {
+        self.text()
+    }
+
+    fn kept(&self, alloc: Global) -> Result<Name, TableFault> {
+        match self.copied(alloc) {
+            Ok(name) => Ok(name),
+            Err(_) => Err(TableFault::NoMemory),
+        }
+    }
+}
+
+impl Kept for String {
+    ghost use Rattle.std.specs.Prelude.{refl, string_bytes};
+
+    ghost text = { λ x. string_bytes x };
+
+    ghost order = { λ x y. refl };
+
+    fn as_text(&self) -> &str {
+        self.as_str()
+    }
+
+    fn kept(&self, alloc: Global) -> Result<String, TableFault> {
+        Ok(String::from_str(alloc, self.as_str())?)
+    }
+}
+
+/// Values in the order of their texts, each once. Clauses see the texts.
+#[derive(Drop)]
+pub struct Sorted<T: Kept> {
+    items: Vec<T>,
+}
+
+impl<T: Kept> Model for Sorted<T> {
+    ghost use Rattle.std.specs.Prelude.{List, ℕ, map};
+    ghost use Rattle.pep_require.specs.Requirement.{IsAscending};
+
+    ghost Value = { List (List ℕ) };
+
+    ghost view = { λ s. map T.text s.items.items };
+
+    ghost invariant = { λ s. IsAscending (map T.text s.items.items) };
+}
+
+// Puts the value into the set, if it isn't there.
+pub(crate) fn put<T: Kept>(set: &mut BTreeSet<T>, value: T) -> Result<(), TableFault>
+    ensures put { OnOk result (IsUnion (map T.text set.old.keys) (T.text value ∷ [])
+        (map T.text set.new.keys)) }
+    ensures faults { IfErr result (λ e. e ≡ TableFault.NoMemory) }
+{
+    // Its clause tells that the set is in order.
+    let _ = set.len();
+    set.insert(value)?;
+    Ok(())
+}
+
+// Puts copies of the values into the set.
+pub(crate) fn put_all<T: Kept>(
+    alloc: Global,
+    set: &mut BTreeSet<T>,
+    values: &[T],
+) -> Result<(), TableFault>
+    ensures put { OnOk result (IsUnion (map T.text set.old.keys) (map T.text values.now)
+        (map T.text set.new.keys)) }
+    ensures values { OnOk result (All T.is_value values.now) }
+    ensures faults { IfErr result (λ e. e ≡ TableFault.NoMemory) }
+{
+    // Its clause tells that the set is in order.
+    let _ = set.len();
+    for value in values {
+        put(set, value.kept(alloc)?)?;
+    }
+    Ok(())
+}
+
+impl<T: Kept> Sorted<T> {
+    /// No value.
+    pub fn new(alloc: Global) -> Self
+        ensures { result ≡ [] }
+    {
+        Sorted {
+            items: Vec::new(alloc),
+        }
+    }
+
+    /// These values, which are in the order of their texts, each once.
+    pub fn of_ascending(items: Vec<T>) -> Self
+        requires { IsAscending (map T.text items.items) }
+        ensures { result ≡ map T.text items.items }
+    {
+        Sorted { items }
+    }
+
+    /// The values of a set.
+    pub(crate) fn of(alloc: Global, set: BTreeSet<T>) -> Result<Self, TableFault>
+        ensures ok { IfOk result (λ s. s ≡ map T.text set.keys) }
+        ensures faults { IfErr result (λ e. e ≡ TableFault.NoMemory) }
+    {
+        let mut items = Vec::with_capacity(alloc, set.len())?;
+        for item in set {
+            items.push(item)?;
+        }
+        Ok(Sorted { items })
+    }
+
+    /// The values.
+    pub fn items(&self) -> &[T]
+        ensures texts { map T.text result.now ≡ self.now }
+        ensures ascending { IsAscending self.now }
+    {
+        self.items.as_slice()
+    }
+
+    /// Equal values in storage of their own. The only fault is `NoMemory`, 42.
+    pub fn copied(&self, alloc: Global) -> Result<Self, TableFault>
+        ensures same { IfOk result (λ s. s ≡ self.now) }
+        ensures faults { IfErr result (λ e. e ≡ TableFault.NoMemory) }
+    {
+        let mut items = Vec::with_capacity(alloc, self.items.len())?;
+        for item in &self.items {
+            items.push(item.kept(alloc)?)?;
+        }
+        Ok(Sorted { items })
+    }
+}
+
+impl<T: Kept> Join for Sorted<T> {
+    ghost use Rattle.pep_require.specs.Requirement.{IsAscending};
+    ghost use Rattle.demands.specs.Join.{IsUnion};
+    ghost use Rattle.demands.specs.JoinLaws.{IsJoin-IsUnion};
+
+    ghost is_value = { IsAscending };
+
+    ghost joins = { IsUnion };
+
+    ghost laws = { IsJoin-IsUnion };
+
+    fn joined(&self, alloc: Global, other: &Self) -> Result<Self, TableFault> {
+        let (items, others) = (self.items(), other.items());
+        let mut set = BTreeSet::new(alloc);
+        put_all(alloc, &mut set, items)?;
+        put_all(alloc, &mut set, others)?;
+        Sorted::of(alloc, set)
+    }
+}

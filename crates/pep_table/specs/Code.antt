@@ -1,9 +1,0 @@
--- The codes of faults of tables.
-use Rattle.std.specs.Prelude.{ℕ}
-use Rattle.pep_table.specs.declared.fault.TableFault.{TableFault}
-use Rattle.pep_table.specs.declared.fault.TableFault.TheVariants.{Undefined, BadTable, NoMemory}
-
-abbrev pub table_code : TableFault → ℕ
-table_code (Undefined n) = 28
-table_code (BadTable n) = 41
-table_code NoMemory = 42
