@@ -1,5 +1,5 @@
 -- The entries of a table's text, read one by one.
-use Rattle.std.proofs.Common.{◌≡◌, ℕ, true, List, [], ◌∷◌, ◌++◌, codes}
+use Rattle.std.proofs.Common.{◌≡◌, ◌⊎◌, ℕ, true, List, [], ◌∷◌, ◌++◌, codes, inl, inr}
 use Rattle.std.proofs.Common.{refl, sym, ap, subst, ◌∙◌, append_assoc, append-nil, arith, length, map, ◌<◌, ◌≤◌, ◌+◌}
 use Rattle.std.specs.Prelude.{All}
 use Rattle.std.specs.List.{list_all}
@@ -16,8 +16,8 @@ use Rattle.pep_table.proofs.TableLines.{name_plain, regroup}
 use Rattle.pep_table.specs.OneText.{entry_verdict_one}
 use Rattle.demands.specs.declared.verdict.Verdict.{Verdict}
 use Rattle.pep_table.specs.EntryReading.{BeginsSpace, HasHead, HasNext, HasNoHead, HasNoNext}
-use Rattle.pep_table.specs.EntryReading.{HasNoParts, HasParts, IsEntryAt, head_line, parts_then}
-use Rattle.pep_table.specs.EntryReading.{ranges_then, texts_then, urls_then}
+use Rattle.pep_table.specs.EntryReading.{HasNoParts, HasOtherVerdict, HasParts, IsEntryAt, head_line}
+use Rattle.pep_table.specs.EntryReading.{parts_then, ranges_then, texts_then, urls_then}
 use Rattle.demands.specs.Table.{EntryParts, IsValidEntry, IsValidTable, TableParts, names}
 use Rattle.pep_table.specs.TableText.{IsNoTableText, IsTableText, Shows, entry_text, kind_lines}
 use Rattle.pep_table.specs.TableText.{line, range_text}
@@ -86,6 +86,12 @@ module _ (before : List (List ℕ)) (x : List ℕ) where
             let same = same_head m f y next in
             let entry = parts.one f y next.valid out same.2 in (same.0, entry.0, entry.1);
       }
+
+    -- no parts with this verdict stand behind the first line
+    pub not_read : HasNoParts rest ⊎ HasOtherVerdict verdict rest → HasNoNext before x
+    not_read (inl none) = no_parts none
+    not_read (inr (e, behind, right, parts, shows, other)) =
+        other_verdict e behind parts right shows other
 
 -- ---- what a table goes on with
 

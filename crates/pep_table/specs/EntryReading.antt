@@ -48,6 +48,11 @@ abbrev pub HasNoParts : List ℕ → Type 0
 HasNoParts x =
     (f : EntryParts) (y : List ℕ) → IsValidEntry f → ¬ BeginsSpace y → ¬ (x ≡ parts_then f y)
 
+-- the parts that stand there show another verdict
+abbrev pub HasOtherVerdict : Verdict → List ℕ → Type 0
+HasOtherVerdict verdict x = (e : EntryParts) × (rest : List ℕ) × (right : Verdict)
+    × HasParts x e rest × Shows e right × ¬ (right ≡ verdict)
+
 -- ---- an entry behind those with these names
 
 -- the entry, whose name stands behind these, has its text in front of the rest

@@ -1,12 +1,13 @@
 //! What requirements and tables demand, gathered one by one.
 
-ghost use Rattle.std.specs.Prelude.{◌≡◌, ◌⊎◌, ◌∷◌, [], IfErr, IfOk, string_bytes};
+ghost use Rattle.std.specs.Prelude.{◌≡◌, ◌⊎◌, ◌++◌, ◌∷◌, [], IfErr, IfOk, OnOk, string_bytes};
 ghost use Rattle.pep_require.specs.Requirement.{HasUndefinedMarker};
 ghost use Rattle.pep_require.specs.View.{requirement_parts};
 ghost use Rattle.demands.specs.Gathering.{TakesApplying, TakesRequirement};
 ghost use Rattle.demands.specs.Join.{JoinsTables};
-ghost use Rattle.demands.specs.Table.{IsValidTable};
-ghost use Rattle.pep_table.specs.TableText.{IsTableText};
+ghost use Rattle.demands.specs.Table.{IsValidEntry, IsValidTable};
+ghost use Rattle.demands.specs.declared.verdict.Verdict.{Verdict};
+ghost use Rattle.pep_table.specs.TableText.{IsTableText, Shows, entry_text};
 
 use crate::table::Table;
 use crate::text::push_entry;
@@ -31,6 +32,23 @@ impl Model for Gathering {
     ghost view = { λ g. g.entries.entries };
 
     ghost invariant = { λ g. IsValidTable g.entries.entries };
+}
+
+// Appends the lines of what is gathered of a name.
+fn push_gathered(
+    alloc: Global,
+    text: &mut String,
+    name: &Name,
+    gathered: Gathered,
+) -> Result<(), TableFault>
+    requires { IsValidEntry gathered }
+    ensures ok { OnOk result ((verdict : Verdict) × Shows gathered verdict
+        × (string_bytes text.new ≡ string_bytes text.old
+        ++ entry_text name.now verdict gathered)) }
+    ensures faults { IfErr result (λ e. e ≡ TableFault.NoMemory) }
+{
+    let entry = gathered.entry(alloc)?;
+    push_entry(alloc, text, name, &entry)
 }
 
 impl Gathering {
@@ -143,9 +161,7 @@ impl Gathering {
     {
         let mut text = String::new(alloc);
         for (name, gathered) in self.entries {
-            let entry = gathered.entry(alloc)?;
-            let verdict = entry.verdict(alloc)?;
-            push_entry(&mut text, &name, verdict, &entry)?;
+            push_gathered(alloc, &mut text, &name, gathered)?;
         }
         Ok(text)
     }

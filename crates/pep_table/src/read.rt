@@ -23,10 +23,11 @@ ghost use Rattle.pep_table.specs.EntryReading.{
   HasNoHead,
   HasNoNext,
   HasNoParts,
+  HasOtherVerdict,
   HasParts,
 };
 ghost use Rattle.demands.specs.Table.{IsValidTable, names};
-ghost use Rattle.pep_table.specs.TableText.{IsBadTable, IsNoTableText, IsTableText};
+ghost use Rattle.pep_table.specs.TableText.{IsBadTable, IsNoTableText, IsTableText, Shows};
 ghost use Rattle.demands.specs.Verdict.{verdict_word};
 
 use crate::read::items::{Extras, Texts, Urls, listed_name, read_items};
@@ -145,6 +146,25 @@ fn is_behind(entries: &[(Name, Entry)], name: &Name) -> bool
     }
 }
 
+// The parts of an entry with this verdict, and the text behind them. The entry begins with `text`.
+fn read_judged<'a>(
+    alloc: Global,
+    name: &Name,
+    verdict: Verdict,
+    text: &'a str,
+    parts: &'a str,
+) -> Result<(Entry, &'a str), Halt<'a>>
+    ensures ok { IfOk result (λ r. HasParts parts.now r.0 r.1.now × Shows r.0 verdict) }
+    ensures refused { IfErr result (λ e. (e ≡ Halt.NoMemory)
+        ⊎ (HasNoParts parts.now ⊎ HasOtherVerdict verdict parts.now)) }
+{
+    let (entry, behind) = read_parts(alloc, parts)?;
+    if entry.verdict(alloc)? != verdict {
+        return Err(wrong_verdict(alloc, name, text, behind));
+    }
+    Ok((entry, behind))
+}
+
 // The entry in front, whose name stands behind those of the others, and the text behind it.
 fn read_entry<'a>(
     alloc: Global,
@@ -160,11 +180,10 @@ fn read_entry<'a>(
     if !is_behind(entries, &name) {
         return Err(Halt::At(text));
     }
-    let (entry, behind) = read_parts(alloc, parts)?;
-    if entry.verdict(alloc)? != verdict {
-        return Err(wrong_verdict(alloc, &name, text, behind));
+    match read_judged(alloc, &name, verdict, text, parts) {
+        Ok((entry, behind)) => Ok((name, entry, behind)),
+        Err(halt) => Err(halt),
     }
-    Ok((name, entry, behind))
 }
 
 // The entries of a table's text.

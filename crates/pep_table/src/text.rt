@@ -4,6 +4,7 @@ ghost use Rattle.std.specs.Prelude.{◌≡◌, ◌++◌, codes, string_bytes, If
 ghost use Rattle.pep_clause.specs.Cut.{cut_text};
 ghost use Rattle.pep_table.specs.TableText.{
   IsTableText,
+  Shows,
   entry_text,
   kind_lines,
   line,
@@ -97,7 +98,8 @@ fn push_head(text: &mut String, name: &str, verdict: Verdict) -> Result<(), Tabl
     Ok(())
 }
 
-pub(crate) fn push_entry(
+// Appends the lines of an entry under its verdict.
+fn push_lines(
     text: &mut String,
     name: &Name,
     verdict: Verdict,
@@ -114,6 +116,22 @@ pub(crate) fn push_entry(
     push_ranges(text, entry.versions().ranges())
 }
 
+/// Appends the lines of an entry.
+pub(crate) fn push_entry(
+    alloc: Global,
+    text: &mut String,
+    name: &Name,
+    entry: &Entry,
+) -> Result<(), TableFault>
+    ensures ok { OnOk result ((verdict : Verdict) × Shows entry.now verdict
+        × (string_bytes text.new ≡ string_bytes text.old
+        ++ entry_text name.now verdict entry.now)) }
+    ensures faults { IfErr result (λ e. e ≡ TableFault.NoMemory) }
+{
+    let verdict = entry.verdict(alloc)?;
+    push_lines(text, name, verdict, entry)
+}
+
 impl Table {
     /// The text of the table: for each name in byte order a line with its verdict (`open`, `none`,
     /// `conflict`), and below it, indented by two spaces, a line for each extra, URL, demanded text
@@ -124,8 +142,7 @@ impl Table {
     {
         let mut text = String::new(alloc);
         for (name, entry) in self.entries() {
-            let verdict = entry.verdict(alloc)?;
-            push_entry(&mut text, name, verdict, entry)?;
+            push_entry(alloc, &mut text, name, entry)?;
         }
         Ok(text)
     }

@@ -1,4 +1,4 @@
-use Rattle.std.proofs.Common.{◌≡◌, ◌∷◌, ap, rules, string_bytes, subst, sym, ◌∙◌}
+use Rattle.std.proofs.Common.{◌≡◌, ◌∷◌, rules, string_bytes, subst}
 use Rattle.std.specs.List.{All}
 use Rattle.demands.specs.Table.{IsValidEntry, TableParts}
 use Rattle.std.proofs.lemmas.List.Elements.{All-tail}
@@ -10,12 +10,10 @@ loop-name-preserved c =
     let left : TableParts = c.loop-name.name-iterator in
     let more : TableParts = c.next.new.self in
     let split : left ≡ (c.in-Some.name, c.in-Some.gathered) ∷ more = search rules in
-    let same = c.in_ok-entry.ensures.same in (
+    let (verdict, shows, text) = c.in_ok-push_gathered.ensures.ok in (
       one_printed c.args.self left more (string_bytes c.loop-name.text)
-          (string_bytes c.push_entry.new.text) (c.in-Some.name, c.in_ok-entry.entry)
-          c.in_ok-verdict.verdict c.loop-name.invariant.0
-          (split ∙ ap (λ e. (c.in-Some.name, e) ∷ more) (sym same))
-          c.in_ok-verdict.ensures.entry c.in_ok-push_entry.ensures.ok,
+          (string_bytes c.push_gathered.new.text) (c.in-Some.name, c.in-Some.gathered) verdict
+          c.loop-name.invariant.0 split shows text,
       All-tail (λ p. IsValidEntry p.1) (c.in-Some.name, c.in-Some.gathered) more
           (subst (All (λ p. IsValidEntry p.1)) split c.loop-name.invariant.1),
     )

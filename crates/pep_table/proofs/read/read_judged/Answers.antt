@@ -1,0 +1,30 @@
+use Rattle.std.proofs.Common.{◌≡◌, inl, inr, rules, subst}
+use Rattle.std.proofs.lemmas.Result.{err_from_is_err_and}
+use Rattle.pep_table.proofs.ReadParts.{further}
+use Rattle.pep_table.specs.TableText.{Shows}
+use Rattle.pep_table.proofs.read.read_judged.Goals as goal
+
+pub returns-in_err-entry-clause-refused : goal.returns-in_err-entry-clause-refused
+returns-in_err-entry-clause-refused c =
+    let p = err_from_is_err_and c.from_residual.result c.from_residual.ensures.1 in
+    rw (p.1, p.2) (further inl c.in_err-entry.ensures.refused)
+
+pub returns-then-ne-clause-refused : goal.returns-then-ne-clause-refused
+returns-then-ne-clause-refused c =
+    let right = c.in_ok-verdict.field-0 in
+    let shows : Shows c.in_ok-entry.entry right = search rules in
+    let other : ¬ (right ≡ c.args.verdict) = search rules in
+    inr (inr (
+      c.in_ok-entry.entry,
+      c.in_ok-entry.behind.now,
+      right,
+      c.in_ok-entry.ensures.ok,
+      shows,
+      other,
+    ))
+
+pub returns-clause-ok : goal.returns-clause-ok
+returns-clause-ok c =
+    let shows : Shows c.in_ok-entry.entry c.in_ok-verdict.field-0 = search rules in
+    let same : c.in_ok-verdict.field-0 ≡ c.args.verdict = search rules in
+    (c.in_ok-entry.ensures.ok, subst (Shows c.in_ok-entry.entry) same shows)
