@@ -13,16 +13,16 @@ returns-then-not-is_behind-clause-refused c =
     inr (not_behind before c.args.text.now name c.in_ok-name.verdict c.in_ok-name.parts.now
     c.in_ok-name.ensures.ok falls)
 
-pub returns-in_Ok-clause-ok : goal.returns-in_Ok-clause-ok
-returns-in_Ok-clause-ok c =
+pub returns-in-Ok-clause-ok : goal.returns-in-Ok-clause-ok
+returns-in-Ok-clause-ok c =
     let before = names c.args.entries.now in
     let rises : IsAscending (before ++ c.in_ok-name.name ∷ []) = search rules in
     entry_read before c.args.text.now c.in_ok-name.name c.in_ok-name.verdict
     c.in_ok-name.parts.now c.in_ok-name.ensures.ok c.in-Ok.entry c.in-Ok.behind.now
     c.in-Ok.ensures.ok.0 rises c.in-Ok.ensures.ok.1
 
-pub returns-in_Err-clause-refused : goal.returns-in_Err-clause-refused
-returns-in_Err-clause-refused c =
+pub returns-clause-refused : goal.returns-clause-refused
+returns-clause-refused c =
     further (not_read (names c.args.entries.now) c.args.text.now c.in_ok-name.name
     c.in_ok-name.verdict c.in_ok-name.parts.now c.in_ok-name.ensures.ok)
     c.in-Err.ensures.refused
