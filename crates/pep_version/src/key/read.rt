@@ -15,6 +15,7 @@ ghost use Rattle.std.specs.Prelude.{
 ghost use Rattle.std.specs.List.{AllByRecursion};
 ghost use Rattle.pep_version.specs.KeyReading.{
   behind_place,
+  from_stage,
   read_dev,
   read_label,
   read_number,
@@ -27,7 +28,7 @@ ghost use Rattle.pep_version.specs.KeyReading.{
   read_word,
   word_count,
 };
-ghost use Rattle.pep_version.specs.Version.{IsSegment, IsVersion};
+ghost use Rattle.pep_version.specs.Version.{IsSegment, IsVersion, word as Word};
 ghost use Rattle.pep_version.specs.View.{segment_of};
 
 use crate::fault::VersionFault;
@@ -154,6 +155,18 @@ fn take_word(bytes: &[u8]) -> (&[u8], &[u8])
     }
 }
 
+// The segment of a word, unless the word isn't UTF-8.
+fn word_label(alloc: Global, word: &[u8]) -> Result<Option<Label>, VersionFault>
+    ensures segment { IfOk result (λ found. IfSome found (λ s. segment_of s ≡ Word word.now)) }
+    ensures is_read { IfOk result (λ found. IsSegment (Word word.now) → IsSome found) }
+    ensures faults { IfErr result (λ e. e ≡ VersionFault.NoMemory) }
+{
+    match std::str::from_utf8(word) {
+        Ok(text) => Ok(Some(Label::Word(String::from_str(alloc, text)?))),
+        Err(_) => Ok(None),
+    }
+}
+
 // A segment, unless it is a word that isn't UTF-8.
 fn take_segment(alloc: Global, bytes: &[u8]) -> Result<(Option<Label>, &[u8]), VersionFault>
     ensures segment { IfOk result (λ p. IfSome p.0 (λ s.
@@ -170,10 +183,7 @@ fn take_segment(alloc: Global, bytes: &[u8]) -> Result<(Option<Label>, &[u8]), V
         return Ok((Some(Label::Number(number)), rest));
     }
     let (word, rest) = take_word(behind);
-    match std::str::from_utf8(word) {
-        Ok(text) => Ok((Some(Label::Word(String::from_str(alloc, text)?)), rest)),
-        Err(_) => Ok((None, rest)),
-    }
+    Ok((word_label(alloc, word)?, rest))
 }
 
 // The segments of a label, unless one is a word that isn't UTF-8.
@@ -219,6 +229,34 @@ fn take_label(alloc: Global, bytes: &[u8]) -> Result<Option<(Vec<Label>, &[u8])>
     take_segments(alloc, behind)
 }
 
+// The version with this epoch and release whose other parts stand in front, and the bytes behind
+// them.
+fn take_version(
+    alloc: Global,
+    epoch: u64,
+    release: Vec<u64>,
+    bytes: &[u8],
+) -> Result<Option<(Version, &[u8])>, VersionFault>
+    ensures exactly { IfOk result (λ found. IsSome found
+        ↔ IsVersion (from_stage epoch release.items (read_stage bytes.now)).0) }
+    ensures version { IfOk result (λ found. IfSome found (λ p.
+        p.0 ≡ (from_stage epoch release.items (read_stage bytes.now)).0)) }
+    ensures rest { IfOk result (λ found. IfSome found (λ p.
+        p.1.now ≡ (from_stage epoch release.items (read_stage bytes.now)).1)) }
+    ensures faults { IfErr result (λ e. e ≡ VersionFault.NoMemory) }
+{
+    let (pre, rest) = take_stage(bytes);
+    let (post, rest) = take_post(rest);
+    let (dev, rest) = take_dev(rest);
+    let Some((label, rest)) = take_label(alloc, rest)? else {
+        return Ok(None);
+    };
+    match Version::of_parts(epoch, release, pre, post, dev, label) {
+        Some(version) => Ok(Some((version, rest))),
+        None => Ok(None),
+    }
+}
+
 impl Version {
     ghost use Rattle.pep_version.specs.KeyReading.{read_version};
 
@@ -236,16 +274,7 @@ impl Version {
     {
         let (epoch, rest) = take_number(bytes);
         let (release, rest) = take_release(alloc, rest)?;
-        let (pre, rest) = take_stage(rest);
-        let (post, rest) = take_post(rest);
-        let (dev, rest) = take_dev(rest);
-        let Some((label, rest)) = take_label(alloc, rest)? else {
-            return Ok(None);
-        };
-        match Version::of_parts(epoch, release, pre, post, dev, label) {
-            Some(version) => Ok(Some((version, rest))),
-            None => Ok(None),
-        }
+        take_version(alloc, epoch, release, rest)
     }
 }
 
