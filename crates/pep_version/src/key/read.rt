@@ -15,7 +15,6 @@ ghost use Rattle.std.specs.Prelude.{
 ghost use Rattle.std.specs.List.{AllByRecursion};
 ghost use Rattle.pep_version.specs.KeyReading.{
   behind_place,
-  from_stage,
   read_dev,
   read_label,
   read_number,
@@ -229,34 +228,6 @@ fn take_label(alloc: Global, bytes: &[u8]) -> Result<Option<(Vec<Label>, &[u8])>
     take_segments(alloc, behind)
 }
 
-// The version with this epoch and release whose other parts stand in front, and the bytes behind
-// them.
-fn take_version(
-    alloc: Global,
-    epoch: u64,
-    release: Vec<u64>,
-    bytes: &[u8],
-) -> Result<Option<(Version, &[u8])>, VersionFault>
-    ensures exactly { IfOk result (λ found. IsSome found
-        ↔ IsVersion (from_stage epoch release.items (read_stage bytes.now)).0) }
-    ensures version { IfOk result (λ found. IfSome found (λ p.
-        p.0 ≡ (from_stage epoch release.items (read_stage bytes.now)).0)) }
-    ensures rest { IfOk result (λ found. IfSome found (λ p.
-        p.1.now ≡ (from_stage epoch release.items (read_stage bytes.now)).1)) }
-    ensures faults { IfErr result (λ e. e ≡ VersionFault.NoMemory) }
-{
-    let (pre, rest) = take_stage(bytes);
-    let (post, rest) = take_post(rest);
-    let (dev, rest) = take_dev(rest);
-    let Some((label, rest)) = take_label(alloc, rest)? else {
-        return Ok(None);
-    };
-    match Version::of_parts(epoch, release, pre, post, dev, label) {
-        Some(version) => Ok(Some((version, rest))),
-        None => Ok(None),
-    }
-}
-
 impl Version {
     ghost use Rattle.pep_version.specs.KeyReading.{read_version};
 
@@ -274,7 +245,16 @@ impl Version {
     {
         let (epoch, rest) = take_number(bytes);
         let (release, rest) = take_release(alloc, rest)?;
-        take_version(alloc, epoch, release, rest)
+        let (pre, rest) = take_stage(rest);
+        let (post, rest) = take_post(rest);
+        let (dev, rest) = take_dev(rest);
+        let Some((label, rest)) = take_label(alloc, rest)? else {
+            return Ok(None);
+        };
+        match Version::of_parts(epoch, release, pre, post, dev, label) {
+            Some(version) => Ok(Some((version, rest))),
+            None => Ok(None),
+        }
     }
 }
 
