@@ -123,8 +123,13 @@ word_utf8 letters h = IsUtf8-from_ascii letters (word_ascii letters (and_first _
 pub front_of : (front back : List ℕ) → take (length (front ++ back) - length back) (front ++ back) ≡ front
 front_of front back = take_at front back (length (front ++ back) - length back) (omega (arith, length-append front back))
 
--- behind a byte 1 stands a word
-pub word_of_segment : (bytes : List ℕ) → 1 ≤ length bytes → get_or bytes 0 0 ≡ 1
-    → (read_segment bytes).0 ≡ word (read_word (drop 1 bytes)).0
-word_of_segment [] h e = absurd (omega (arith, h))
-word_of_segment (b ∷ bytes) h e = rw e refl
+-- behind a byte 1 stands a word, and behind another a number
+pub segment_word : (bytes : List ℕ) → 1 ≤ length bytes → get_or bytes 0 0 ≡ 1
+    → read_segment bytes ≡ read_map word (read_word (drop 1 bytes))
+segment_word [] h e = absurd (omega (arith, h))
+segment_word (b ∷ bytes) h e = rw e refl
+
+pub segment_number : (bytes : List ℕ) → 1 ≤ length bytes → (get_or bytes 0 0 == 1) ≡ false
+    → read_segment bytes ≡ read_map number (read_number (drop 1 bytes))
+segment_number [] h e = absurd (omega (arith, h))
+segment_number (b ∷ bytes) h e = rw e refl

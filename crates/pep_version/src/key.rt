@@ -54,7 +54,7 @@ ghost use Rattle.pep_version.specs.View.{segment_of, version_with};
 
 use crate::fault::VersionFault;
 pub use crate::key::bytes::KeyBytes;
-use crate::key::bytes::{push_dev, push_label, push_place, push_post, push_stage};
+use crate::key::bytes::{push_place, push_suffix};
 pub use crate::key::read::behind_release;
 use crate::key::short::short_bytes;
 use crate::parts::{Label, Phase};
@@ -254,12 +254,27 @@ fn bytes_of_parts(
             return Ok(bytes);
         }
     }
+    long_bytes(alloc, epoch, release, pre, post, dev, label)
+}
+
+// The same bytes, however many they are.
+fn long_bytes(
+    alloc: Global,
+    epoch: u64,
+    release: &[u64],
+    pre: Option<(Phase, u64)>,
+    post: Option<u64>,
+    dev: Option<u64>,
+    label: &[Label],
+) -> Result<KeyBytes, VersionFault>
+    ensures bytes { IfOk result (λ b. b.items ≡ (number_bytes epoch
+        ++ ended release_number_bytes release.now) ++ (stage_bytes_of pre post dev
+        ++ (post_bytes post ++ (dev_bytes dev ++ label_bytes (map segment_of label.now))))) }
+    ensures faults { IfErr result (λ e. e ≡ VersionFault.NoMemory) }
+{
     let mut bytes = KeyBytes::new(alloc);
     push_place(&mut bytes, epoch, release)?;
-    push_stage(&mut bytes, pre, post, dev)?;
-    push_post(&mut bytes, post)?;
-    push_dev(&mut bytes, dev)?;
-    push_label(&mut bytes, label)?;
+    push_suffix(&mut bytes, pre, post, dev, label)?;
     Ok(bytes)
 }
 

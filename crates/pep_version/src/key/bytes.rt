@@ -67,8 +67,8 @@ fn phase_byte(phase: Phase) -> u8
     }
 }
 
-/// Appends the stage of a version with these parts.
-pub(crate) fn push_stage(
+// Appends the stage of a version with these parts.
+fn push_stage(
     bytes: &mut KeyBytes,
     pre: Option<(Phase, u64)>,
     post: Option<u64>,
@@ -85,8 +85,8 @@ pub(crate) fn push_stage(
     Ok(())
 }
 
-/// Appends a post-release part.
-pub(crate) fn push_post(bytes: &mut KeyBytes, post: Option<u64>) -> Result<(), VersionFault>
+// Appends a post-release part.
+fn push_post(bytes: &mut KeyBytes, post: Option<u64>) -> Result<(), VersionFault>
     ensures ok { OnOk result (bytes.new.items ≡ bytes.old.items ++ post_bytes post) }
     ensures faults { IfErr result (λ e. e ≡ VersionFault.NoMemory) }
 {
@@ -97,8 +97,8 @@ pub(crate) fn push_post(bytes: &mut KeyBytes, post: Option<u64>) -> Result<(), V
     Ok(())
 }
 
-/// Appends a developmental release part.
-pub(crate) fn push_dev(bytes: &mut KeyBytes, dev: Option<u64>) -> Result<(), VersionFault>
+// Appends a developmental release part.
+fn push_dev(bytes: &mut KeyBytes, dev: Option<u64>) -> Result<(), VersionFault>
     ensures ok { OnOk result (bytes.new.items ≡ bytes.old.items ++ dev_bytes dev) }
     ensures faults { IfErr result (λ e. e ≡ VersionFault.NoMemory) }
 {
@@ -141,8 +141,8 @@ fn push_segments(bytes: &mut KeyBytes, label: &[Label]) -> Result<(), VersionFau
     Ok(bytes.push(0)?)
 }
 
-/// Appends a label.
-pub(crate) fn push_label(bytes: &mut KeyBytes, label: &[Label]) -> Result<(), VersionFault>
+// Appends a label.
+fn push_label(bytes: &mut KeyBytes, label: &[Label]) -> Result<(), VersionFault>
     ensures ok { OnOk result (bytes.new.items ≡ bytes.old.items
         ++ label_bytes (map segment_of label.now)) }
     ensures faults { IfErr result (λ e. e ≡ VersionFault.NoMemory) }
@@ -167,4 +167,22 @@ pub(crate) fn push_place(
 {
     push_number(bytes, epoch)?;
     push_release(bytes, release)
+}
+
+/// Appends what stands behind the release: the suffixes and the label.
+pub(crate) fn push_suffix(
+    bytes: &mut KeyBytes,
+    pre: Option<(Phase, u64)>,
+    post: Option<u64>,
+    dev: Option<u64>,
+    label: &[Label],
+) -> Result<(), VersionFault>
+    ensures ok { OnOk result (bytes.new.items ≡ bytes.old.items ++ (stage_bytes_of pre post dev
+        ++ (post_bytes post ++ (dev_bytes dev ++ label_bytes (map segment_of label.now))))) }
+    ensures faults { IfErr result (λ e. e ≡ VersionFault.NoMemory) }
+{
+    push_stage(bytes, pre, post, dev)?;
+    push_post(bytes, post)?;
+    push_dev(bytes, dev)?;
+    push_label(bytes, label)
 }

@@ -27,7 +27,7 @@ ghost use Rattle.pep_version.specs.KeyReading.{
   read_word,
   word_count,
 };
-ghost use Rattle.pep_version.specs.Version.{IsSegment, IsVersion};
+ghost use Rattle.pep_version.specs.Version.{IsSegment, IsVersion, word as Word};
 ghost use Rattle.pep_version.specs.View.{segment_of};
 
 use crate::fault::VersionFault;
@@ -154,6 +154,18 @@ fn take_word(bytes: &[u8]) -> (&[u8], &[u8])
     }
 }
 
+// The segment of a word, unless the word isn't UTF-8.
+fn word_label(alloc: Global, word: &[u8]) -> Result<Option<Label>, VersionFault>
+    ensures segment { IfOk result (λ found. IfSome found (λ s. segment_of s ≡ Word word.now)) }
+    ensures is_read { IfOk result (λ found. IsSegment (Word word.now) → IsSome found) }
+    ensures faults { IfErr result (λ e. e ≡ VersionFault.NoMemory) }
+{
+    match std::str::from_utf8(word) {
+        Ok(text) => Ok(Some(Label::Word(String::from_str(alloc, text)?))),
+        Err(_) => Ok(None),
+    }
+}
+
 // A segment, unless it is a word that isn't UTF-8.
 fn take_segment(alloc: Global, bytes: &[u8]) -> Result<(Option<Label>, &[u8]), VersionFault>
     ensures segment { IfOk result (λ p. IfSome p.0 (λ s.
@@ -170,10 +182,7 @@ fn take_segment(alloc: Global, bytes: &[u8]) -> Result<(Option<Label>, &[u8]), V
         return Ok((Some(Label::Number(number)), rest));
     }
     let (word, rest) = take_word(behind);
-    match std::str::from_utf8(word) {
-        Ok(text) => Ok((Some(Label::Word(String::from_str(alloc, text)?)), rest)),
-        Err(_) => Ok((None, rest)),
-    }
+    Ok((word_label(alloc, word)?, rest))
 }
 
 // The segments of a label, unless one is a word that isn't UTF-8.

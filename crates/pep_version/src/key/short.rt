@@ -71,6 +71,55 @@ fn put_release(buffer: &mut [u8; INLINE], at: usize, release: &[u64]) -> Option<
     put(buffer, end, &[0])
 }
 
+// The stage of a version without a pre-release.
+fn put_stage(
+    buffer: &mut [u8; INLINE],
+    at: usize,
+    post: Option<u64>,
+    dev: Option<u64>,
+) -> Option<usize>
+    ensures front { IfSome result (λ end. take end buffer.new
+        ≡ take at buffer.old ++ stage_bytes_of None post dev) }
+    ensures end { IfSome result (λ end. end ≡ at + 1) }
+    ensures within { IfSome result (λ end. end ≤ length buffer.new) }
+    ensures room { at + 1 ≤ length buffer.old → IsSome result }
+{
+    let stage = if post.is_none() && dev.is_some() {
+        0x10
+    } else {
+        0x50
+    };
+    put(buffer, at, &[stage])
+}
+
+// A post-release part.
+fn put_post(buffer: &mut [u8; INLINE], at: usize, post: Option<u64>) -> Option<usize>
+    ensures front { IfSome result (λ end. take end buffer.new
+        ≡ take at buffer.old ++ post_bytes post) }
+    ensures end { IfSome result (λ end. end ≡ at + length (post_bytes post)) }
+    ensures within { IfSome result (λ end. end ≤ length buffer.new) }
+    ensures room { at + length (post_bytes post) ≤ length buffer.old → IsSome result }
+{
+    match post {
+        None => put(buffer, at, &[0]),
+        Some(n) => put_marked(buffer, at, 1, n),
+    }
+}
+
+// A developmental release part.
+fn put_dev(buffer: &mut [u8; INLINE], at: usize, dev: Option<u64>) -> Option<usize>
+    ensures front { IfSome result (λ end. take end buffer.new
+        ≡ take at buffer.old ++ dev_bytes dev) }
+    ensures end { IfSome result (λ end. end ≡ at + length (dev_bytes dev)) }
+    ensures within { IfSome result (λ end. end ≤ length buffer.new) }
+    ensures room { at + length (dev_bytes dev) ≤ length buffer.old → IsSome result }
+{
+    match dev {
+        None => put(buffer, at, &[1]),
+        Some(n) => put_marked(buffer, at, 0, n),
+    }
+}
+
 // What stands behind the release.
 fn put_suffix(
     buffer: &mut [u8; INLINE],
@@ -85,25 +134,13 @@ fn put_suffix(
         ++ (post_bytes post ++ (dev_bytes dev ++ label_bytes []))) ≤ length buffer.old
         → IsSome result }
 {
-    match (post, dev) {
-        (None, None) => put(buffer, at, &[0x50, 0, 1, 0]),
-        (None, Some(n)) => {
-            let end = put(buffer, at, &[0x10, 0])?;
-            let end = put_marked(buffer, end, 0, n)?;
-            put(buffer, end, &[0])
-        }
-        (Some(number), None) => {
-            let end = put(buffer, at, &[0x50])?;
-            let end = put_marked(buffer, end, 1, number)?;
-            put(buffer, end, &[1, 0])
-        }
-        (Some(number), Some(n)) => {
-            let end = put(buffer, at, &[0x50])?;
-            let end = put_marked(buffer, end, 1, number)?;
-            let end = put_marked(buffer, end, 0, n)?;
-            put(buffer, end, &[0])
-        }
+    if post.is_none() && dev.is_none() {
+        return put(buffer, at, &[0x50, 0, 1, 0]);
     }
+    let end = put_stage(buffer, at, post, dev)?;
+    let end = put_post(buffer, end, post)?;
+    let end = put_dev(buffer, end, dev)?;
+    put(buffer, end, &[0])
 }
 
 /// The bytes of the key with these parts, whose release has no zeros at its end, unless they are

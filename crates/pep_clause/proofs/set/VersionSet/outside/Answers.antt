@@ -3,15 +3,22 @@ use Rattle.pep_clause.specs.Cut.{least}
 use Rattle.pep_clause.specs.OperatorTable.{outside, range}
 use Rattle.pep_clause.proofs.RangeRows.{IsNormal-outside}
 use Rattle.pep_clause.proofs.set.VersionSet.outside.Goals as goal
+use Rattle.pep_clause.proofs.set.VersionSet.outside.Goals.{In_ok-push_range-2}
 
-pub invariant_of-result : goal.invariant_of-result
-invariant_of-result c =
+-- the ranges that are kept
+ranges_are : (c : In_ok-push_range-2) → c.push_range-2.new.done.items ≡ outside c.args.low c.args.high
+ranges_are c =
     let none = c.new-ranges.ensures.items in
     let first = c.in_ok-least.ensures.least in
     let last = c.end.ensures in
     let under : c.push_range.new.done.items ≡ range least c.args.low =
     c.in_ok-push_range.ensures.ok ∙ (λ i. none i ++ range (first i) c.args.low) in
-    let list : c.push_range-2.new.done.items ≡ outside c.args.low c.args.high =
-    c.in_ok-push_range-2.ensures.ok ∙ (λ i. under i ++ range c.args.high (last i)) in
-    rw list (IsNormal-outside c.args.low c.args.high c.requires.low c.requires.high
+    c.in_ok-push_range-2.ensures.ok ∙ (λ i. under i ++ range c.args.high (last i))
+
+pub invariant_of-result : goal.invariant_of-result
+invariant_of-result c =
+    rw (ranges_are c) (IsNormal-outside c.args.low c.args.high c.requires.low c.requires.high
     c.requires.in_order)
+
+pub returns-clause-outside : goal.returns-clause-outside
+returns-clause-outside c = ranges_are c

@@ -1,5 +1,5 @@
-use Rattle.std.proofs.Common.{rules}
+use Rattle.std.proofs.Common.{Some, ap}
 use Rattle.pep_version.proofs.key.KeyPartialOrd.partial_cmp.Goals as goal
 
 pub returns : goal.returns
-returns c = search rules
+returns c = ap Some c.cmp.ensures
