@@ -41,38 +41,45 @@ text_is_read x m h = record {
 pub no_tokens : (x : List ℕ) → ((ts : List Token) → ¬ HasTokens x ts) → NoMarker x
 no_tokens x none m h = none h.tokens h.written
 
--- nor one whose tokens have no chain at the front
-no_chain : (x : List ℕ) (ts : List Token) → HasTokens x ts → NoOrChain 64 1024 ts → NoMarker x
+-- nor one whose tokens are no chain
+no_chain : (x : List ℕ) (ts : List Token) → HasTokens x ts →
+    ((m : MarkerParts) → OrFrom 64 ts m [] → 1024 < comparisons m) → NoMarker x
 no_chain x ts h none m marker =
-    let more = none m [] (whole_from (tokens_are x ts m h marker)) refl in
+    let more = none m (whole_from (tokens_are x ts m h marker)) in
     omega (arith, more, marker.few)
 
 -- ---- the steps of the code, with the tokens that it reads as its caller has them
 
 -- what is read to its end is a marker
-pub read_marker : (x : List ℕ) (found ts rest : List Token) (m : MarkerParts) → ts ≡ found →
-    HasTokens x found → OrFrom 64 ts m rest → rest ≡ [] → comparisons m ≤ 1024 → IsMarker x m
-read_marker x found ts rest m same h c e few =
+pub read_marker : (x : List ℕ) (found ts : List Token) (m : MarkerParts) → ts ≡ found →
+    HasTokens x found → OrFrom 64 ts m [] → comparisons m ≤ 1024 → IsMarker x m
+read_marker x found ts m same h c few =
     let (used, f, g) = or_grammar c in
     record {
       tokens = used;
-      written = subst (HasTokens x) (sym same ∙ f ∙ ap (λ us. used ++ us) e ∙ append-nil used) h;
+      written = subst (HasTokens x) (sym same ∙ f ∙ append-nil used) h;
       grammar = g;
       few = few;
     }
 
--- where something is left behind the chain, there is no marker
-pub left_behind : (x : List ℕ) (found ts rest : List Token) (m : MarkerParts) → ts ≡ found →
-    HasTokens x found → OrFrom 64 ts m rest → ends_or rest ≡ true → 0 < length rest → NoMarker x
-left_behind x found ts rest m same h c e some n marker =
-    let one =
-    same_or c (whole_from (tokens_are x ts n (subst (HasTokens x) (sym same) h) marker)) e refl in
+-- where something is left behind the chain at the front, the tokens are no chain
+pub left_behind : (ts rest : List Token) (m : MarkerParts) → OrFrom 64 ts m rest →
+    ends_or rest ≡ true → 0 < length rest → (n : MarkerParts) → OrFrom 64 ts n [] →
+    1024 < comparisons n
+left_behind ts rest m c e some n whole =
+    let one = same_or c whole e refl in
     omega (arith, some, ap length one.1)
 
--- nor where there is no chain in the tokens that are found, which may not be the whole text
+-- nor where there is no chain at the front
+pub none_whole : (ts : List Token) → NoOrChain 64 1024 ts → (m : MarkerParts) →
+    OrFrom 64 ts m [] → 1024 < comparisons m
+none_whole ts none m whole = none m [] whole refl
+
+-- there is no marker where the tokens that are found, which may not be the whole text, are no chain
 pub no_chain_of : (x : List ℕ) (found ts : List Token) (whole : Bool) → ts ≡ found →
     (whole ≡ true → HasTokens x found) →
-    (whole ≡ false → (us : List Token) → ¬ HasTokens x us) → NoOrChain 64 1024 ts → NoMarker x
+    (whole ≡ false → (us : List Token) → ¬ HasTokens x us) →
+    ((m : MarkerParts) → OrFrom 64 ts m [] → 1024 < comparisons m) → NoMarker x
 no_chain_of x found ts true same h stopped none =
     no_chain x ts (subst (HasTokens x) (sym same) (h refl)) none
 no_chain_of x found ts false same h stopped none = no_tokens x (stopped refl)

@@ -1,7 +1,7 @@
 -- A marker has one truth in an environment: a text spells one version, and an operator and a text
 -- make one clause.
 use Rattle.std.proofs.Common.{◌≡◌, ◌≢◌, ℕ, Bool, true, false, List, refl, sym, ◌∙◌, inl, inr, ◌&&◌}
-use Rattle.std.specs.Prelude.{Ok, Err, MatchBool, Some, ◌||◌}
+use Rattle.std.specs.Prelude.{Ok, Err, IfOk, MatchBool, MatchOption, None, Option, Result, Some, ◌||◌}
 use Rattle.pep_version.specs.Spelling.{Reads, Spells}
 use Rattle.pep_version.specs.Version.{Version}
 use Rattle.pep_version.specs.declared.fault.VersionFault.{VersionFault}
@@ -12,9 +12,10 @@ use Rattle.specifiers.specs.Clause.{Clause, ClauseOf}
 use Rattle.specifiers.specs.declared.fault.ClauseFault.{ClauseFault}
 use Rattle.specifiers.specs.declared.fault.ClauseFault.TheVariants as made
 use Rattle.specifiers.specs.declared.op.Op.{Op}
+use Rattle.specifiers.specs.declared.op.Op.TheVariants.{Exact}
 use Rattle.specifiers.proofs.OneAnswer.{one-answer, one-clause-of}
 use Rattle.pep_marker.specs.Environment.{EnvironmentParts}
-use Rattle.pep_marker.specs.Holds.{Compares, Evaluates, Truth, both, is_extra}
+use Rattle.pep_marker.specs.Holds.{Compares, ComparesVersions, Evaluates, Truth, both, is_extra}
 use Rattle.pep_marker.specs.Holds.{operand_value, plain_truth}
 use Rattle.pep_marker.specs.Marker.{MarkerParts, Operator, and, compare, is_in, is_not_in, or}
 use Rattle.pep_marker.specs.Marker.{version_operator}
@@ -63,6 +64,20 @@ evaluates_one e (or m n) p q (a, b, h, k, f) (c, d, h', k', f') =
     let left = evaluates_one e m a c h h' in
     let right = evaluates_one e n b d k k' in
     f ∙ (λ i. both (λ x y. x || y) (left i) (right i)) ∙ sym f'
+
+-- ---- a clause and a text
+
+-- what a clause says of a text is what its operator and its text say
+pub clause_says : {E : Type 0} (o : Op) (l r : List ℕ) (c : Clause) (t : Result (Option Bool) E) →
+    o ≢ Exact → ClauseOf o r (Ok c) →
+    IfOk t (λ found. MatchOption found ((v : Version) → ¬ Spells l v)
+    (λ b. (v : Version) × Spells l v × (b ≡ admits c v))) →
+    IfOk t (λ found. MatchOption found ((d : Clause) (v : Version) → ¬ ComparesVersions o l r d v)
+    (λ b. (d : Clause) × (v : Version) × ComparesVersions o l r d v × (b ≡ admits d v)))
+clause_says o l r c (Err e) differs made says = tt
+clause_says o l r c (Ok None) differs made says = λ d v h. says v h.version
+clause_says o l r c (Ok (Some b)) differs made (v, spells, is) =
+    (c, v, record { not_exact = differs; clause = made; version = spells }, is)
 
 -- ---- texts that are not compared as versions
 

@@ -28,14 +28,17 @@ use Rattle.pep_marker.specs.declared.environment.Variable.TheVariants.{PythonFul
 use Rattle.pep_marker.specs.declared.environment.Variable.TheVariants.{ImplementationName}
 use Rattle.pep_marker.specs.declared.environment.Variable.TheVariants.{ImplementationVersion, Extra}
 use Rattle.pep_marker.specs.declared.fault.MarkerFault.{MarkerFault}
-use Rattle.pep_marker.specs.declared.fault.MarkerFault.TheVariants.{MissingVariable}
+use Rattle.pep_marker.specs.declared.fault.MarkerFault.TheVariants.{BadValue, MissingVariable}
+use Rattle.pep_marker.specs.declared.fault.MarkerFault.TheVariants.{RepeatedVariable}
+use Rattle.pep_marker.specs.declared.fault.MarkerFault.TheVariants.{UnknownVariable}
 use Rattle.pep_marker.specs.Environment.{EnvironmentParts, IsEnvironment, Pair, environment_of}
 use Rattle.pep_marker.specs.Environment.{fault_after, is_given, is_value, missing_fault}
 use Rattle.pep_marker.specs.Environment.{pair_fault, required_variables, variable_name}
 use Rattle.pep_marker.specs.Environment.{variable_of, variables}
 use Rattle.pep_marker.specs.Pairs.{pair_texts}
 use Rattle.pep_marker.specs.Slots.{HoldsPairs, HoldsValues, Slots, environment_of_slots}
-use Rattle.pep_marker.specs.Slots.{place, slot, slot_fault, slot_text, variable_fault}
+use Rattle.pep_marker.specs.Slots.{interpreter_variables, place, platform_variables, slot}
+use Rattle.pep_marker.specs.Slots.{slot_fault, slot_text, variable_fault}
 
 -- ---- each variable has a place and a name of its own
 
@@ -88,6 +91,26 @@ variable_of-name : (name : List ℕ) (v : Variable) → variable_of name ≡ Som
     name ≡ variable_name v
 variable_of-name name v e = found_name name variables v e
 
+-- ---- a variable by its name, in one of the two parts
+
+abbrev with_name : List ℕ → List Variable → Option Variable
+with_name name vs = find (λ v. bytes_eq (variable_name v) name) vs
+
+in_parts : (name : List ℕ) → variable_of name
+    ≡ option_or (with_name name platform_variables) (with_name name interpreter_variables)
+in_parts name =
+    find-append (λ v. bytes_eq (variable_name v) name) platform_variables interpreter_variables
+
+pub platform_found : (name : List ℕ) (v : Variable) →
+    with_name name platform_variables ≡ Some v → Some v ≡ variable_of name
+platform_found name v e =
+    sym (in_parts name ∙ ap (λ o. option_or o (with_name name interpreter_variables)) e)
+
+pub other_found : (name : List ℕ) → with_name name platform_variables ≡ None →
+    with_name name interpreter_variables ≡ variable_of name
+other_found name e =
+    sym (in_parts name ∙ ap (λ o. option_or o (with_name name interpreter_variables)) e)
+
 -- ---- what is wrong with a pair
 
 is_some-find : (q : Pair → Bool) (pairs : List Pair) →
@@ -117,6 +140,38 @@ slot_fault-pair slots pairs p holds = by (variable_of p.0) refl
         let named = variable_of-name p.0 v e in
         let same = is_some-slot slots pairs v holds ∙ ap (is_given pairs) (sym named) in
         rw (e, same) refl
+
+is_some-text : (o : Option (Bor (List ℕ))) → is_some (option_map (λ t. t.now) o) ≡ is_some o
+is_some-text None = refl
+is_some-text (Some t) = refl
+
+not_some : (o : Option (List ℕ)) → is_some o ≡ false → o ≡ None
+not_some None e = refl
+not_some (Some x) e = absurd (cc e)
+
+-- what the code asks at the place of a variable
+pub taken-slot : (slots : Slots) (v : Variable) (n : ℕ) (b : Bool) → n ≡ place v →
+    b ≡ is_some (get_or slots n None) → is_some (slot slots v) ≡ b
+taken-slot slots v n b at is =
+    is_some-text (get_or slots (place v) None)
+    ∙ ap (λ k. is_some (get_or slots k None)) (sym at)
+    ∙ sym is
+
+pub free-slot : (slots : Slots) (v : Variable) (n : ℕ) (b : Bool) → n ≡ place v →
+    b ≡ is_some (get_or slots n None) → b ≡ false → slot slots v ≡ None
+free-slot slots v n b at is free = not_some (slot slots v) (taken-slot slots v n b at is ∙ free)
+
+pub slot_fault-unknown : (slots : Slots) (p : Pair) → variable_of p.0 ≡ None →
+    slot_fault slots p ≡ Some UnknownVariable
+slot_fault-unknown slots p none = rw none refl
+
+pub slot_fault-repeated : (slots : Slots) (p : Pair) (v : Variable) → variable_of p.0 ≡ Some v →
+    is_some (slot slots v) ≡ true → slot_fault slots p ≡ Some RepeatedVariable
+slot_fault-repeated slots p v named taken = rw (named, taken) refl
+
+pub slot_fault-bad : (slots : Slots) (p : Pair) (v : Variable) → variable_of p.0 ≡ Some v →
+    slot slots v ≡ None → is_value p.1 ≡ false → slot_fault slots p ≡ Some BadValue
+slot_fault-bad slots p v named free bad = rw (named, free, bad) refl
 
 -- ---- a pair more
 

@@ -1,5 +1,5 @@
 -- The slots of an environment's texts as it is made from pairs: the code's way.
-use Rattle.std.specs.Prelude.{◌≡◌, ℕ, not, IsTrue, List, [], find, bytes_eq}
+use Rattle.std.specs.Prelude.{◌≡◌, ℕ, not, IsTrue, List, [], ◌∷◌, find, bytes_eq}
 use Rattle.std.specs.Prelude.{get_or, Option, Some, None, option_map, unwrap_or}
 use Rattle.std.specs.Prelude.{if◌then◌else◌}
 use Rattle.std.specs.Option.{is_some, IfSome}
@@ -84,3 +84,13 @@ environment_of_slots slots = record {
   implementation_version = slot_text slots ImplementationVersion;
   extra = slot_text slots Extra;
 }
+
+-- the variables, in two parts: those of the platform, and the others
+abbrev pub platform_variables : List Variable
+platform_variables =
+    OsName ∷ SysPlatform ∷ PlatformMachine ∷ PlatformPythonImplementation ∷ PlatformRelease
+    ∷ PlatformSystem ∷ PlatformVersion ∷ []
+
+abbrev pub interpreter_variables : List Variable
+interpreter_variables =
+    PythonVersion ∷ PythonFullVersion ∷ ImplementationName ∷ ImplementationVersion ∷ Extra ∷ []

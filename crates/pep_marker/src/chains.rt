@@ -250,6 +250,14 @@ fn behind_or<'t, 'a>(tokens: &'t [Token<'a>]) -> Option<&'t [Token<'a>]>
     }
 }
 
+// Both markers in storage of their own.
+fn boxed(alloc: Global, left: Tree, right: Tree) -> Result<(Box<Tree>, Box<Tree>), AllocError>
+    ensures first { IfOk result (λ boxes. tree_parts boxes.0.value ≡ tree_parts left) }
+    ensures second { IfOk result (λ boxes. tree_parts boxes.1.value ≡ tree_parts right) }
+{
+    Ok((Box::new(alloc, left)?, Box::new(alloc, right)?))
+}
+
 fn both<'t, 'a>(
     alloc: Global,
     left: Front<'t, 'a>,
@@ -262,8 +270,9 @@ fn both<'t, 'a>(
         ≡ left.entry.comparisons + right.entry.comparisons) }
     ensures rest { IfOk result (λ f. f.rest ≡ right.entry.rest) }
 {
+    let (first, second) = boxed(alloc, left.tree, right.tree)?;
     Ok(Front {
-        tree: Tree::And(Box::new(alloc, left.tree)?, Box::new(alloc, right.tree)?),
+        tree: Tree::And(first, second),
         comparisons: left.comparisons + right.comparisons,
         rest: right.rest,
     })
@@ -281,8 +290,9 @@ fn either<'t, 'a>(
         ≡ left.entry.comparisons + right.entry.comparisons) }
     ensures rest { IfOk result (λ f. f.rest ≡ right.entry.rest) }
 {
+    let (first, second) = boxed(alloc, left.tree, right.tree)?;
     Ok(Front {
-        tree: Tree::Or(Box::new(alloc, left.tree)?, Box::new(alloc, right.tree)?),
+        tree: Tree::Or(first, second),
         comparisons: left.comparisons + right.comparisons,
         rest: right.rest,
     })

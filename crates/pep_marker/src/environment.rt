@@ -1,7 +1,8 @@
 //! Variables of environment markers, and the texts that an environment gives them (PEP 508,
 //! "Environment Markers").
 
-ghost use Rattle.std.specs.Prelude.{◌≡◌, ◌⊎◌, [], IfErr, IfOk, None, Some, string_bytes, unwrap_or};
+ghost use Rattle.std.specs.Prelude.{◌≡◌, ◌⊎◌, [], IfErr, IfOk, None, Some, bytes_eq, find};
+ghost use Rattle.std.specs.Prelude.{string_bytes, unwrap_or};
 ghost use Rattle.std.specs.Option.{option_map};
 ghost use Rattle.pep_marker.specs.Environment.{
   environment_of,
@@ -12,7 +13,8 @@ ghost use Rattle.pep_marker.specs.Environment.{
   variable_of,
 };
 ghost use Rattle.pep_marker.specs.Pairs.{pair_texts};
-ghost use Rattle.pep_marker.specs.Slots.{HoldsValues, environment_of_slots, slot};
+ghost use Rattle.pep_marker.specs.Slots.{HoldsValues, environment_of_slots, interpreter_variables};
+ghost use Rattle.pep_marker.specs.Slots.{platform_variables, slot};
 
 use crate::fault::MarkerFault;
 use crate::slots::{Slots, free_variable, missing, place};
@@ -42,32 +44,9 @@ impl Variable {
     pub fn of_name(name: &[u8]) -> Option<Variable>
         ensures { result ≡ variable_of name.now }
     {
-        if "os_name".as_bytes() == name {
-            Some(Variable::OsName)
-        } else if "sys_platform".as_bytes() == name {
-            Some(Variable::SysPlatform)
-        } else if "platform_machine".as_bytes() == name {
-            Some(Variable::PlatformMachine)
-        } else if "platform_python_implementation".as_bytes() == name {
-            Some(Variable::PlatformPythonImplementation)
-        } else if "platform_release".as_bytes() == name {
-            Some(Variable::PlatformRelease)
-        } else if "platform_system".as_bytes() == name {
-            Some(Variable::PlatformSystem)
-        } else if "platform_version".as_bytes() == name {
-            Some(Variable::PlatformVersion)
-        } else if "python_version".as_bytes() == name {
-            Some(Variable::PythonVersion)
-        } else if "python_full_version".as_bytes() == name {
-            Some(Variable::PythonFullVersion)
-        } else if "implementation_name".as_bytes() == name {
-            Some(Variable::ImplementationName)
-        } else if "implementation_version".as_bytes() == name {
-            Some(Variable::ImplementationVersion)
-        } else if "extra".as_bytes() == name {
-            Some(Variable::Extra)
-        } else {
-            None
+        match platform_variable(name) {
+            Some(variable) => Some(variable),
+            None => interpreter_variable(name),
         }
     }
 
@@ -89,6 +68,50 @@ impl Variable {
             Variable::ImplementationVersion => "implementation_version",
             Variable::Extra => "extra",
         }
+    }
+}
+
+// The variable of the platform that is written so.
+fn platform_variable(name: &[u8]) -> Option<Variable>
+    ensures { result
+        ≡ find (λ v. bytes_eq (variable_name v) name.now) platform_variables }
+{
+    if "os_name".as_bytes() == name {
+        Some(Variable::OsName)
+    } else if "sys_platform".as_bytes() == name {
+        Some(Variable::SysPlatform)
+    } else if "platform_machine".as_bytes() == name {
+        Some(Variable::PlatformMachine)
+    } else if "platform_python_implementation".as_bytes() == name {
+        Some(Variable::PlatformPythonImplementation)
+    } else if "platform_release".as_bytes() == name {
+        Some(Variable::PlatformRelease)
+    } else if "platform_system".as_bytes() == name {
+        Some(Variable::PlatformSystem)
+    } else if "platform_version".as_bytes() == name {
+        Some(Variable::PlatformVersion)
+    } else {
+        None
+    }
+}
+
+// The variable of the interpreter that is written so, or `extra`.
+fn interpreter_variable(name: &[u8]) -> Option<Variable>
+    ensures { result
+        ≡ find (λ v. bytes_eq (variable_name v) name.now) interpreter_variables }
+{
+    if "python_version".as_bytes() == name {
+        Some(Variable::PythonVersion)
+    } else if "python_full_version".as_bytes() == name {
+        Some(Variable::PythonFullVersion)
+    } else if "implementation_name".as_bytes() == name {
+        Some(Variable::ImplementationName)
+    } else if "implementation_version".as_bytes() == name {
+        Some(Variable::ImplementationVersion)
+    } else if "extra".as_bytes() == name {
+        Some(Variable::Extra)
+    } else {
+        None
     }
 }
 

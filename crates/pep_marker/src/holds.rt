@@ -19,6 +19,7 @@ ghost use Rattle.pep_marker.specs.Holds.{
   text_truth,
 };
 ghost use Rattle.pep_marker.specs.Marker as syntax;
+ghost use Rattle.pep_marker.specs.Name.{normalized};
 ghost use Rattle.pep_marker.specs.View.{marker_parts, operand_parts, operator_parts, tree_parts};
 
 use crate::environment::{Environment, Variable};
@@ -125,11 +126,25 @@ fn comparison_truth(
     let left_text = operand_text(environment, left);
     let right_text = operand_text(environment, right);
     if is_extra(left) || is_extra(right) {
-        let left_text = Normal::of(alloc, left_text)?;
-        let right_text = Normal::of(alloc, right_text)?;
-        return Ok(plain_truth(operator, left_text.as_str(), right_text.as_str()));
+        return normal_truth(alloc, operator, left_text, right_text);
     }
     compared(alloc, operator, left_text, right_text)
+}
+
+// What the operator says of the normal forms of two texts.
+fn normal_truth(
+    alloc: Global,
+    operator: Operator,
+    left: &str,
+    right: &str,
+) -> Result<Truth, MarkerFault>
+    ensures value { IfOk result (λ t. t
+        ≡ plain_truth (operator_parts operator) (normalized left.now) (normalized right.now)) }
+    ensures faults { IfErr result (λ e. e ≡ MarkerFault.NoMemory) }
+{
+    let left = Normal::of(alloc, left)?;
+    let right = Normal::of(alloc, right)?;
+    Ok(plain_truth(operator, left.as_str(), right.as_str()))
 }
 
 // What the operator says of two texts, as versions where they are.
@@ -167,14 +182,32 @@ fn version_truth(
     if op == Op::Exact {
         return Ok(None);
     }
-    let Some(clause) = clause_of(alloc, op, right)? else {
-        return Ok(None);
-    };
-    let Some(version) = version_of(alloc, left)? else {
-        return Ok(None);
-    };
-    match clause.admits(alloc, &version) {
-        Ok(truth) => Ok(Some(truth)),
+    match clause_of(alloc, op, right)? {
+        Some(clause) => clause_truth(alloc, &clause, left),
+        None => Ok(None),
+    }
+}
+
+// What the clause says of the text; nothing where it is no version.
+fn clause_truth(alloc: Global, clause: &Clause, text: &str) -> Result<Option<bool>, MarkerFault>
+    ensures value { IfOk result (λ t. MatchOption t
+        ((v : version.Version) → ¬ Spells text.now v)
+        (λ b. (v : version.Version) × Spells text.now v × (b ≡ admits clause.now v))) }
+    ensures faults { IfErr result (λ e. e ≡ MarkerFault.NoMemory) }
+{
+    match version_of(alloc, text)? {
+        Some(version) => Ok(Some(admitted(alloc, clause, &version)?)),
+        None => Ok(None),
+    }
+}
+
+// Whether the clause admits the version.
+fn admitted(alloc: Global, clause: &Clause, version: &Version) -> Result<bool, MarkerFault>
+    ensures value { IfOk result (λ b. b ≡ admits clause.now version.now) }
+    ensures faults { IfErr result (λ e. e ≡ MarkerFault.NoMemory) }
+{
+    match clause.admits(alloc, version) {
+        Ok(truth) => Ok(truth),
         Err(_) => Err(MarkerFault::NoMemory),
     }
 }

@@ -1,6 +1,6 @@
 // The clauses of a line (PEP 508, "Grammar"), read from left to right. No text is copied.
 
-ghost use Rattle.std.specs.Prelude.{◌≡◌, ◌⊎◌, if◌then◌else◌, IfErr, IfOk};
+ghost use Rattle.std.specs.Prelude.{◌≡◌, ◌⊎◌, [], if◌then◌else◌, IfErr, IfOk};
 ghost use Rattle.pep_require.specs.LineParts.{
   BoundFrom,
   BoundsFrom,
@@ -71,21 +71,35 @@ pub(crate) fn clauses_at<'a>(
 {
     let (listed, _) = first_part(text.as_bytes(), end_byte(closed));
     let mut clauses = Vec::with_capacity(alloc, pieces(listed))?;
+    let rest = read_clauses(alloc, text, closed, &mut clauses)?;
+    // A `,` behind the last clause was counted.
+    clauses.shrink_to_fit();
+    Ok(Bounds { clauses, rest })
+}
+
+// Reads the clauses in front of the text, and gives the text behind them.
+fn read_clauses<'a>(
+    alloc: Global,
+    text: &'a str,
+    closed: bool,
+    clauses: &mut Vec<Clause>,
+) -> Result<&'a str, RequireFault>
+    requires { clauses.old.items ≡ [] }
+    ensures read { IfOk result (λ rest.
+        BoundsFrom closed text.now clauses.new.items rest.now) }
+    ensures refused { IfErr result (λ e. (e ≡ RequireFault.NoMemory)
+        ⊎ RefusesBounds closed text.now e) }
+{
     let mut left = text;
     loop {
         let (clause, rest) = clause_at(alloc, left)?;
         clauses.push(clause)?;
         let Some(others) = behind(rest, ',') else {
-            return Ok(Bounds { clauses, rest });
+            return Ok(rest);
         };
         left = stripped(others);
         if is_end(closed, left) {
-            // The `,` behind the last clause was counted.
-            clauses.shrink_to_fit();
-            return Ok(Bounds {
-                clauses,
-                rest: left,
-            });
+            return Ok(left);
         }
     }
 }

@@ -1,9 +1,15 @@
 // How a marker is read.
 
+ghost use Rattle.std.specs.Prelude.{◌≡◌, ◌<◌, ◌≤◌, [], IfErr, IfOk, map};
+ghost use Rattle.pep_marker.specs.Chains.{OrFrom, Refuses};
+ghost use Rattle.pep_marker.specs.Marker.{MarkerParts, comparisons};
+ghost use Rattle.pep_marker.specs.Token.{token_of};
+ghost use Rattle.pep_marker.specs.View.{tree_parts};
+
 use crate::chains::or_chain;
 use crate::fault::MarkerFault;
-use crate::marker::Marker;
-use crate::token::tokens_of;
+use crate::marker::{Marker, Tree};
+use crate::token::{Token, tokens_of};
 use std::alloc::Global;
 
 // How many parentheses may be open at once.
@@ -29,13 +35,24 @@ impl Marker {
             ⊎ (((e ≡ MarkerFault.BadMarker) ⊎ (e ≡ MarkerFault.TooDeep)) × NoMarker text.now)) }
     {
         let found = tokens_of(alloc, text)?;
-        let front = or_chain(alloc, found.items.as_slice(), DEPTH, COMPARISONS)?;
+        let tree = tree_of(alloc, found.items.as_slice())?;
         if !found.whole {
             return Err(MarkerFault::BadMarker);
         }
-        if !front.rest.is_empty() {
-            return Err(MarkerFault::BadMarker);
-        }
-        Ok(Marker { tree: front.tree })
+        Ok(Marker { tree })
     }
+}
+
+// The marker that the tokens are, to their end.
+fn tree_of(alloc: Global, tokens: &[Token]) -> Result<Tree, MarkerFault>
+    ensures read { IfOk result (λ t. OrFrom 64 (map token_of tokens.now) (tree_parts t) []) }
+    ensures few { IfOk result (λ t. comparisons (tree_parts t) ≤ 1024) }
+    ensures refused { IfErr result (Refuses ((m : MarkerParts)
+        → OrFrom 64 (map token_of tokens.now) m [] → 1024 < comparisons m)) }
+{
+    let front = or_chain(alloc, tokens, DEPTH, COMPARISONS)?;
+    if !front.rest.is_empty() {
+        return Err(MarkerFault::BadMarker);
+    }
+    Ok(front.tree)
 }
