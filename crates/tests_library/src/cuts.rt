@@ -1,45 +1,53 @@
 //! Cuts in their order.
 
+use crate::lines::{expect, expect_line, expect_row};
+use crate::packed::{compare_cuts, cut_at, cut_has_copy};
 use pep_clause::{Clause, ClauseFault, Cut, Range, VersionSet};
 use pep_version::Version;
 use std::alloc::Global;
+use std::process::Abort;
 use std::test::Fail;
 
 fn before(alloc: Global, text: &str) -> Result<Cut, ClauseFault> {
-    let version = Version::read(alloc, text)?;
-    Cut::before(alloc, &version)
+    Cut::before(alloc, &Version::read(alloc, text)?)
 }
 
 fn set(alloc: Global, clause: &str) -> Result<VersionSet, ClauseFault> {
-    let clause = Clause::read(alloc, clause)?;
-    VersionSet::of(alloc, &clause)
+    VersionSet::of(alloc, &Clause::read(alloc, clause)?)
 }
 
-// Where the first range of a clause begins.
-fn low(alloc: Global, clause: &str) -> Result<Cut, Fail> {
-    let set = set(alloc, clause)?;
-    let range = set.ranges().first().ok_or("no range")?;
-    Ok(range.low().copied(alloc)?)
+// Where the ranges of a clause begin.
+fn push_lows(alloc: Global, cuts: &mut Vec<Cut>, clause: &str) -> Result<(), ClauseFault> {
+    for range in set(alloc, clause)?.ranges() {
+        cuts.push(range.low().copied(alloc)?)?;
+    }
+    Ok(())
 }
 
-// Where the first range of a clause ends.
-fn high(alloc: Global, clause: &str) -> Result<Cut, Fail> {
-    let set = set(alloc, clause)?;
-    let range = set.ranges().first().ok_or("no range")?;
-    Ok(range.high().copied(alloc)?)
+// Where the ranges of a clause end.
+fn push_highs(alloc: Global, cuts: &mut Vec<Cut>, clause: &str) -> Result<(), ClauseFault> {
+    for range in set(alloc, clause)?.ranges() {
+        cuts.push(range.high().copied(alloc)?)?;
+    }
+    Ok(())
+}
+
+fn push_before(alloc: Global, cuts: &mut Vec<Cut>, texts: &[&str]) -> Result<(), ClauseFault> {
+    for text in texts {
+        cuts.push(before(alloc, text)?)?;
+    }
+    Ok(())
 }
 
 // Cuts, each below the next.
-fn cuts(alloc: Global) -> Result<Vec<Cut>, Fail> {
+fn cuts(alloc: Global) -> Result<Vec<Cut>, ClauseFault> {
     let mut cuts = Vec::new(alloc);
     cuts.push(Cut::least(alloc)?)?;
-    for &text in &["0", "1.dev0", "1a1", "1", "1+x"] {
-        cuts.push(before(alloc, text)?)?;
-    }
-    cuts.push(high(alloc, "==1+x")?)?;
-    cuts.push(before(alloc, "1.post1")?)?;
-    cuts.push(low(alloc, ">1")?)?;
-    cuts.push(before(alloc, "1.0.1")?)?;
+    push_before(alloc, &mut cuts, &["0", "1.dev0", "1a1", "1", "1+x"])?;
+    push_highs(alloc, &mut cuts, "==1+x")?;
+    push_before(alloc, &mut cuts, &["1.post1"])?;
+    push_lows(alloc, &mut cuts, ">1")?;
+    push_before(alloc, &mut cuts, &["1.0.1"])?;
     cuts.push(Cut::end())?;
     Ok(cuts)
 }
@@ -48,28 +56,37 @@ fn cuts(alloc: Global) -> Result<Vec<Cut>, Fail> {
 #[test]
 fn orders_cuts(rt: HostRuntime) -> Result<(), Fail> {
     let cuts = cuts(rt.alloc())?;
-    for (i, one) in cuts.iter().enumerate() {
-        for (j, other) in cuts.iter().enumerate() {
-            assert_eq!(rt; one.cmp(other), i.cmp(&j), "at {i} and {j}");
-            assert_eq!(rt; one == other, i == j, "at {i} and {j}");
-        }
+    assert!(rt; cuts.len() == 11);
+    compare_cuts(&rt, cuts.as_slice());
+    Ok(())
+}
+
+// Whether the cut is read from its text.
+fn is_read_back(alloc: Global, cut: &Cut) -> Result<bool, ClauseFault> {
+    match Cut::read(alloc, cut.text(alloc)?.as_str())? {
+        Some(read) => Ok(read == *cut),
+        None => Ok(false),
+    }
+}
+
+#[test]
+fn copies_and_reads_cuts(rt: HostRuntime) -> Result<(), Fail> {
+    for cut in &cuts(rt.alloc())? {
+        assert!(rt; cut_has_copy(rt.alloc(), cut)?);
+        assert!(rt; is_read_back(rt.alloc(), cut)?);
     }
     Ok(())
 }
 
-#[test]
-fn copies_cuts(rt: HostRuntime) -> Result<(), Fail> {
-    for cut in &cuts(rt.alloc())? {
-        let copy = cut.copied(rt.alloc())?;
-        assert!(rt; copy == *cut);
-    }
-    Ok(())
+// Whether two versions have one cut, which isn't the end.
+fn is_one_cut(alloc: Global, one: &str, other: &str) -> Result<bool, ClauseFault> {
+    let (one, other) = (before(alloc, one)?, before(alloc, other)?);
+    Ok(one == other && other < Cut::end())
 }
 
 #[test]
 fn joins_equal_versions(rt: HostRuntime) -> Result<(), Fail> {
-    let (short, long) = (before(rt.alloc(), "1")?, before(rt.alloc(), "1.0")?);
-    assert!(rt; short == long && long < Cut::end());
+    assert!(rt; is_one_cut(rt.alloc(), "1", "1.0")?);
     Ok(())
 }
 
@@ -130,86 +147,120 @@ const OTHER_TEXTS: [&str; 38] = [
     "past 1+x",
 ];
 
+// The text of the cut that is read of a text.
+fn cut_line(alloc: Global, text: &str) -> Result<String, ClauseFault> {
+    match Cut::read(alloc, text)? {
+        Some(cut) => cut.text(alloc),
+        None => Ok(String::from_str(alloc, "no cut")?),
+    }
+}
+
 #[test]
 fn reads_cuts(rt: HostRuntime) -> Result<(), Fail> {
-    for &text in &TEXTS {
-        let cut = Cut::read(rt.alloc(), text)?.ok_or("no cut")?;
-        assert_eq!(rt; cut.text(rt.alloc())?.as_str(), text);
+    for text in &TEXTS {
+        let line = cut_line(rt.alloc(), text)?;
+        expect_line(&rt, line.as_str(), text);
     }
-    for &text in &OTHER_TEXTS {
-        assert!(rt; Cut::read(rt.alloc(), text)?.is_none(), "at {text}");
-    }
-    // Each cut of a row is read from its text.
-    for cut in &cuts(rt.alloc())? {
-        let text = cut.text(rt.alloc())?;
-        let read = Cut::read(rt.alloc(), text.as_str())?.ok_or("no cut")?;
-        assert!(rt; read == *cut, "at {text}");
+    for text in &OTHER_TEXTS {
+        let line = cut_line(rt.alloc(), text)?;
+        expect_row(&rt, text, line.as_str(), "no cut");
     }
     Ok(())
 }
 
-// The range between the cuts with these places in the row, if there is one.
-fn range(alloc: Global, cuts: &[Cut], low: usize, high: usize) -> Result<Option<Range>, Fail> {
-    let low = cuts.get(low).ok_or("no cut")?.copied(alloc)?;
-    let high = cuts.get(high).ok_or("no cut")?.copied(alloc)?;
-    Ok(Range::of(low, high))
+fn range(alloc: Global, low: &Cut, high: &Cut) -> Result<Option<Range>, ClauseFault> {
+    Ok(Range::of(low.copied(alloc)?, high.copied(alloc)?))
+}
+
+// Whether there is a range between two cuts, and it has their ends.
+fn range_word(alloc: Global, low: &Cut, high: &Cut) -> Result<&'static str, ClauseFault> {
+    Ok(match range(alloc, low, high)? {
+        Some(range) if range.low() == low && range.high() == high => "range",
+        Some(_) => "another range",
+        None => "no range",
+    })
+}
+
+fn expect_ranges(rt: &(impl Abort + AllocGlobal), cuts: &[Cut]) -> Result<(), ClauseFault> {
+    for (i, low) in cuts.iter().enumerate() {
+        for (j, high) in cuts.iter().enumerate() {
+            let wanted = if i < j { "range" } else { "no range" };
+            expect(rt, (i, j), range_word(rt.alloc(), low, high)? == wanted);
+        }
+    }
+    Ok(())
 }
 
 #[test]
 fn ranges_of_cuts(rt: HostRuntime) -> Result<(), Fail> {
-    let cuts = cuts(rt.alloc())?;
-    for (i, low) in cuts.iter().enumerate() {
-        for (j, high) in cuts.iter().enumerate() {
-            match range(rt.alloc(), cuts.as_slice(), i, j)? {
-                Some(range) => assert!(rt; i < j && range.low() == low && range.high() == high),
-                None => assert!(rt; i >= j, "at {i} and {j}"),
-            }
-        }
-    }
+    expect_ranges(&rt, cuts(rt.alloc())?.as_slice())?;
     Ok(())
 }
 
-// Pairs of places in the row of cuts, and whether their ranges are a set's.
-const PAIRS: [(&[(usize, usize)], bool); 9] = [
-    (&[], true),
-    (&[(0, 10)], true),
-    (&[(0, 1), (2, 3)], true),
-    (&[(0, 1), (3, 5), (6, 7)], true),
-    (&[(0, 1), (1, 2)], false),
-    (&[(0, 2), (1, 3)], false),
-    (&[(2, 3), (0, 1)], false),
-    (&[(0, 1), (0, 1)], false),
-    (&[(0, 1), (2, 4), (3, 5)], false),
+// Pairs of places in the row of cuts, and whether their ranges are those of a set.
+const PAIRS: [(&[(usize, usize)], &str); 9] = [
+    (&[], "set"),
+    (&[(0, 10)], "set"),
+    (&[(0, 1), (2, 3)], "set"),
+    (&[(0, 1), (3, 5), (6, 7)], "set"),
+    (&[(0, 1), (1, 2)], "no set"),
+    (&[(0, 2), (1, 3)], "no set"),
+    (&[(2, 3), (0, 1)], "no set"),
+    (&[(0, 1), (0, 1)], "no set"),
+    (&[(0, 1), (2, 4), (3, 5)], "no set"),
 ];
+
+// The ranges between the cuts at these places.
+fn ranges_at(
+    alloc: Global,
+    cuts: &[Cut],
+    pairs: &[(usize, usize)],
+) -> Result<Vec<Range>, ClauseFault> {
+    let mut ranges = Vec::new(alloc);
+    for &(low, high) in pairs {
+        let range = Range::of(cut_at(alloc, cuts, low)?, cut_at(alloc, cuts, high)?);
+        ranges.push(range.ok_or(ClauseFault::BadVersion)?)?;
+    }
+    Ok(ranges)
+}
+
+// Whether the ranges are those of a set, and the set has them.
+fn set_word(
+    alloc: Global,
+    cuts: &[Cut],
+    pairs: &[(usize, usize)],
+) -> Result<&'static str, ClauseFault> {
+    let ranges = ranges_at(alloc, cuts, pairs)?;
+    Ok(
+        match VersionSet::of_ranges(ranges_at(alloc, cuts, pairs)?) {
+            Some(set) if set.ranges() == ranges.as_slice() => "set",
+            Some(_) => "another set",
+            None => "no set",
+        },
+    )
+}
 
 #[test]
 fn sets_of_ranges(rt: HostRuntime) -> Result<(), Fail> {
     let cuts = cuts(rt.alloc())?;
-    for &(pairs, is_set) in &PAIRS {
-        let mut ranges = Vec::new(rt.alloc());
-        for &(low, high) in pairs {
-            ranges.push(range(rt.alloc(), cuts.as_slice(), low, high)?.ok_or("no range")?)?;
-        }
-        let set = VersionSet::of_ranges(ranges);
-        assert_eq!(rt; set.is_some(), is_set, "of {pairs:?}");
-        let Some(set) = set else {
-            continue;
-        };
-        assert_eq!(rt; set.ranges().len(), pairs.len());
-        for (kept, &(low, high)) in set.ranges().iter().zip(pairs) {
-            let range = range(rt.alloc(), cuts.as_slice(), low, high)?.ok_or("no range")?;
-            assert!(rt; *kept == range);
-        }
+    for &(pairs, want) in &PAIRS {
+        let word = set_word(rt.alloc(), cuts.as_slice(), pairs)?;
+        expect(&rt, pairs, word == want);
     }
     Ok(())
 }
 
-#[test]
-fn appends_texts(rt: HostRuntime) -> Result<(), Fail> {
-    let mut text = String::from_str(rt.alloc(), "from ")?;
-    before(rt.alloc(), "1.0")?.push_text(&mut text)?;
+fn appended(alloc: Global) -> Result<String, ClauseFault> {
+    let mut text = String::from_str(alloc, "from ")?;
+    before(alloc, "1.0")?.push_text(&mut text)?;
     text.push_str(" to ")?;
     Cut::end().push_text(&mut text)?;
-    assert_eq!(rt; text.as_str(), "from before 1 to end");
+    Ok(text)
+}
+
+#[test]
+fn appends_texts(rt: HostRuntime) -> Result<(), Fail> {
+    let text = appended(rt.alloc())?;
+    expect_line(&rt, text.as_str(), "from before 1 to end");
     Ok(())
 }

@@ -1,34 +1,26 @@
 //! Versions, names and sets that are larger than a body that gives up early would take.
 
-use pep_clause::{Clause, ClauseFault, Range, VersionSet};
-use pep_marker::Name;
+use crate::lines::{push_numbered, repeated};
+use crate::sets::shown;
+use pep_clause::{Clause, ClauseFault, VersionSet};
+use pep_marker::{MarkerFault, Name};
 use pep_version::{Key, Version, VersionFault};
 use std::alloc::{AllocError, Global};
-use std::process::Abort;
 use std::test::Fail;
 
 // A version of 20,002 release numbers and a label of 1,000 segments.
 fn long_text(alloc: Global) -> Result<String, AllocError> {
-    let mut text = String::from_str(alloc, "1")?;
-    for _ in 0..20_000 {
-        text.push_str(".0")?;
-    }
-    text.push_str(".7+0")?;
-    for i in 1..1000 {
-        let segment = format!(in alloc; ".{i}")?;
-        text.push_str(segment.as_str())?;
-    }
+    let mut text = repeated(alloc, "1", ".0", 20_000, ".7+0")?;
+    push_numbered(alloc, &mut text, ".", 1..1000, "")?;
     Ok(text)
 }
 
-#[test]
-fn long_versions(rt: HostRuntime) -> Result<(), Fail> {
-    let text = long_text(rt.alloc())?;
-    let version = Version::read(rt.alloc(), text.as_str())?;
-    assert!(rt; version.text(rt.alloc())? == text);
-    let copy = version.copied(rt.alloc())?;
-    assert!(rt; copy.text(rt.alloc())? == text);
-    Ok(())
+fn normal(alloc: Global, text: &str) -> Result<String, VersionFault> {
+    Version::read(alloc, text)?.text(alloc)
+}
+
+fn copied(alloc: Global, text: &str) -> Result<String, VersionFault> {
+    Version::read(alloc, text)?.copied(alloc)?.text(alloc)
 }
 
 fn placed(alloc: Global, text: &str) -> Result<String, VersionFault> {
@@ -37,22 +29,31 @@ fn placed(alloc: Global, text: &str) -> Result<String, VersionFault> {
 }
 
 #[test]
-fn places_of_long_versions(rt: HostRuntime) -> Result<(), Fail> {
+fn long_versions(rt: HostRuntime) -> Result<(), Fail> {
     let text = long_text(rt.alloc())?;
+    assert!(rt; normal(rt.alloc(), text.as_str())? == text);
+    assert!(rt; copied(rt.alloc(), text.as_str())? == text);
     assert!(rt; placed(rt.alloc(), text.as_str())? == text);
     Ok(())
 }
 
+// Whether the text is its own name, and that of the name's copy.
+fn is_name(alloc: Global, text: &str) -> Result<bool, MarkerFault> {
+    let name = Name::read(alloc, text)?;
+    Ok(name.text() == text && name.copied(alloc)? == name)
+}
+
 #[test]
 fn long_names(rt: HostRuntime) -> Result<(), Fail> {
-    let mut text = String::new(rt.alloc());
-    for _ in 0..20_000 {
-        text.push_str("a-b")?;
-    }
-    let name = Name::read(rt.alloc(), text.as_str())?;
-    let copied = name.copied(rt.alloc())?;
-    assert!(rt; name.text() == text.as_str() && name == copied);
+    let text = repeated(rt.alloc(), "", "a-b", 20_000, "")?;
+    assert!(rt; is_name(rt.alloc(), text.as_str())?);
     Ok(())
+}
+
+// The set of all versions but that of a number.
+fn without(alloc: Global, number: u32) -> Result<VersionSet, ClauseFault> {
+    let clause = format!(in alloc; "!={number}")?;
+    VersionSet::of(alloc, &Clause::read(alloc, clause.as_str())?)
 }
 
 // The set of all versions but every second number from the first one on, below 201.
@@ -60,9 +61,7 @@ fn without_each_second(alloc: Global, first: u32) -> Result<VersionSet, ClauseFa
     let mut set = VersionSet::all(alloc)?;
     for number in 1..201 {
         if number % 2 == first % 2 {
-            let clause = format!(in alloc; "!={number}")?;
-            let other = VersionSet::of(alloc, &Clause::read(alloc, clause.as_str())?)?;
-            set.join(alloc, &other)?;
+            set.join(alloc, &without(alloc, number)?)?;
         }
     }
     Ok(set)
@@ -72,7 +71,7 @@ fn without_each_second(alloc: Global, first: u32) -> Result<VersionSet, ClauseFa
 fn sets_of_many_ranges(rt: HostRuntime) -> Result<(), Fail> {
     for first in 0..2 {
         let set = without_each_second(rt.alloc(), first)?;
-        assert_eq!(rt; set.ranges().len(), 101);
+        assert!(rt; set.ranges().len() == 101);
     }
     Ok(())
 }
@@ -84,29 +83,21 @@ fn joins(alloc: Global) -> Result<(VersionSet, VersionSet), ClauseFault> {
     Ok((odd.joined(alloc, &even)?, even.joined(alloc, &odd)?))
 }
 
-fn expect_ends(
-    rt: &impl Abort,
-    alloc: Global,
-    range: &Range,
-    ends: (&str, &str),
-) -> Result<(), Fail> {
-    let (low, high) = (range.low().text(alloc)?, range.high().text(alloc)?);
-    assert_eq!(rt; (low.as_str(), high.as_str()), ends);
-    Ok(())
+// Its ranges: from what lies behind one of the numbers to the next.
+fn ranges_of_joins(alloc: Global) -> Result<String, AllocError> {
+    let mut text = String::from_str(alloc, "[before 0.dev0")?;
+    for number in 1..201 {
+        let cuts = format!(in alloc; " to before {number}][before {number}.post0.dev0")?;
+        text.push_str(cuts.as_str())?;
+    }
+    text.push_str(" to end]")?;
+    Ok(text)
 }
 
-// From what lies behind one of the numbers to the next.
 #[test]
 fn ranges_of_a_large_join(rt: HostRuntime) -> Result<(), Fail> {
-    let alloc = rt.alloc();
-    let (joined, other) = joins(alloc)?;
+    let (joined, other) = joins(rt.alloc())?;
     assert!(rt; joined == other && joined.ranges().len() == 201);
-    let mut low = String::from_str(alloc, "before 0.dev0")?;
-    for (range, number) in joined.ranges().iter().zip(1..201) {
-        let high = format!(in alloc; "before {number}")?;
-        expect_ends(&rt, alloc, range, (low.as_str(), high.as_str()))?;
-        low = format!(in alloc; "before {number}.post0.dev0")?;
-    }
-    let last = joined.ranges().last().ok_or("no range")?;
-    expect_ends(&rt, alloc, last, (low.as_str(), "end"))
+    assert!(rt; shown(rt.alloc(), &joined)? == ranges_of_joins(rt.alloc())?);
+    Ok(())
 }

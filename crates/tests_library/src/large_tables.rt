@@ -1,32 +1,19 @@
 //! Tables that are larger than a body that gives up early would take.
 
+use crate::lines::{expect_line, expect_same, push_numbered};
 use crate::tables::{
     answer, entry, gathered, machine, name, requirement, table, table_of, verdict,
 };
+use pep_clause::ClauseFault;
 use pep_marker::Environment;
 use pep_require::Requirement;
 use pep_table::{Answer, Entry, Gathering, Join, Table, TableFault, Verdict, join_all};
-use std::alloc::Global;
+use std::alloc::{AllocError, Global};
 use std::ops::Range;
 use std::process::Abort;
 use std::test::Fail;
 
-// Each number, between the two texts. Numbers of equally many digits are in byte order too.
-fn push_numbered(
-    alloc: Global,
-    text: &mut String,
-    before: &str,
-    numbers: Range<u32>,
-    after: &str,
-) -> Result<(), TableFault> {
-    for number in numbers {
-        let item = format!(in alloc; "{before}{number}{after}")?;
-        text.push_str(item.as_str())?;
-    }
-    Ok(())
-}
-
-// A requirement for each number, which stands between the two texts, from the last to the first.
+// Appends a requirement for each number, which stands between the two texts, from the last to the first.
 fn push_lines(
     alloc: Global,
     lines: &mut Vec<Requirement>,
@@ -41,13 +28,20 @@ fn push_lines(
     Ok(())
 }
 
-// What is gathered of the table, copied and joined to it, is the same.
-fn expect_same(rt: &(impl Abort + AllocGlobal), table: &Table) -> Result<(), TableFault> {
-    let gathering = Gathering::new(rt.alloc()).take_table(rt.alloc(), table)?;
-    assert!(rt; gathering.finish(rt.alloc())? == *table);
-    assert!(rt; table.copied(rt.alloc())? == *table);
-    assert!(rt; table.joined(rt.alloc(), table)? == *table);
-    Ok(())
+// Whether what is gathered of the table is the same.
+fn is_gathered(alloc: Global, table: &Table) -> Result<bool, TableFault> {
+    let gathering = Gathering::new(alloc).take_table(alloc, table)?;
+    Ok(gathering.finish(alloc)? == *table)
+}
+
+// Whether its copy is the same, and its join with itself.
+fn is_copied_and_joined(alloc: Global, table: &Table) -> Result<bool, TableFault> {
+    Ok(table.copied(alloc)? == *table && table.joined(alloc, table)? == *table)
+}
+
+// Whether this is its text, and the text is read as it.
+fn is_text(alloc: Global, table: &Table, text: &str) -> Result<bool, TableFault> {
+    Ok(table.text(alloc)?.as_str() == text && Table::read(alloc, text)? == *table)
 }
 
 // The table has the text, and so has what is made of it.
@@ -56,26 +50,31 @@ fn expect_table(
     table: &Table,
     wanted: &str,
 ) -> Result<(), TableFault> {
-    assert!(rt; table.text(rt.alloc())?.as_str() == wanted);
-    assert!(rt; Table::read(rt.alloc(), wanted)? == *table);
-    expect_same(rt, table)
+    assert!(rt; is_text(rt.alloc(), table, wanted)?);
+    assert!(rt; is_gathered(rt.alloc(), table)?);
+    assert!(rt; is_copied_and_joined(rt.alloc(), table)?);
+    Ok(())
 }
 
-// What is copied of the entry of `a`, and joined to it, is the same.
-fn expect_entry(rt: &(impl Abort + AllocGlobal), table: &Table) -> Result<(), TableFault> {
-    let entry = entry(rt.alloc(), table, "a")?;
-    assert!(rt; entry.copied(rt.alloc())? == *entry);
-    assert!(rt; entry.joined(rt.alloc(), entry)? == *entry);
-    Ok(())
+// Whether what is copied of the entry of `a`, and joined to it, is the same.
+fn is_entry(alloc: Global, table: &Table) -> Result<bool, TableFault> {
+    let entry = entry(alloc, table, "a")?;
+    Ok(entry.copied(alloc)? == *entry && entry.joined(alloc, entry)? == *entry)
 }
 
 // ---- requirements of different names
 
-fn push_names(alloc: Global, lines: &mut Vec<Requirement>) -> Result<(), TableFault> {
-    push_lines(alloc, lines, "N", 1_000..3_000, ">=1")
+fn names(alloc: Global) -> Result<Vec<Requirement>, TableFault> {
+    let mut lines = Vec::new(alloc);
+    push_lines(alloc, &mut lines, "N", 1_000..3_000, ">=1")?;
+    Ok(lines)
 }
 
-fn names_text(alloc: Global) -> Result<String, TableFault> {
+fn table_of_names(alloc: Global) -> Result<Table, TableFault> {
+    table_of(alloc, names(alloc)?.as_slice())
+}
+
+fn names_text(alloc: Global) -> Result<String, AllocError> {
     let mut text = String::new(alloc);
     let rest = " open\n  range before 1 to end\n";
     push_numbered(alloc, &mut text, "n", 1_000..3_000, rest)?;
@@ -84,34 +83,40 @@ fn names_text(alloc: Global) -> Result<String, TableFault> {
 
 #[test]
 fn table_of_many_names(rt: HostRuntime) -> Result<(), Fail> {
-    let mut lines = Vec::new(rt.alloc());
-    push_names(rt.alloc(), &mut lines)?;
-    let table = table_of(rt.alloc(), lines.as_slice())?;
+    let table = table_of_names(rt.alloc())?;
     expect_table(&rt, &table, names_text(rt.alloc())?.as_str())?;
     Ok(())
 }
 
+// Why there is no table of these names and another line behind them.
+fn fault_behind_names(alloc: Global, line: &str) -> Result<Option<TableFault>, TableFault> {
+    let mut lines = names(alloc)?;
+    lines.push(requirement(alloc, line)?)?;
+    Ok(table_of(alloc, lines.as_slice()).err())
+}
+
 #[test]
 fn undefined_behind_many_names(rt: HostRuntime) -> Result<(), Fail> {
-    let mut lines = Vec::new(rt.alloc());
-    push_names(rt.alloc(), &mut lines)?;
-    lines.push(requirement(rt.alloc(), "b; 'dog' ~= 'fred'")?)?;
-    let fault = table_of(rt.alloc(), lines.as_slice()).err();
-    assert_eq!(rt; fault, Some(TableFault::Undefined(2_001)));
+    let fault = fault_behind_names(rt.alloc(), "b; 'dog' ~= 'fred'")?;
+    assert!(rt; fault == Some(TableFault::Undefined(2_001)));
     Ok(())
 }
 
 // ---- demands on one name
 
-fn table_of_demands(alloc: Global) -> Result<Table, TableFault> {
+fn demands(alloc: Global) -> Result<Vec<Requirement>, TableFault> {
     let mut lines = Vec::new(alloc);
     push_lines(alloc, &mut lines, "a @ https://x.test/", 1_000..2_500, "")?;
     push_lines(alloc, &mut lines, "a===1.", 1_000..2_500, "")?;
     push_lines(alloc, &mut lines, "a[x", 1_000..3_000, "]")?;
-    table_of(alloc, lines.as_slice())
+    Ok(lines)
 }
 
-fn demands_text(alloc: Global) -> Result<String, TableFault> {
+fn table_of_demands(alloc: Global) -> Result<Table, TableFault> {
+    table_of(alloc, demands(alloc)?.as_slice())
+}
+
+fn demands_text(alloc: Global) -> Result<String, AllocError> {
     let mut text = String::from_str(alloc, "a conflict\n")?;
     push_numbered(alloc, &mut text, "  extra x", 1_000..3_000, "\n")?;
     push_numbered(
@@ -130,13 +135,13 @@ fn demands_text(alloc: Global) -> Result<String, TableFault> {
 fn table_of_many_demands(rt: HostRuntime) -> Result<(), Fail> {
     let table = table_of_demands(rt.alloc())?;
     expect_table(&rt, &table, demands_text(rt.alloc())?.as_str())?;
-    expect_entry(&rt, &table)?;
+    assert!(rt; is_entry(rt.alloc(), &table)?);
     Ok(())
 }
 
 // ---- one requirement with many extras and clauses
 
-fn long_line(alloc: Global) -> Result<String, TableFault> {
+fn long_line(alloc: Global) -> Result<String, AllocError> {
     let mut line = String::from_str(alloc, "a[x1199")?;
     push_numbered(alloc, &mut line, ",x", 1_000..1_199, "")?;
     line.push_str("]")?;
@@ -145,62 +150,74 @@ fn long_line(alloc: Global) -> Result<String, TableFault> {
 }
 
 // From what lies behind one of the numbers to the next.
-fn push_ranges(alloc: Global, text: &mut String) -> Result<(), TableFault> {
+fn push_ranges(alloc: Global, text: &mut String) -> Result<(), AllocError> {
     text.push_str("  range before 0.dev0 to ")?;
     for number in 1_000u32..1_200 {
         let cuts = format!(in alloc; "before {number}\n  range before {number}.post0.dev0 to ")?;
         text.push_str(cuts.as_str())?;
     }
-    text.push_str("end\n")?;
-    Ok(())
+    text.push_str("end\n")
 }
 
-fn long_line_text(alloc: Global) -> Result<String, TableFault> {
+fn long_line_text(alloc: Global) -> Result<String, AllocError> {
     let mut text = String::from_str(alloc, "a open\n")?;
     push_numbered(alloc, &mut text, "  extra x", 1_000..1_200, "\n")?;
     push_ranges(alloc, &mut text)?;
     Ok(text)
 }
 
-#[test]
-fn table_of_a_long_line(rt: HostRuntime) -> Result<(), Fail> {
-    let table = table(rt.alloc(), &[long_line(rt.alloc())?.as_str()])?;
-    expect_table(&rt, &table, long_line_text(rt.alloc())?.as_str())?;
-    expect_entry(&rt, &table)?;
-    Ok(())
+fn table_of_line(alloc: Global) -> Result<Table, TableFault> {
+    table(alloc, &[long_line(alloc)?.as_str()])
 }
 
 #[test]
-fn answers_of_many_ranges(rt: HostRuntime) -> Result<(), Fail> {
-    let line = long_line(rt.alloc())?;
-    for &(version, wanted) in &[("1199", Answer::No), ("1199.1", Answer::Yes)] {
-        let answer = answer(rt.alloc(), &[line.as_str()], version, false)?;
-        assert_eq!(rt; answer, wanted, "at {version}");
-    }
+fn table_of_a_long_line(rt: HostRuntime) -> Result<(), Fail> {
+    let table = table_of_line(rt.alloc())?;
+    expect_table(&rt, &table, long_line_text(rt.alloc())?.as_str())?;
+    assert!(rt; is_entry(rt.alloc(), &table)?);
     Ok(())
 }
 
 #[test]
 fn verdict_of_many_ranges(rt: HostRuntime) -> Result<(), Fail> {
-    let table = table(rt.alloc(), &[long_line(rt.alloc())?.as_str()])?;
-    assert_eq!(rt; verdict(rt.alloc(), &table)?, Some(Verdict::Possible));
+    let table = table_of_line(rt.alloc())?;
+    assert!(rt; verdict(rt.alloc(), &table)? == Some(Verdict::Possible));
+    Ok(())
+}
+
+fn long_line_answer(alloc: Global, version: &str) -> Result<Answer, TableFault> {
+    answer(alloc, &[long_line(alloc)?.as_str()], version, false)
+}
+
+const ANSWERS: [(&str, Answer); 2] = [("1199", Answer::No), ("1199.1", Answer::Yes)];
+
+#[test]
+fn answers_of_many_ranges(rt: HostRuntime) -> Result<(), Fail> {
+    for &(version, wanted) in &ANSWERS {
+        let answer = long_line_answer(rt.alloc(), version)?;
+        expect_same(&rt, version, answer, wanted);
+    }
     Ok(())
 }
 
 // ---- many tables
 
+fn numbered_table(alloc: Global, number: u32) -> Result<Table, TableFault> {
+    let own = format!(in alloc; "n{number}")?;
+    let shared = format!(in alloc; "a[x{number}]>={number}")?;
+    table(alloc, &[own.as_str(), shared.as_str()])
+}
+
 // Of each number one table.
 fn tables(alloc: Global) -> Result<Vec<Table>, TableFault> {
     let mut tables = Vec::new(alloc);
     for number in 100u32..300 {
-        let own = format!(in alloc; "n{number}")?;
-        let shared = format!(in alloc; "a[x{number}]>={number}")?;
-        tables.push(table(alloc, &[own.as_str(), shared.as_str()])?)?;
+        tables.push(numbered_table(alloc, number)?)?;
     }
     Ok(tables)
 }
 
-fn tables_text(alloc: Global) -> Result<String, TableFault> {
+fn tables_text(alloc: Global) -> Result<String, AllocError> {
     let mut text = String::from_str(alloc, "a open\n")?;
     push_numbered(alloc, &mut text, "  extra x", 100..300, "\n")?;
     text.push_str("  range before 299 to end\n")?;
@@ -209,20 +226,32 @@ fn tables_text(alloc: Global) -> Result<String, TableFault> {
     Ok(text)
 }
 
+// The join of all tables.
+fn joined(alloc: Global) -> Result<Table, TableFault> {
+    join_all(alloc, Table::empty(alloc), tables(alloc)?.iter())
+}
+
+// The same from the last to the first.
+fn joined_back(alloc: Global) -> Result<Table, TableFault> {
+    join_all(alloc, Table::empty(alloc), tables(alloc)?.iter().rev())
+}
+
 #[test]
 fn join_of_many_tables(rt: HostRuntime) -> Result<(), Fail> {
-    let tables = tables(rt.alloc())?;
-    let joined = join_all(rt.alloc(), Table::empty(rt.alloc()), tables.iter())?;
+    let joined = joined(rt.alloc())?;
     assert!(rt; joined.text(rt.alloc())? == tables_text(rt.alloc())?);
-    let back = join_all(rt.alloc(), Table::empty(rt.alloc()), tables.iter().rev())?;
-    assert!(rt; back == joined);
+    assert!(rt; joined_back(rt.alloc())? == joined);
     Ok(())
+}
+
+fn gathered_text(alloc: Global) -> Result<String, TableFault> {
+    gathered(alloc, tables(alloc)?.as_slice())?.text(alloc)
 }
 
 #[test]
 fn many_tables_are_gathered(rt: HostRuntime) -> Result<(), Fail> {
-    let gathered = gathered(rt.alloc(), tables(rt.alloc())?.as_slice())?;
-    assert!(rt; gathered.text(rt.alloc())? == tables_text(rt.alloc())?);
+    let text = gathered_text(rt.alloc())?;
+    assert!(rt; text == tables_text(rt.alloc())?);
     Ok(())
 }
 
@@ -262,7 +291,7 @@ fn gathered_names(alloc: Global) -> Result<Table, TableFault> {
     gathering.finish(alloc)
 }
 
-fn gathered_names_text(alloc: Global) -> Result<String, TableFault> {
+fn gathered_names_text(alloc: Global) -> Result<String, AllocError> {
     let mut text = String::new(alloc);
     for number in 10_000u32..30_000 {
         let entry = format!(in alloc; "n{number} open\n  range before {number} to end\n")?;
@@ -275,23 +304,41 @@ fn gathered_names_text(alloc: Global) -> Result<String, TableFault> {
 fn many_names(rt: HostRuntime) -> Result<(), Fail> {
     let table = gathered_names(rt.alloc())?;
     assert!(rt; table.text(rt.alloc())? == gathered_names_text(rt.alloc())?);
-    assert!(rt; table.get(&name(rt.alloc(), "n29999")?).is_some());
+    assert!(rt; entry(rt.alloc(), &table, "n29999").is_ok());
     Ok(())
 }
 
-// What is demanded so far, and by three lines with the number.
+// A line with the number, of one of three kinds.
+fn line_of_kind(alloc: Global, kind: u32, number: u32) -> Result<String, AllocError> {
+    match kind {
+        0 => format!(in alloc; "a[x{number}]>={number}"),
+        1 => format!(in alloc; "a===1.{number}"),
+        _ => format!(in alloc; "a @ https://x.test/{number}"),
+    }
+}
+
+// What is demanded so far, and by that line.
+fn taken_kind(
+    alloc: Global,
+    gathering: Gathering,
+    machine: &Environment,
+    kind: u32,
+    number: u32,
+) -> Result<Gathering, TableFault> {
+    let line = line_of_kind(alloc, kind, number)?;
+    taken(alloc, gathering, machine, line.as_str())
+}
+
+// What is demanded so far, and by a line of each kind with the number.
 fn taken_with(
     alloc: Global,
     gathering: Gathering,
     machine: &Environment,
     number: u32,
 ) -> Result<Gathering, TableFault> {
-    let clause = format!(in alloc; "a[x{number}]>={number}")?;
-    let text = format!(in alloc; "a===1.{number}")?;
-    let url = format!(in alloc; "a @ https://x.test/{number}")?;
     let mut all = gathering;
-    for line in &[clause, text, url] {
-        all = taken(alloc, all, machine, line.as_str())?;
+    for kind in 0u32..3 {
+        all = taken_kind(alloc, all, machine, kind, number)?;
     }
     Ok(all)
 }
@@ -315,13 +362,21 @@ fn counts(entry: &Entry) -> (usize, usize, usize, usize) {
     )
 }
 
+// Where the first range of an entry begins.
+fn low_line(alloc: Global, entry: &Entry) -> Result<String, ClauseFault> {
+    let mut line = String::new(alloc);
+    if let Some(range) = entry.versions().ranges().first() {
+        range.low().push_text(&mut line)?;
+    }
+    Ok(line)
+}
+
 #[test]
 fn many_demands_of_one_name(rt: HostRuntime) -> Result<(), Fail> {
     let table = gathered_demands(rt.alloc())?;
     let entry = entry(rt.alloc(), &table, "a")?;
-    assert_eq!(rt; counts(entry), (5_000, 5_000, 5_000, 1));
-    let range = entry.versions().ranges().first().ok_or("no range")?;
-    let low = range.low().text(rt.alloc())?;
-    assert_eq!(rt; low.as_str(), "before 4999");
+    assert!(rt; counts(entry) == (5_000, 5_000, 5_000, 1));
+    let low = low_line(rt.alloc(), entry)?;
+    expect_line(&rt, low.as_str(), "before 4999");
     Ok(())
 }

@@ -15,6 +15,8 @@ pub mod faults;
 mod large;
 #[cfg(test)]
 mod large_tables;
+#[cfg(test)]
+mod lines;
 pub mod machine;
 #[cfg(test)]
 mod markers;

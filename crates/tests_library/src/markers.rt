@@ -1,5 +1,6 @@
 //! Markers: which texts are read, how they are written, and what they say in an environment.
 
+use crate::lines::{expect_row, repeated};
 use crate::machine::MACHINE;
 use pep_marker::{Environment, Marker, MarkerFault};
 use std::alloc::{AllocError, Global};
@@ -203,7 +204,7 @@ fn reading_line(alloc: Global, text: &str) -> Result<String, AllocError> {
 
 fn expect_text(rt: &(impl Abort + AllocGlobal), text: &str, want: &str) -> Result<(), AllocError> {
     let line = text_line(rt.alloc(), text)?;
-    assert_eq!(rt; line.as_str(), want, "at {text}");
+    expect_row(rt, text, line.as_str(), want);
     Ok(())
 }
 
@@ -214,7 +215,7 @@ fn expect_truth(
     want: &str,
 ) -> Result<(), AllocError> {
     let line = truth_line(rt.alloc(), environment, text)?;
-    assert_eq!(rt; line.as_str(), want, "at {text}");
+    expect_row(rt, text, line.as_str(), want);
     Ok(())
 }
 
@@ -320,22 +321,6 @@ fn faulty_texts(rt: HostRuntime) -> Result<(), Fail> {
 
 // ---- long and deep markers
 
-// The first text, so many times the second one, and the third.
-fn repeated(
-    alloc: Global,
-    front: &str,
-    part: &str,
-    count: usize,
-    behind: &str,
-) -> Result<String, AllocError> {
-    let mut text = String::from_str(alloc, front)?;
-    for _ in 0..count {
-        text.push_str(part)?;
-    }
-    text.push_str(behind)?;
-    Ok(text)
-}
-
 // A comparison in so many parentheses.
 fn in_parentheses(alloc: Global, count: usize) -> Result<String, AllocError> {
     let text = repeated(alloc, "", "(", count, "'a'=='a'")?;
@@ -392,7 +377,7 @@ fn expect_readings(rt: &(impl Abort + AllocGlobal), rows: &[Long]) -> Result<(),
     for &(front, part, count, behind, want) in rows {
         let text = repeated(rt.alloc(), front, part, count, behind)?;
         let line = reading_line(rt.alloc(), text.as_str())?;
-        assert_eq!(rt; line.as_str(), want, "behind {front}, before {behind}");
+        expect_row(rt, front, line.as_str(), want);
     }
     Ok(())
 }

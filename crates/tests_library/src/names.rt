@@ -1,5 +1,6 @@
 //! Names of packages, and the runs of bytes that they are found by.
 
+use crate::lines::{expect, expect_line, expect_same};
 use pep_marker::{
     MarkerFault, Name, blank_end, blank_run, is_blank_byte, is_name_byte, name_run,
     without_leading_blanks, without_outer_blanks,
@@ -34,31 +35,46 @@ fn hash_of(name: &Name) -> u64 {
     state.finish()
 }
 
+// Texts, and the normal texts of the names that they are.
+const NAMES: [(&str, &str); 6] = [
+    ("Flask", "flask"),
+    ("A_.-b--C.9", "a-b-c-9"),
+    ("0", "0"),
+    ("a-b", "a-b"),
+    ("a_b", "a-b"),
+    ("Zope.Interface", "zope-interface"),
+];
+
+const NO_NAMES: [&str; 11] = [
+    "", "-", "a-", "_a", "a b", " a", "a ", "a\n", "a+b", "\u{e9}", "a\u{e9}b",
+];
+
+fn name_line(alloc: Global, text: &str) -> Result<String, MarkerFault> {
+    Ok(String::from_str(alloc, Name::read(alloc, text)?.text())?)
+}
+
+fn fault_of(alloc: Global, text: &str) -> Option<MarkerFault> {
+    Name::read(alloc, text).err()
+}
+
 #[test]
 fn names(rt: HostRuntime) -> Result<(), Fail> {
-    let rows = [
-        ("Flask", "flask"),
-        ("A_.-b--C.9", "a-b-c-9"),
-        ("0", "0"),
-        ("a-b", "a-b"),
-        ("a_b", "a-b"),
-        ("Zope.Interface", "zope-interface"),
-    ];
-    for &(text, want) in &rows {
-        assert_eq!(rt; Name::read(rt.alloc(), text)?.text(), want);
+    for &(text, want) in &NAMES {
+        let line = name_line(rt.alloc(), text)?;
+        expect_line(&rt, line.as_str(), want);
     }
-    for &text in &[
-        "", "-", "a-", "_a", "a b", " a", "a ", "a\n", "a+b", "\u{e9}", "a\u{e9}b",
-    ] {
-        assert!(rt;
-            Name::read(rt.alloc(), text) == Err(MarkerFault::BadName),
-            "at {text}"
+    for text in &NO_NAMES {
+        expect_same(
+            &rt,
+            text,
+            fault_of(rt.alloc(), text),
+            Some(MarkerFault::BadName),
         );
     }
     Ok(())
 }
 
-fn names_in_order(alloc: Global) -> Result<Vec<Name>, Fail> {
+fn names_in_order(alloc: Global) -> Result<Vec<Name>, MarkerFault> {
     let mut names = Vec::new(alloc);
     for text in &IN_ORDER {
         names.push(Name::read(alloc, text)?)?;
@@ -66,90 +82,109 @@ fn names_in_order(alloc: Global) -> Result<Vec<Name>, Fail> {
     Ok(names)
 }
 
-fn expect_order(rt: &impl Abort, first: &Name, second: &Name, wanted: Ordering) {
-    assert_eq!(rt; first.cmp(second), wanted);
-    assert_eq!(rt; first.partial_cmp(second), Some(wanted));
-    assert_eq!(rt; first == second, wanted == Ordering::Equal);
-    assert_eq!(rt;
-        hash_of(first) == hash_of(second),
-        wanted == Ordering::Equal
-    );
+fn is_equal(first: &Name, second: &Name) -> bool {
+    first == second && hash_of(first) == hash_of(second)
+}
+
+fn is_different(first: &Name, second: &Name) -> bool {
+    first != second && hash_of(first) != hash_of(second)
+}
+
+fn is_order(first: &Name, second: &Name, wanted: Ordering) -> bool {
+    first.cmp(second) == wanted
+        && first.partial_cmp(second) == Some(wanted)
+        && if wanted == Ordering::Equal {
+            is_equal(first, second)
+        } else {
+            is_different(first, second)
+        }
+}
+
+fn compare_names(rt: &impl Abort, names: &[Name]) {
+    for (i, first) in names.iter().enumerate() {
+        for (j, second) in names.iter().enumerate() {
+            expect(rt, (i, j), is_order(first, second, i.cmp(&j)));
+        }
+    }
 }
 
 #[test]
 fn order_of_names(rt: HostRuntime) -> Result<(), Fail> {
     let names = names_in_order(rt.alloc())?;
-    for (i, first) in names.iter().enumerate() {
-        for (j, second) in names.iter().enumerate() {
-            expect_order(&rt, first, second, i.cmp(&j));
-        }
-    }
+    compare_names(&rt, names.as_slice());
     Ok(())
+}
+
+const EQUAL: [(&str, &str); 3] = [
+    ("Flask", "flask"),
+    ("a_.-b", "A-B"),
+    ("Abcdefgh.I", "abcdefgh-i"),
+];
+
+// Whether two texts are one name.
+fn is_one_name(alloc: Global, one: &str, other: &str) -> Result<bool, MarkerFault> {
+    let (one, other) = (Name::read(alloc, one)?, Name::read(alloc, other)?);
+    Ok(is_order(&one, &other, Ordering::Equal))
+}
+
+// Whether the copy of a name is equal to it, with its text.
+fn has_copy(alloc: Global, text: &str) -> Result<bool, MarkerFault> {
+    let name = Name::read(alloc, text)?;
+    let copy = name.copied(alloc)?;
+    Ok(copy == name && copy.text() == name.text())
 }
 
 #[test]
 fn equal_names(rt: HostRuntime) -> Result<(), Fail> {
-    for &(a, b) in &[
-        ("Flask", "flask"),
-        ("a_.-b", "A-B"),
-        ("Abcdefgh.I", "abcdefgh-i"),
-    ] {
-        let (first, second) = (Name::read(rt.alloc(), a)?, Name::read(rt.alloc(), b)?);
-        expect_order(&rt, &first, &second, Ordering::Equal);
+    for &(one, other) in &EQUAL {
+        expect(&rt, (one, other), is_one_name(rt.alloc(), one, other)?);
+        expect(&rt, one, has_copy(rt.alloc(), one)?);
     }
     Ok(())
 }
 
 #[test]
-fn copies_names(rt: HostRuntime) -> Result<(), Fail> {
-    for &text in &["Flask", "a_.-b", "Abcdefgh.I"] {
-        let name = Name::read(rt.alloc(), text)?;
-        let copy = name.copied(rt.alloc())?;
-        assert!(rt; copy == name);
-        assert_eq!(rt; copy.text(), name.text());
-    }
-    Ok(())
-}
-
-#[test]
-fn bytes_of_names_and_white_space(rt: HostRuntime) -> Result<(), Fail> {
+fn bytes_of_names_and_white_space(rt: HostRuntime) {
     for b in 0..=255u8 {
-        let name = b.is_ascii_alphanumeric() || b"-_.".contains(&b);
-        assert_eq!(rt; is_name_byte(b), name, "at {b}");
-        assert_eq!(rt; is_blank_byte(b), b == 9 || b == 32, "at {b}");
+        let is_of_names = b.is_ascii_alphanumeric() || b"-_.".contains(&b);
+        expect(&rt, b, is_name_byte(b) == is_of_names);
+        expect(&rt, b, is_blank_byte(b) == (b == 9 || b == 32));
     }
-    Ok(())
 }
 
-#[test]
-fn runs(rt: HostRuntime) -> Result<(), Fail> {
-    let rows: [(&[u8], usize, usize, usize); 6] = [
-        (b"", 0, 0, 0),
-        (b" \t", 2, 2, 0),
-        (b"Flask_1.x-2>=3", 0, 0, 11),
-        (b" a b\t ", 1, 2, 0),
-        (b"\r a", 0, 0, 0),
-        (b"a\n", 0, 0, 1),
-    ];
-    for &(text, front, end, name) in &rows {
-        assert_eq!(rt; blank_run(text), front);
-        assert_eq!(rt; blank_end(text), end);
-        assert_eq!(rt; name_run(text), name);
-        assert_eq!(rt; without_leading_blanks(text), &text[front..]);
-    }
-    Ok(())
-}
+// Texts, and how many bytes are white space in front, white space behind, and of a name in front.
+const RUNS: [(&[u8], (usize, usize, usize)); 6] = [
+    (b"", (0, 0, 0)),
+    (b" \t", (2, 2, 0)),
+    (b"Flask_1.x-2>=3", (0, 0, 11)),
+    (b" a b\t ", (1, 2, 0)),
+    (b"\r a", (0, 0, 0)),
+    (b"a\n", (0, 0, 1)),
+];
 
 #[test]
-fn trims_names(rt: HostRuntime) -> Result<(), Fail> {
-    let trims: [(&[u8], &[u8]); 4] = [
-        (b" a b\t ", b"a b"),
-        (b"\t ", b""),
-        (b"", b""),
-        (b"\ra ", b"\ra"),
-    ];
-    for &(text, want) in &trims {
-        assert_eq!(rt; without_outer_blanks(text), want);
+fn runs(rt: HostRuntime) {
+    for &(text, wanted) in &RUNS {
+        let front = blank_run(text);
+        expect(
+            &rt,
+            text,
+            (front, blank_end(text), name_run(text)) == wanted,
+        );
+        expect(&rt, text, without_leading_blanks(text) == &text[front..]);
     }
-    Ok(())
+}
+
+const TRIMMED: [(&[u8], &[u8]); 4] = [
+    (b" a b\t ", b"a b"),
+    (b"\t ", b""),
+    (b"", b""),
+    (b"\ra ", b"\ra"),
+];
+
+#[test]
+fn trims_names(rt: HostRuntime) {
+    for &(text, want) in &TRIMMED {
+        expect(&rt, text, without_outer_blanks(text) == want);
+    }
 }

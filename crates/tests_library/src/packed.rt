@@ -1,5 +1,6 @@
 //! The bytes of keys and of cuts.
 
+use crate::lines::{expect, expect_line, expect_row, repeated};
 use crate::ordered::ORDERED;
 use pep_clause::{ClauseFault, Cut, Range, VersionSet};
 use pep_version::{Key, Version, VersionFault};
@@ -82,7 +83,7 @@ fn read_line(alloc: Global, text: &str) -> Result<String, VersionFault> {
 
 fn expect_key(rt: &(impl Abort + AllocGlobal), text: &str, want: &str) -> Result<(), VersionFault> {
     let line = key_line(rt.alloc(), text)?;
-    assert_eq!(rt; line.as_str(), want, "of {text}");
+    expect_row(rt, text, line.as_str(), want);
     Ok(())
 }
 
@@ -92,7 +93,7 @@ fn expect_read(
     want: &str,
 ) -> Result<(), VersionFault> {
     let line = read_line(rt.alloc(), text)?;
-    assert_eq!(rt; line.as_str(), want, "read of {text}");
+    expect_row(rt, text, line.as_str(), want);
     Ok(())
 }
 
@@ -156,7 +157,7 @@ fn sizes_line(alloc: Global, text: &str) -> Result<String, VersionFault> {
 fn beginnings_are_no_keys(rt: HostRuntime) -> Result<(), Fail> {
     for &(text, want) in &SIZES {
         let line = sizes_line(rt.alloc(), text)?;
-        assert_eq!(rt; line.as_str(), want, "of {text}");
+        expect_row(&rt, text, line.as_str(), want);
     }
     Ok(())
 }
@@ -178,7 +179,7 @@ const NO_KEYS: [&[u8]; 10] = [
 #[test]
 fn other_bytes_are_no_keys(rt: HostRuntime) -> Result<(), Fail> {
     for bytes in &NO_KEYS {
-        assert!(rt; !is_key(rt.alloc(), bytes)?, "of {bytes:?}");
+        expect(&rt, bytes, !is_key(rt.alloc(), bytes)?);
     }
     Ok(())
 }
@@ -236,9 +237,9 @@ fn copied_cut_line(alloc: Global, text: &str) -> Result<String, ClauseFault> {
 fn cuts(rt: HostRuntime) -> Result<(), Fail> {
     for &(text, want) in &CUTS {
         let line = cut_line(rt.alloc(), text)?;
-        assert_eq!(rt; line.as_str(), want, "of {text}");
+        expect_row(&rt, text, line.as_str(), want);
         let line = copied_cut_line(rt.alloc(), text)?;
-        assert_eq!(rt; line.as_str(), want, "copy of {text}");
+        expect_row(&rt, text, line.as_str(), want);
     }
     Ok(())
 }
@@ -302,9 +303,9 @@ fn sized_copy_line(alloc: Global, text: &str) -> Result<String, ClauseFault> {
 fn long_cuts(rt: HostRuntime) -> Result<(), Fail> {
     for &(text, want) in &LONG_CUTS {
         let line = sized_line(rt.alloc(), text)?;
-        assert_eq!(rt; line.as_str(), want);
+        expect_line(&rt, line.as_str(), want);
         let line = sized_copy_line(rt.alloc(), text)?;
-        assert_eq!(rt; line.as_str(), want, "copied");
+        expect_row(&rt, "copied", line.as_str(), want);
     }
     Ok(())
 }
@@ -330,7 +331,7 @@ fn copied_key_line(alloc: Global, text: &str) -> Result<String, VersionFault> {
 fn long_keys(rt: HostRuntime) -> Result<(), Fail> {
     for text in &LONG_KEYS {
         let line = copied_key_line(rt.alloc(), text)?;
-        assert_eq!(rt; line.as_str(), *text);
+        expect_line(&rt, line.as_str(), text);
     }
     Ok(())
 }
@@ -388,9 +389,9 @@ fn expect_growing(
     one: &Key,
 ) -> Result<(), ClauseFault> {
     let line = order_line(rt.alloc(), below, one)?;
-    assert_eq!(rt; line.as_str(), "true true");
+    expect_line(rt, line.as_str(), "true true");
     let line = from_line(rt.alloc(), below, one)?;
-    assert_eq!(rt; line.as_str(), "true false");
+    expect_line(rt, line.as_str(), "true false");
     Ok(())
 }
 
@@ -399,18 +400,9 @@ fn long_and_short(rt: HostRuntime) -> Result<(), Fail> {
     for &(below, text) in &GROWING {
         let one = key(rt.alloc(), text)?;
         expect_growing(&rt, &key(rt.alloc(), below)?, &one)?;
-        assert!(rt; is_read_as_copy(rt.alloc(), &one)?, "of {text}");
+        expect(&rt, text, is_read_as_copy(rt.alloc(), &one)?);
     }
     Ok(())
-}
-
-// `1.2.3` with a label of so many letters.
-fn labelled(alloc: Global, letters: usize) -> Result<String, AllocError> {
-    let mut text = String::from_str(alloc, "1.2.3+")?;
-    for _ in 0..letters {
-        text.push_str("a")?;
-    }
-    Ok(text)
 }
 
 fn has_copy(alloc: Global, key: &Key) -> Result<bool, VersionFault> {
@@ -431,7 +423,8 @@ fn size_line(alloc: Global, key: &Key) -> Result<String, VersionFault> {
     }
 }
 
-fn cut_has_copy(alloc: Global, cut: &Cut) -> Result<bool, ClauseFault> {
+/// Whether the copy of a cut is equal to it.
+pub(crate) fn cut_has_copy(alloc: Global, cut: &Cut) -> Result<bool, ClauseFault> {
     Ok(cut.copied(alloc)? == *cut)
 }
 
@@ -458,7 +451,7 @@ fn expect_key_size(
 ) -> Result<(), VersionFault> {
     let line = size_line(rt.alloc(), key)?;
     let want = format!(in rt.alloc(); "{size} true true")?;
-    assert_eq!(rt; line.as_str(), want.as_str());
+    expect_line(rt, line.as_str(), want.as_str());
     Ok(())
 }
 
@@ -471,7 +464,7 @@ fn expect_cut_size(
     let text = format!(in rt.alloc(); "after {version}")?;
     let line = cut_size_line(rt.alloc(), text.as_str(), key)?;
     let want = format!(in rt.alloc(); "true {size} true {text}")?;
-    assert_eq!(rt; line.as_str(), want.as_str());
+    expect_line(rt, line.as_str(), want.as_str());
     Ok(())
 }
 
@@ -489,7 +482,7 @@ fn expect_sizes(
 #[test]
 fn across_the_edge(rt: HostRuntime) -> Result<(), Fail> {
     for size in 44..70 {
-        let version = labelled(rt.alloc(), size - 43)?;
+        let version = repeated(rt.alloc(), "1.2.3+", "a", size - 43, "")?;
         expect_sizes(&rt, version.as_str(), size)?;
     }
     Ok(())
@@ -528,8 +521,8 @@ fn made_cuts(alloc: Global) -> Result<Vec<Cut>, ClauseFault> {
     Ok(cuts)
 }
 
-// A copy of the cut at this place in the row.
-fn cut_at(alloc: Global, cuts: &[Cut], place: usize) -> Result<Cut, ClauseFault> {
+/// A copy of the cut at this place in the row.
+pub(crate) fn cut_at(alloc: Global, cuts: &[Cut], place: usize) -> Result<Cut, ClauseFault> {
     match cuts.get(place) {
         Some(cut) => cut.copied(alloc),
         None => Ok(Cut::end()),
@@ -549,6 +542,7 @@ fn made_places(alloc: Global) -> Result<Places, ClauseFault> {
 
 fn is_key_order(one: &Key, other: &Key, wanted: Ordering) -> bool {
     one.cmp(other) == wanted
+        && one.partial_cmp(other) == Some(wanted)
         && one.bytes().cmp(other.bytes()) == wanted
         && (one == other) == (wanted == Ordering::Equal)
 }
@@ -556,26 +550,29 @@ fn is_key_order(one: &Key, other: &Key, wanted: Ordering) -> bool {
 fn compare_keys(rt: &impl Abort, keys: &[Key]) {
     for (i, one) in keys.iter().enumerate() {
         for (j, other) in keys.iter().enumerate() {
-            assert!(rt; is_key_order(one, other, i.cmp(&j)), "at {i} and {j}");
+            expect(rt, (i, j), is_key_order(one, other, i.cmp(&j)));
         }
     }
 }
 
 fn is_cut_order(one: &Cut, other: &Cut, wanted: Ordering) -> bool {
-    one.cmp(other) == wanted && one.bytes().cmp(other.bytes()) == wanted
+    one.cmp(other) == wanted
+        && one.bytes().cmp(other.bytes()) == wanted
+        && (one == other) == (wanted == Ordering::Equal)
 }
 
-fn compare_cuts(rt: &impl Abort, cuts: &[Cut]) {
+/// Asserts that each cut is below the next, and equal to itself alone.
+pub(crate) fn compare_cuts(rt: &impl Abort, cuts: &[Cut]) {
     for (i, one) in cuts.iter().enumerate() {
         for (j, other) in cuts.iter().enumerate() {
-            assert!(rt; is_cut_order(one, other, i.cmp(&j)), "at {i} and {j}");
+            expect(rt, (i, j), is_cut_order(one, other, i.cmp(&j)));
         }
     }
 }
 
 fn compare_set(rt: &impl Abort, set: &VersionSet, keys: &[Key]) {
     for (i, key) in keys.iter().enumerate() {
-        assert_eq!(rt; set.contains(key), (LOW..HIGH).contains(&i), "at {i}");
+        expect(rt, i, set.contains(key) == (LOW..HIGH).contains(&i));
     }
 }
 
@@ -584,8 +581,7 @@ fn compare_set(rt: &impl Abort, set: &VersionSet, keys: &[Key]) {
 #[test]
 fn made_alone(rt: HostRuntime) -> Result<(), Fail> {
     let made = made_places(rt.alloc())?;
-    assert_eq!(rt; made.keys.len(), 27);
-    assert_eq!(rt; made.cuts.len(), 28);
+    assert!(rt; made.keys.len() == 27 && made.cuts.len() == 28);
     Ok(())
 }
 

@@ -1,5 +1,6 @@
 //! Sets of clauses: their cuts, with carries at the largest number, and which versions they hold.
 
+use crate::lines::{expect, expect_line, expect_row};
 use crate::ordered::ORDERED;
 use pep_clause::{Clause, ClauseFault, Range, VersionSet, laws};
 use pep_version::{Key, Phase, Version, VersionFault};
@@ -66,8 +67,8 @@ fn set(alloc: Global, text: &str) -> Result<VersionSet, ClauseFault> {
     VersionSet::of(alloc, &Clause::read(alloc, text)?)
 }
 
-// Each range of a set in brackets, behind `none` where the set says that it is empty.
-fn shown(alloc: Global, set: &VersionSet) -> Result<String, ClauseFault> {
+/// Each range of a set in brackets, behind `none` where the set says that it is empty.
+pub(crate) fn shown(alloc: Global, set: &VersionSet) -> Result<String, ClauseFault> {
     let mut line = String::from_str(alloc, if set.is_empty() { "none" } else { "" })?;
     for range in set.ranges() {
         push_range(alloc, &mut line, range)?;
@@ -125,11 +126,8 @@ fn holds_what_a_clause_admits(rt: HostRuntime) -> Result<(), Fail> {
     let (from, below) = (set(rt.alloc(), ">=1.0")?, set(rt.alloc(), "<1.0")?);
     for &(release, pre, post, dev, want) in &HELD {
         let key = place(rt.alloc(), release.as_slice(), pre, post, dev)?;
-        assert_eq!(rt;
-            (from.contains(&key), below.contains(&key)),
-            want,
-            "at {release:?}"
-        );
+        let held = (from.contains(&key), below.contains(&key));
+        expect(&rt, release, held == want);
     }
     Ok(())
 }
@@ -171,7 +169,7 @@ fn ranges_line(alloc: Global, clause: &str) -> Result<String, ClauseFault> {
 fn ranges_of_clauses(rt: HostRuntime) -> Result<(), Fail> {
     for &(clause, want) in &RANGES {
         let line = ranges_line(rt.alloc(), clause)?;
-        assert_eq!(rt; line.as_str(), want, "of {clause}");
+        expect_row(&rt, clause, line.as_str(), want);
     }
     Ok(())
 }
@@ -183,9 +181,9 @@ fn all_line(alloc: Global) -> Result<String, ClauseFault> {
 #[test]
 fn ranges_of_all_and_none(rt: HostRuntime) -> Result<(), Fail> {
     let line = all_line(rt.alloc())?;
-    assert_eq!(rt; line.as_str(), "[before 0.dev0 to end]");
+    expect_line(&rt, line.as_str(), "[before 0.dev0 to end]");
     let line = shown(rt.alloc(), &VersionSet::none(rt.alloc()))?;
-    assert_eq!(rt; line.as_str(), "none");
+    expect_line(&rt, line.as_str(), "none");
     Ok(())
 }
 
@@ -253,9 +251,9 @@ fn copied_line(alloc: Global, clauses: &[&str]) -> Result<String, ClauseFault> {
 fn joins(rt: HostRuntime) -> Result<(), Fail> {
     for &(clauses, want) in &JOINED {
         let line = joined_line(rt.alloc(), clauses)?;
-        assert_eq!(rt; line.as_str(), want, "joined: {clauses:?}");
+        expect_row(&rt, "joined", line.as_str(), want);
         let line = kept_line(rt.alloc(), clauses)?;
-        assert_eq!(rt; line.as_str(), want, "in place: {clauses:?}");
+        expect_row(&rt, "in place", line.as_str(), want);
     }
     Ok(())
 }
@@ -264,9 +262,9 @@ fn joins(rt: HostRuntime) -> Result<(), Fail> {
 fn uses_up_and_copies(rt: HostRuntime) -> Result<(), Fail> {
     for &(clauses, want) in &JOINED {
         let line = common_line(rt.alloc(), clauses)?;
-        assert_eq!(rt; line.as_str(), want, "used up: {clauses:?}");
+        expect_row(&rt, "used up", line.as_str(), want);
         let line = copied_line(rt.alloc(), clauses)?;
-        assert_eq!(rt; line.as_str(), want, "copied: {clauses:?}");
+        expect_row(&rt, "copied", line.as_str(), want);
     }
     Ok(())
 }
@@ -284,7 +282,7 @@ fn between_line(alloc: Global, above: &str, below: &str) -> Result<String, Claus
 #[test]
 fn none_between(rt: HostRuntime) -> Result<(), Fail> {
     let line = between_line(rt.alloc(), ">1.0a5", "<1.0a6.dev0")?;
-    assert_eq!(rt; line.as_str(), "none true true");
+    expect_line(&rt, line.as_str(), "none true true");
     Ok(())
 }
 
@@ -314,10 +312,10 @@ fn copied_range_line(alloc: Global, range: &Range) -> Result<String, ClauseFault
 #[test]
 fn copies_ranges(rt: HostRuntime) -> Result<(), Fail> {
     let set = set(rt.alloc(), ">=3.8")?;
-    assert_eq!(rt; set.ranges().len(), 1);
+    assert!(rt; set.ranges().len() == 1);
     for range in set.ranges() {
         let line = copied_range_line(rt.alloc(), range)?;
-        assert_eq!(rt; line.as_str(), "true true");
+        expect_line(&rt, line.as_str(), "true true");
     }
     Ok(())
 }
@@ -410,6 +408,17 @@ fn is_wanted(alloc: Global, clause: &Clause, version: &Version) -> Result<bool, 
     Ok(clause.exact_text().is_some() || clause.admits(alloc, version)?)
 }
 
+// Whether the set holds the version where the clause admits it.
+fn is_held(
+    alloc: Global,
+    set: &VersionSet,
+    clause: &Clause,
+    version: &Version,
+) -> Result<bool, ClauseFault> {
+    let is_held = set.contains(&Key::of(alloc, version)?);
+    Ok(is_held == is_wanted(alloc, clause, version)?)
+}
+
 // The clause's set holds the versions that it admits.
 fn expect_admitted(
     rt: &(impl Abort + AllocGlobal),
@@ -417,14 +426,8 @@ fn expect_admitted(
     versions: &[Version],
 ) -> Result<(), ClauseFault> {
     let set = VersionSet::of(rt.alloc(), clause)?;
-    let shown = clause.text(rt.alloc())?;
     for (i, version) in versions.iter().enumerate() {
-        let is_held = set.contains(&Key::of(rt.alloc(), version)?);
-        assert_eq!(rt;
-            is_held,
-            is_wanted(rt.alloc(), clause, version)?,
-            "{shown} at candidate {i}"
-        );
+        expect(rt, i, is_held(rt.alloc(), &set, clause, version)?);
     }
     Ok(())
 }
@@ -440,7 +443,7 @@ const CANDIDATES: usize = 41 + 8 * 6 + 7 * 5 + 5 * 3 + 7 * 2;
 #[test]
 fn sets_hold_what_clauses_admit(rt: HostRuntime) -> Result<(), Fail> {
     let (clauses, versions) = (clauses(rt.alloc())?, candidates(rt.alloc())?);
-    assert_eq!(rt; (clauses.len(), versions.len()), (CLAUSES, CANDIDATES));
+    assert!(rt; clauses.len() == CLAUSES && versions.len() == CANDIDATES);
     for clause in &clauses {
         expect_admitted(&rt, clause, versions.as_slice())?;
     }
@@ -456,7 +459,7 @@ fn expect_joined(
 ) {
     for key in keys {
         let is_wanted = first.contains(key) && second.contains(key);
-        assert_eq!(rt; both.contains(key), is_wanted);
+        assert!(rt; both.contains(key) == is_wanted);
     }
 }
 

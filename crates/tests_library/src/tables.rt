@@ -1,5 +1,6 @@
 //! Tables of requirements: their texts, verdicts and answers, and what joining them gives.
 
+use crate::lines::{expect_line, expect_row, expect_same};
 use crate::machine::MACHINE;
 use pep_clause::VersionSet;
 use pep_marker::{Environment, Name};
@@ -142,7 +143,7 @@ const TEXTS: [(&[&str], &str); 19] = [
 fn texts(rt: HostRuntime) -> Result<(), Fail> {
     for &(lines, want) in &TEXTS {
         let line = table_line(rt.alloc(), lines)?;
-        assert_eq!(rt; line.as_str(), want, "of {lines:?}");
+        expect_row(&rt, want, line.as_str(), want);
     }
     Ok(())
 }
@@ -161,7 +162,7 @@ const URLS: [&str; 2] = ["a @ https://x.test/1", "a @ https://x.test/2"];
 fn conflicts(rt: HostRuntime) -> Result<(), Fail> {
     let both = joined(rt.alloc(), URLS[0], URLS[1])?;
     let text = both.text(rt.alloc())?;
-    assert_eq!(rt; text.as_str(), CONFLICT);
+    expect_line(&rt, text.as_str(), CONFLICT);
     assert!(rt; joined(rt.alloc(), URLS[1], URLS[0])? == both);
     Ok(())
 }
@@ -183,7 +184,7 @@ fn later(alloc: Global) -> Result<Table, TableFault> {
 #[test]
 fn conflicts_stay(rt: HostRuntime) -> Result<(), Fail> {
     let later = later(rt.alloc())?;
-    assert_eq!(rt; verdict(rt.alloc(), &later)?, Some(Verdict::Conflict));
+    assert!(rt; verdict(rt.alloc(), &later)? == Some(Verdict::Conflict));
     Ok(())
 }
 
@@ -227,7 +228,7 @@ fn joins(rt: HostRuntime) -> Result<(), Fail> {
 #[test]
 fn different_tables(rt: HostRuntime) -> Result<(), Fail> {
     let tables = tables(rt.alloc())?;
-    assert_eq!(rt; tables.len(), 3);
+    assert!(rt; tables.len() == 3);
     assert!(rt; tables[1] != tables[2]);
     Ok(())
 }
@@ -298,7 +299,7 @@ fn entries(rt: HostRuntime) -> Result<(), Fail> {
     let table = table(rt.alloc(), &ENTRIES)?;
     for &(name, want) in &DEMANDED {
         let line = entry_of_line(rt.alloc(), &table, name)?;
-        assert_eq!(rt; line.as_str(), want, "of {name}");
+        expect_row(&rt, name, line.as_str(), want);
     }
     Ok(())
 }
@@ -322,7 +323,7 @@ fn joined_entries(rt: HostRuntime) -> Result<(), Fail> {
     let both = joined_entry(rt.alloc(), &table)?;
     let line = joined_entry_line(rt.alloc(), &table, &both)?;
     let want = "extras[x][y] urls[https://x.test/1] texts[1.0] ranges 1 true true";
-    assert_eq!(rt; line.as_str(), want);
+    expect_line(&rt, line.as_str(), want);
     Ok(())
 }
 
@@ -352,7 +353,7 @@ fn sorted_line(alloc: Global, values: &Sorted<Name>) -> Result<String, TableFaul
 fn sorted_values(rt: HostRuntime) -> Result<(), Fail> {
     let union = joined_extras(rt.alloc(), &["a[y,x]", "b[z,x]"])?;
     let line = sorted_line(rt.alloc(), &union)?;
-    assert_eq!(rt; line.as_str(), "[x][y][z] true");
+    expect_line(&rt, line.as_str(), "[x][y][z] true");
     assert!(rt; Sorted::<String>::new(rt.alloc()).items().is_empty());
     Ok(())
 }
@@ -360,7 +361,7 @@ fn sorted_values(rt: HostRuntime) -> Result<(), Fail> {
 #[test]
 fn kept_values(rt: HostRuntime) -> Result<(), Fail> {
     let text = String::from_str(rt.alloc(), "1.0")?;
-    assert_eq!(rt; text.kept(rt.alloc())?.as_str(), "1.0");
+    assert!(rt; text.kept(rt.alloc())?.as_str() == "1.0");
     let a = name(rt.alloc(), "a")?;
     assert!(rt; a.kept(rt.alloc())? == a);
     Ok(())
@@ -415,7 +416,7 @@ pub(crate) fn answer(
 fn answers(rt: HostRuntime) -> Result<(), Fail> {
     for &(lines, version, want_pre, wanted) in &ANSWERS {
         let answer = answer(rt.alloc(), lines, version, want_pre)?;
-        assert_eq!(rt; answer, wanted, "at {version}");
+        expect_same(&rt, version, answer, wanted);
     }
     Ok(())
 }
@@ -438,7 +439,7 @@ fn verdict_of(alloc: Global, lines: &[&str]) -> Result<Option<Verdict>, TableFau
 fn verdicts(rt: HostRuntime) -> Result<(), Fail> {
     for &(lines, wanted) in &VERDICTS {
         let verdict = verdict_of(rt.alloc(), lines)?;
-        assert_eq!(rt; verdict, wanted, "of {lines:?}");
+        expect_same(&rt, lines, verdict, wanted);
     }
     Ok(())
 }
