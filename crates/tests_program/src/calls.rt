@@ -1,11 +1,13 @@
 //! The public calls over inputs, and what no words ask for: no input, and the extra of a project file.
 
 use crate::environments::MACHINE;
-use pep_marker::{Environment, Name};
-use pep_require::Requirement;
+use crate::lines::{expect_line, expect_row};
+use pep_marker::{Environment, MarkerFault, Name};
+use pep_require::{RequireFault, Requirement};
+use pep_table::Answer;
 use pep_tool::{Cause, Fault, Input, Kind, Place, check_bytes, list_of, merge_bytes, project_of};
 use pep_version::Version;
-use std::alloc::Global;
+use std::alloc::{AllocError, Global};
 use std::test::Fail;
 
 /// An input's kind and its text.
@@ -18,29 +20,42 @@ pub(crate) const NO_MEMORY: Fault = Fault {
 };
 
 /// The environment of the machine.
-pub(crate) fn machine(alloc: Global) -> Result<Environment, Fault> {
-    // Its pairs make one, if memory isn't wanting.
-    Environment::of(alloc, &MACHINE).map_err(|_| NO_MEMORY)
+pub(crate) fn machine(alloc: Global) -> Result<Environment, MarkerFault> {
+    Environment::of(alloc, &MACHINE)
+}
+
+// The input of a kind and a text.
+fn input_of(alloc: Global, kind: Kind, text: &str) -> Result<Input, AllocError> {
+    let bytes = Vec::from_slice(alloc, text.as_bytes())?;
+    Ok(Input { kind, bytes })
 }
 
 /// The inputs of these kinds and texts.
-pub(crate) fn inputs_of(alloc: Global, parts: &[Part]) -> Result<Vec<Input>, Fault> {
+pub(crate) fn inputs_of(alloc: Global, parts: &[Part]) -> Result<Vec<Input>, AllocError> {
     let mut inputs = Vec::new(alloc);
     for &(kind, text) in parts {
-        let bytes = Vec::from_slice(alloc, text.as_bytes())?;
-        inputs.push(Input { kind, bytes })?;
+        inputs.push(input_of(alloc, kind, text)?)?;
     }
     Ok(inputs)
 }
 
-// The table of the inputs on the machine, or the line of the fault.
-fn table_line(alloc: Global, parts: &[Part]) -> Result<String, Fault> {
-    let inputs = inputs_of(alloc, parts)?;
-    let machine = machine(alloc)?;
-    match merge_bytes(alloc, inputs.as_slice(), &machine) {
+/// The text, or the line of the fault.
+pub(crate) fn text_or_fault(alloc: Global, found: Result<String, Fault>) -> Result<String, Fault> {
+    match found {
         Ok(text) => Ok(text),
         Err(fault) => fault.text(alloc),
     }
+}
+
+// The table of the inputs on the machine.
+fn merged(alloc: Global, inputs: &[Input]) -> Result<String, Fault> {
+    merge_bytes(alloc, inputs, &machine(alloc)?)
+}
+
+// The same, or the line of the fault.
+fn table_line(alloc: Global, parts: &[Part]) -> Result<String, Fault> {
+    let inputs = inputs_of(alloc, parts)?;
+    text_or_fault(alloc, merged(alloc, inputs.as_slice()))
 }
 
 const LIST: Part = (Kind::List, "Flask!=2.1\n");
@@ -67,30 +82,40 @@ const TABLES: [(&[Part], &str); 3] = [
 fn tables(rt: HostRuntime) -> Result<(), Fail> {
     for &(parts, want) in &TABLES {
         let found = table_line(rt.alloc(), parts)?;
-        assert_eq!(rt; found.as_str(), want);
+        expect_line(&rt, found.as_str(), want);
     }
     Ok(())
 }
 
-// Whether the version of flask meets what the inputs demand on the machine, or the line of the fault.
+// Whether the version of flask meets what the inputs demand on the machine.
+fn flask_meets(
+    alloc: Global,
+    inputs: &[Input],
+    version: &Version,
+    want_pre: bool,
+) -> Result<Answer, Fault> {
+    let name = Name::read(alloc, "Flask")?;
+    check_bytes(alloc, inputs, &machine(alloc)?, &name, version, want_pre)
+}
+
+fn answer(alloc: Global, parts: &[Part], version: &str, want_pre: bool) -> Result<Answer, Fault> {
+    let inputs = inputs_of(alloc, parts)?;
+    flask_meets(
+        alloc,
+        inputs.as_slice(),
+        &Version::read(alloc, version)?,
+        want_pre,
+    )
+}
+
+// The same as it is written, or the line of the fault.
 fn answer_line(
     alloc: Global,
     parts: &[Part],
     version: &str,
     want_pre: bool,
 ) -> Result<String, Fault> {
-    let inputs = inputs_of(alloc, parts)?;
-    let machine = machine(alloc)?;
-    let name = Name::read(alloc, "Flask").map_err(|_| NO_MEMORY)?;
-    let version = Version::read(alloc, version)?;
-    match check_bytes(
-        alloc,
-        inputs.as_slice(),
-        &machine,
-        &name,
-        &version,
-        want_pre,
-    ) {
+    match answer(alloc, parts, version, want_pre) {
         Ok(answer) => Ok(format!(in alloc; "{answer:?}")?),
         Err(fault) => fault.text(alloc),
     }
@@ -114,24 +139,28 @@ const ANSWERS: [(&[Part], &str, bool, &str); 6] = [
 fn answers(rt: HostRuntime) -> Result<(), Fail> {
     for &(parts, version, want_pre, want) in &ANSWERS {
         let found = answer_line(rt.alloc(), parts, version, want_pre)?;
-        assert_eq!(rt; found.as_str(), want);
+        expect_line(&rt, found.as_str(), want);
     }
     Ok(())
 }
 
-// The texts of the requirements, one a line, or the line of the fault.
-fn texts(alloc: Global, requirements: Result<Vec<Requirement>, Fault>) -> Result<String, Fault> {
-    let requirements = match requirements {
-        Ok(requirements) => requirements,
-        Err(fault) => return fault.text(alloc),
-    };
+// The texts of the requirements, one a line.
+fn lines(alloc: Global, requirements: &[Requirement]) -> Result<String, RequireFault> {
     let mut text = String::new(alloc);
-    for requirement in &requirements {
-        let line = requirement.text(alloc).map_err(|_| NO_MEMORY)?;
+    for requirement in requirements {
+        let line = requirement.text(alloc)?;
         text.push_str(line.as_str())?;
         text.push_str("\n")?;
     }
     Ok(text)
+}
+
+// The same, or the line of the fault.
+fn texts(alloc: Global, requirements: Result<Vec<Requirement>, Fault>) -> Result<String, Fault> {
+    match requirements {
+        Ok(requirements) => lines(alloc, requirements.as_slice()).map_err(|_| NO_MEMORY),
+        Err(fault) => fault.text(alloc),
+    }
 }
 
 const LISTS: [(&str, &str); 3] = [
@@ -143,11 +172,15 @@ const LISTS: [(&str, &str); 3] = [
     ("a\nb>=\n-c\n", "refused input 1 line 2 code 57 33 12\n"),
 ];
 
+fn list_line(alloc: Global, list: &str) -> Result<String, Fault> {
+    texts(alloc, list_of(alloc, list.as_bytes()))
+}
+
 #[test]
 fn requirements_of_lists(rt: HostRuntime) -> Result<(), Fail> {
     for &(list, want) in &LISTS {
-        let found = texts(rt.alloc(), list_of(rt.alloc(), list.as_bytes()))?;
-        assert_eq!(rt; found.as_str(), want);
+        let found = list_line(rt.alloc(), list)?;
+        expect_line(&rt, found.as_str(), want);
     }
     Ok(())
 }
@@ -174,14 +207,15 @@ const PROJECTS: [(&str, &str, &str); 7] = [
     ("", "x", "refused input 1 code 53\n"),
 ];
 
+fn project_line(alloc: Global, project: &str, extra: &str) -> Result<String, Fault> {
+    texts(alloc, project_of(alloc, project.as_bytes(), extra))
+}
+
 #[test]
 fn requirements_of_projects(rt: HostRuntime) -> Result<(), Fail> {
     for &(project, extra, want) in &PROJECTS {
-        let found = texts(
-            rt.alloc(),
-            project_of(rt.alloc(), project.as_bytes(), extra),
-        )?;
-        assert_eq!(rt; found.as_str(), want, "of {project} with {extra}");
+        let found = project_line(rt.alloc(), project, extra)?;
+        expect_row(&rt, project, found.as_str(), want);
     }
     Ok(())
 }

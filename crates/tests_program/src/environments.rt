@@ -1,6 +1,8 @@
 //! Environment files: what the variables are read as, and which is told to be missing.
 
-use pep_tool::{Fault, environment_of};
+use crate::lines::expect_row;
+use pep_marker::Environment;
+use pep_tool::environment_of;
 use std::alloc::{AllocError, Global};
 use std::test::Fail;
 
@@ -19,15 +21,24 @@ pub(crate) const MACHINE: [(&str, &str); 11] = [
     ("implementation_version", "3.9.18"),
 ];
 
-// What a variable is read as, or what the file is refused for.
-fn value_line(alloc: Global, file: &str, variable: &str) -> Result<String, Fault> {
-    Ok(match environment_of(alloc, file.as_bytes()) {
-        Ok(environment) => match environment.value(variable) {
-            Some(text) => format!(in alloc; "= {text}")?,
-            None => String::from_str(alloc, "none")?,
-        },
-        Err(fault) => format!(in alloc; "{fault}")?,
-    })
+// What a variable is read as.
+fn value_of(
+    alloc: Global,
+    environment: &Environment,
+    variable: &str,
+) -> Result<String, AllocError> {
+    match environment.value(variable) {
+        Some(text) => format!(in alloc; "= {text}"),
+        None => String::from_str(alloc, "none"),
+    }
+}
+
+// The same, or what the file is refused for.
+fn value_line(alloc: Global, file: &str, variable: &str) -> Result<String, AllocError> {
+    match environment_of(alloc, file.as_bytes()) {
+        Ok(environment) => value_of(alloc, &environment, variable),
+        Err(fault) => format!(in alloc; "{fault}"),
+    }
 }
 
 // The environment of the machine.
@@ -71,7 +82,7 @@ const VALUES: [(&str, &str); 19] = [
 fn values(rt: HostRuntime) -> Result<(), Fail> {
     for &(variable, want) in &VALUES {
         let found = value_line(rt.alloc(), FILE, variable)?;
-        assert_eq!(rt; found.as_str(), want, "of {variable}");
+        expect_row(&rt, variable, found.as_str(), want);
     }
     Ok(())
 }
@@ -121,12 +132,17 @@ const FORMS: [(&str, &str, &str); 16] = [
     ("implementation_name = 'x'", "implementation_name", "= x"),
 ];
 
+// What a variable is read as that stands in the text alone.
+fn form_line(alloc: Global, text: &str, variable: &str) -> Result<String, AllocError> {
+    let file = file(alloc, text, variable)?;
+    value_line(alloc, file.as_str(), variable)
+}
+
 #[test]
 fn forms(rt: HostRuntime) -> Result<(), Fail> {
     for &(text, variable, want) in &FORMS {
-        let file = file(rt.alloc(), text, variable)?;
-        let found = value_line(rt.alloc(), file.as_str(), variable)?;
-        assert_eq!(rt; found.as_str(), want, "of {text}");
+        let found = form_line(rt.alloc(), text, variable)?;
+        expect_row(&rt, text, found.as_str(), want);
     }
     Ok(())
 }
@@ -136,13 +152,16 @@ const FRONT: &str = "environment: a faulty environment: the variable `";
 
 const BACK: &str = "` is missing";
 
+// The variable that is told to be missing.
+fn missing(told: &str) -> Option<&str> {
+    told.strip_prefix(FRONT)?.strip_suffix(BACK)
+}
+
 #[test]
 fn missing_variables(rt: HostRuntime) -> Result<(), Fail> {
     for &(variable, _) in &MACHINE {
-        let file = file(rt.alloc(), "extra = ''", variable)?;
-        let found = value_line(rt.alloc(), file.as_str(), variable)?;
-        let want = format!(in rt.alloc(); "{FRONT}{variable}{BACK}")?;
-        assert_eq!(rt; found.as_str(), want.as_str());
+        let found = form_line(rt.alloc(), "extra = ''", variable)?;
+        assert!(rt; missing(found.as_str()) == Some(variable));
     }
     Ok(())
 }
@@ -158,8 +177,7 @@ const FIRST_MISSING: [(&str, &str); 3] = [
 fn first_missing_variables(rt: HostRuntime) -> Result<(), Fail> {
     for &(file, variable) in &FIRST_MISSING {
         let found = value_line(rt.alloc(), file, "")?;
-        let want = format!(in rt.alloc(); "{FRONT}{variable}{BACK}")?;
-        assert_eq!(rt; found.as_str(), want.as_str(), "in {file}");
+        assert!(rt; missing(found.as_str()) == Some(variable));
     }
     Ok(())
 }

@@ -1,6 +1,7 @@
 //! The example of README, as it stands there.
 
 use crate::calls::machine;
+use crate::lines::expect_line;
 use pep_marker::Environment;
 use pep_tool::{Fault, Input, Kind, merge_bytes};
 use std::alloc::Global;
@@ -35,7 +36,7 @@ const EXAMPLES: [(&str, &str); 2] = [
 fn example(rt: HostRuntime) -> Result<(), Fail> {
     for &(list, want) in &EXAMPLES {
         let found = merged_line(rt.alloc(), list)?;
-        assert_eq!(rt; found.as_str(), want);
+        expect_line(&rt, found.as_str(), want);
     }
     Ok(())
 }

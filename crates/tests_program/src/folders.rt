@@ -1,5 +1,6 @@
 //! The program over folders of the tests, whose files fail at a call, and over the disk.
 
+use crate::lines::expect_line;
 use crate::plans::owned;
 use crate::streams::{NEVER, Reader};
 use pep_tool::{Bytes, Counted, Disk, Fault, Folder, OpenFault, Source, run_in};
@@ -73,7 +74,7 @@ fn paths(rt: HostRuntime) -> Result<(), Fail> {
     };
     for &(path, want) in &PATHS {
         let found = run_line(rt.alloc(), &folder, &["lines", path])?;
-        assert_eq!(rt; found.as_str(), want);
+        expect_line(&rt, found.as_str(), want);
     }
     Ok(())
 }
@@ -175,7 +176,7 @@ const FAILING: [(&[&str], u64, &str); 14] = [
 fn files_that_fail(rt: HostRuntime) -> Result<(), Fail> {
     for &(words, fails_at, want) in &FAILING {
         let found = run_line(rt.alloc(), &Failing { fails_at }, words)?;
-        assert_eq!(rt; found.as_str(), want);
+        expect_line(&rt, found.as_str(), want);
     }
     Ok(())
 }
@@ -196,8 +197,8 @@ fn a_file_on_disk(rt: HostRuntime) -> Result<(), Fail> {
     fs::write(&rt, file.as_path(), b"A>=1\nb[x]\n".as_slice())?;
     let found = run_line(rt.alloc(), &Disk(&rt), &["lines", file.as_str()])?;
     fs::remove_dir_all(&rt, folder.as_path())?;
-    assert_eq!(rt; found.as_str(), "0 0 [a>=1\nb[x]\n] []");
+    expect_line(&rt, found.as_str(), "0 0 [a>=1\nb[x]\n] []");
     let found = run_line(rt.alloc(), &Disk(&rt), &["lines", "a\0b"])?;
-    assert_eq!(rt; found.as_str(), "2 0 [] [refused input 1 code 58\n]");
+    expect_line(&rt, found.as_str(), "2 0 [] [refused input 1 code 58\n]");
     Ok(())
 }

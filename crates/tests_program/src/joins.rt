@@ -27,6 +27,10 @@ fn gathered(alloc: Global, parts: &[Part]) -> Result<Table, TableFault> {
     }
 }
 
+fn has_text(alloc: Global, table: &Table, text: &str) -> Result<bool, TableFault> {
+    Ok(table.text(alloc)?.as_str() == text)
+}
+
 // The tables of lists.
 fn tables(alloc: Global, lists: &[&str]) -> Result<Vec<Table>, TableFault> {
     let mut tables = Vec::with_capacity(alloc, lists.len())?;
@@ -42,14 +46,17 @@ const LOW: Part = (Kind::List, "flask>=2.0");
 
 const HIGH: Part = (Kind::List, "Flask<3");
 
+// The join of the tables of lists.
+fn all_joined(alloc: Global, lists: &[&str]) -> Result<Table, TableFault> {
+    join_all(alloc, Table::empty(alloc), tables(alloc, lists)?.iter())
+}
+
 #[test]
 fn one_table(rt: HostRuntime) -> Result<(), Fail> {
-    let alloc = rt.alloc();
-    let whole = table(alloc, "Flask<3\nflask>=2.0\nflask>=2.0")?;
-    assert_eq!(rt; whole.text(alloc)?.as_str(), FLASK);
-    let tables = tables(alloc, &[HIGH.1, LOW.1, LOW.1])?;
-    assert!(rt; join_all(alloc, Table::empty(alloc), tables.iter())? == whole);
-    assert!(rt; gathered(alloc, &[HIGH, LOW, LOW])? == whole);
+    let whole = table(rt.alloc(), "Flask<3\nflask>=2.0\nflask>=2.0")?;
+    assert!(rt; has_text(rt.alloc(), &whole, FLASK)?);
+    assert!(rt; all_joined(rt.alloc(), &[HIGH.1, LOW.1, LOW.1])? == whole);
+    assert!(rt; gathered(rt.alloc(), &[HIGH, LOW, LOW])? == whole);
     Ok(())
 }
 
@@ -79,30 +86,41 @@ fn is_conflict(alloc: Global, table: &Table) -> Result<bool, TableFault> {
     Ok(table.verdict(alloc, &a)? == Some(Verdict::Conflict))
 }
 
-// Joins each later table to one with a conflict, on its right and on its left.
-fn expect_conflicts(rt: &impl Abort, alloc: Global, both: Table) -> Result<(), TableFault> {
-    let mut right = both.copied(alloc)?;
-    let mut left = both;
+// The join with the table of a list on the right.
+fn joined(alloc: Global, both: &Table, list: &str) -> Result<Table, TableFault> {
+    both.joined(alloc, &table(alloc, list)?)
+}
+
+// The same on the left.
+fn joined_left(alloc: Global, both: &Table, list: &str) -> Result<Table, TableFault> {
+    table(alloc, list)?.joined(alloc, both)
+}
+
+// Whether the join is a conflict, and the same on both sides.
+fn conflicts_stay(alloc: Global, both: &Table, list: &str) -> Result<bool, TableFault> {
+    let right = joined(alloc, both, list)?;
+    Ok(is_conflict(alloc, &right)? && joined_left(alloc, both, list)? == right)
+}
+
+// Joins each later table to one with a conflict.
+fn expect_conflicts(rt: &(impl Abort + AllocGlobal), conflict: Table) -> Result<(), TableFault> {
+    let mut both = conflict;
     for list in &LATER {
-        let later = table(alloc, list)?;
-        right = right.joined(alloc, &later)?;
-        left = later.joined(alloc, &left)?;
-        assert!(rt; is_conflict(alloc, &right)?, "behind {list}");
-        assert!(rt; left == right, "behind {list}");
+        assert!(rt; conflicts_stay(rt.alloc(), &both, list)?);
+        both = joined(rt.alloc(), &both, list)?;
     }
-    assert_eq!(rt; left.text(alloc)?.as_str(), ALL);
+    assert!(rt; has_text(rt.alloc(), &both, ALL)?);
     Ok(())
 }
 
+const URLS: [&str; 2] = ["a @ https://x.test/1", "a @ https://x.test/2"];
+
 #[test]
 fn conflicts_stay_in_joins(rt: HostRuntime) -> Result<(), Fail> {
-    let alloc = rt.alloc();
-    let first = table(alloc, "a @ https://x.test/1")?;
-    let second = table(alloc, "a @ https://x.test/2")?;
-    let both = first.joined(alloc, &second)?;
-    assert_eq!(rt; both.text(alloc)?.as_str(), CONFLICT);
-    expect_conflicts(&rt, alloc, both)?;
-    expect_conflicts(&rt, alloc, second.joined(alloc, &first)?)?;
+    let both = all_joined(rt.alloc(), &URLS)?;
+    assert!(rt; has_text(rt.alloc(), &both, CONFLICT)?);
+    expect_conflicts(&rt, both)?;
+    expect_conflicts(&rt, all_joined(rt.alloc(), &[URLS[1], URLS[0]])?)?;
     Ok(())
 }
 
@@ -116,16 +134,22 @@ fn lines_of_names(alloc: Global, behind: &str) -> Result<String, AllocError> {
     Ok(text)
 }
 
+fn table_of_names(alloc: Global, behind: &str) -> Result<Table, TableFault> {
+    table(alloc, lines_of_names(alloc, behind)?.as_str())
+}
+
+fn joined_names(alloc: Global, low: &Table) -> Result<Table, TableFault> {
+    low.joined(alloc, &table_of_names(alloc, "[y]<2")?)
+}
+
+const OF_BOTH: &str = " open\n  extra x\n  extra y\n  range before 1 to before 2.dev0";
+
 #[test]
 fn tables_of_many_names(rt: HostRuntime) -> Result<(), Fail> {
-    let alloc = rt.alloc();
-    let low = table(alloc, lines_of_names(alloc, "[x]>=1")?.as_str())?;
-    let high = table(alloc, lines_of_names(alloc, "[y]<2")?.as_str())?;
-    let joined = low.joined(alloc, &high)?;
-    let entry = " open\n  extra x\n  extra y\n  range before 1 to before 2.dev0";
-    assert!(rt; joined.text(alloc)? == lines_of_names(alloc, entry)?);
-    let copy = joined.copied(alloc)?;
-    assert!(rt; copy == joined && copy != low);
+    let low = table_of_names(rt.alloc(), "[x]>=1")?;
+    let joined = joined_names(rt.alloc(), &low)?;
+    assert!(rt; joined.text(rt.alloc())? == lines_of_names(rt.alloc(), OF_BOTH)?);
+    assert!(rt; joined.copied(rt.alloc())? == joined && joined != low);
     Ok(())
 }
 
@@ -162,36 +186,15 @@ fn many_demanded(alloc: Global) -> Result<String, AllocError> {
     Ok(text)
 }
 
+fn table_of_demands(alloc: Global) -> Result<Table, TableFault> {
+    table(alloc, many_demands(alloc)?.as_str())
+}
+
 #[test]
 fn tables_of_many_demands(rt: HostRuntime) -> Result<(), Fail> {
-    let alloc = rt.alloc();
-    let table = table(alloc, many_demands(alloc)?.as_str())?;
-    let again = table.joined(alloc, &table.copied(alloc)?)?;
+    let table = table_of_demands(rt.alloc())?;
+    let again = table.joined(rt.alloc(), &table.copied(rt.alloc())?)?;
     assert!(rt; again == table);
-    assert!(rt; again.text(alloc)? == many_demanded(alloc)?);
-    Ok(())
-}
-
-// As many tables, each with an extra of its own.
-fn many_tables(alloc: Global) -> Result<Vec<Table>, TableFault> {
-    let mut tables = Vec::new(alloc);
-    for i in 100..300 {
-        let list = format!(in alloc; "a[x{i}]>={i}")?;
-        tables.push(table(alloc, list.as_str())?)?;
-    }
-    Ok(tables)
-}
-
-#[test]
-fn joins_of_many_tables(rt: HostRuntime) -> Result<(), Fail> {
-    let tables = many_tables(rt.alloc())?;
-    let joined = join_all(rt.alloc(), Table::empty(rt.alloc()), tables.iter())?;
-    let mut want = String::from_str(rt.alloc(), "a open\n")?;
-    for i in 100..300 {
-        let line = format!(in rt.alloc(); "  extra x{i}\n")?;
-        want.push_str(line.as_str())?;
-    }
-    want.push_str("  range before 299 to end\n")?;
-    assert!(rt; joined.text(rt.alloc())? == want);
+    assert!(rt; again.text(rt.alloc())? == many_demanded(rt.alloc())?);
     Ok(())
 }

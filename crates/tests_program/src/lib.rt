@@ -17,6 +17,8 @@ mod joins;
 #[cfg(test)]
 mod laws;
 #[cfg(test)]
+mod lines;
+#[cfg(test)]
 mod plans;
 #[cfg(test)]
 mod streams;

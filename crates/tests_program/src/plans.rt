@@ -1,5 +1,6 @@
 //! The plans that words are.
 
+use crate::lines::expect_line;
 use pep_tool::{Fault, plan_of};
 use std::alloc::{AllocError, Global};
 use std::test::Fail;
@@ -81,7 +82,7 @@ const PLANS: [(&[&str], &str); 20] = [
 fn plans(rt: HostRuntime) -> Result<(), Fail> {
     for &(words, want) in &PLANS {
         let found = plan_line(rt.alloc(), words)?;
-        assert_eq!(rt; found.as_str(), want);
+        expect_line(&rt, found.as_str(), want);
     }
     Ok(())
 }

@@ -1,17 +1,15 @@
 //! The program over readers and writers that fail at a call, that give bytes without end, or that
 //! take none.
 
+use crate::lines::expect_line;
 use crate::plans::owned;
-use pep_tool::{Bytes, Counted, Failed, Fault, Sink, Source, run, write_text};
-use std::alloc::Global;
+use pep_tool::{Bytes, Counted, Failed, Sink, Source, run, write_text};
+use std::alloc::{AllocError, Global};
 use std::io;
 use std::io::Write;
 use std::test::Fail;
 
 const LIST: &[u8] = b"flask>=2.0\nFlask<3\n";
-
-// Its table.
-const FLASK: &str = "flask open\n  range before 2 to before 3.dev0\n";
 
 // How many bytes a call moves at most.
 const PIECE: usize = 7;
@@ -202,23 +200,34 @@ fn text(bytes: &[u8]) -> &str {
     str::from_utf8(bytes).unwrap_or("?")
 }
 
-// A run: its status, the calls of its reader and of the writer of its output, what is printed and what
-// is told.
+// Of the devices of a run: the calls of its reader and of the writer of its output, what is printed
+// and what is told.
+fn devices_line(
+    alloc: Global,
+    input: &Reader,
+    output: &Writer,
+    faults: &Writer,
+) -> Result<String, AllocError> {
+    let (reads, writes) = (input.calls, output.calls);
+    let (read, written) = (mark(input.failed), mark(output.failed));
+    let (printed, told) = (text(output.bytes.as_slice()), text(faults.bytes.as_slice()));
+    format!(in alloc; "{reads}{read} {writes}{written} [{printed}] [{told}]")
+}
+
+// A run: its status, and what its devices are behind it.
 fn run_line(
     rt: &HostRuntime,
     words: &[&str],
     list: &[u8],
     fails_at: [u64; 3],
-) -> Result<String, Fault> {
+) -> Result<String, AllocError> {
     let words = owned(rt.alloc(), words)?;
     let mut input = Reader::new(list, fails_at[0]);
     let mut output = Writer::new(rt.alloc(), fails_at[1]);
     let mut faults = Writer::new(rt.alloc(), fails_at[2]);
     let status = run(rt, words.as_slice(), &mut input, &mut output, &mut faults);
-    let (reads, writes) = (input.calls(), output.calls());
-    let (read, written) = (mark(input.failed()), mark(output.failed()));
-    let (printed, told) = (text(output.bytes.as_slice()), text(faults.bytes.as_slice()));
-    Ok(format!(in rt.alloc(); "{status} {reads}{read} {writes}{written} [{printed}] [{told}]")?)
+    let devices = devices_line(rt.alloc(), &input, &output, &faults)?;
+    format!(in rt.alloc(); "{status} {devices}")
 }
 
 const READS: [Row; 7] = [
@@ -272,7 +281,7 @@ const READS: [Row; 7] = [
 fn reads_that_fail(rt: HostRuntime) -> Result<(), Fail> {
     for &(words, list, fails_at, want) in &READS {
         let found = run_line(&rt, words, list, fails_at)?;
-        assert_eq!(rt; found.as_str(), want);
+        expect_line(&rt, found.as_str(), want);
     }
     Ok(())
 }
@@ -333,7 +342,7 @@ const WRITES: [Row; 8] = [
 fn writes_that_fail(rt: HostRuntime) -> Result<(), Fail> {
     for &(words, list, fails_at, want) in &WRITES {
         let found = run_line(&rt, words, list, fails_at)?;
-        assert_eq!(rt; found.as_str(), want);
+        expect_line(&rt, found.as_str(), want);
     }
     Ok(())
 }
@@ -373,71 +382,84 @@ const TELLS: [Row; 7] = [
 fn faults_that_cannot_be_told(rt: HostRuntime) -> Result<(), Fail> {
     for &(words, list, fails_at, want) in &TELLS {
         let found = run_line(&rt, words, list, fails_at)?;
-        assert_eq!(rt; found.as_str(), want);
+        expect_line(&rt, found.as_str(), want);
     }
     Ok(())
 }
 
-#[test]
-fn a_reader_without_end(rt: HostRuntime) -> Result<(), Fail> {
+// A run over a reader without end: its status, how many bytes it read, and what it told.
+fn endless_line(rt: &HostRuntime) -> Result<String, AllocError> {
     let mut input = Endless::new();
     let mut output = Writer::new(rt.alloc(), NEVER);
     let mut faults = Writer::new(rt.alloc(), NEVER);
-    assert_eq!(rt; run(&rt, &[], &mut input, &mut output, &mut faults), 2);
-    assert_eq!(rt;
-        faults.bytes.as_slice(),
-        b"refused input 1 code 56\n".as_slice()
-    );
-    assert_eq!(rt; input.given, 16777217);
-    Ok(())
+    let status = run(rt, &[], &mut input, &mut output, &mut faults);
+    let told = text(faults.bytes.as_slice());
+    format!(in rt.alloc(); "{status} {} [{told}]", input.given)
 }
 
 #[test]
-fn devices_over_std(rt: HostRuntime) -> Result<(), Fail> {
+fn a_reader_without_end(rt: HostRuntime) -> Result<(), Fail> {
+    let line = endless_line(&rt)?;
+    expect_line(&rt, line.as_str(), "2 16777217 [refused input 1 code 56\n]");
+    Ok(())
+}
+
+// A run over a list and writers of std: its status, the calls of its reader, what is printed and what
+// is told.
+fn std_line(rt: &HostRuntime) -> Result<String, AllocError> {
     let mut printed = Vec::new(rt.alloc());
     let mut told = Vec::new(rt.alloc());
     let mut input = Counted::new(LIST);
     let status = run(
-        &rt,
+        rt,
         &[],
         &mut input,
         &mut Counted::new(&mut printed),
         &mut Counted::new(&mut told),
     );
-    assert_eq!(rt; status, 0);
-    assert_eq!(rt; text(printed.as_slice()), FLASK);
-    assert_eq!(rt; told.as_slice(), b"".as_slice());
-    assert_eq!(rt; input.calls(), 2);
-    assert!(rt; !input.failed());
-    Ok(())
+    let (reads, read) = (input.calls(), mark(input.failed()));
+    let (printed, told) = (text(printed.as_slice()), text(told.as_slice()));
+    format!(in rt.alloc(); "{status} {reads}{read} [{printed}] [{told}]")
 }
 
 #[test]
-fn a_writer_that_takes_no_byte(rt: HostRuntime) -> Result<(), Fail> {
+fn devices_over_std(rt: HostRuntime) -> Result<(), Fail> {
+    let line = std_line(&rt)?;
+    expect_line(
+        &rt,
+        line.as_str(),
+        "0 2 [flask open\n  range before 2 to before 3.dev0\n] []",
+    );
+    Ok(())
+}
+
+// Whether the text is written to a full writer, whether the writer failed, and its calls.
+fn written_to_full(text: &str) -> (bool, bool, u64) {
     let mut full = Counted::new(Full);
-    assert!(rt; write_text(&mut full, "x").is_err());
-    assert!(rt; full.failed());
-    assert_eq!(rt; full.calls(), 1);
-    let mut unused = Counted::new(Full);
-    assert!(rt; write_text(&mut unused, "").is_ok());
-    assert!(rt; !unused.failed());
-    assert_eq!(rt; unused.calls(), 0);
-    let mut empty = Counted::new(Full);
-    assert_eq!(rt; empty.push(b"").ok(), Some(0));
-    assert!(rt; !empty.failed());
-    Ok(())
+    let is_written = write_text(&mut full, text).is_ok();
+    (is_written, full.failed(), full.calls())
+}
+
+// What a full writer takes of no bytes, and whether it failed.
+fn taken_of_none() -> (Option<usize>, bool) {
+    let mut full = Counted::new(Full);
+    let taken = full.push(b"").ok();
+    (taken, full.failed())
 }
 
 #[test]
-fn bytes_at_hand(rt: HostRuntime) -> Result<(), Fail> {
+fn a_writer_that_takes_no_byte(rt: HostRuntime) {
+    assert!(rt; written_to_full("x") == (false, true, 1));
+    assert!(rt; written_to_full("") == (true, false, 0));
+    assert!(rt; taken_of_none() == (Some(0), false));
+}
+
+#[test]
+fn bytes_at_hand(rt: HostRuntime) {
     let mut source = Bytes::new(b"abc");
     let mut buffer = [0u8; 2];
-    assert_eq!(rt; source.pull(&mut buffer).ok(), Some(2));
-    assert_eq!(rt; buffer, *b"ab");
-    assert_eq!(rt; source.pull(&mut buffer).ok(), Some(1));
-    assert_eq!(rt; buffer, *b"cb");
-    assert_eq!(rt; source.pull(&mut buffer).ok(), Some(0));
-    assert_eq!(rt; source.calls(), 3);
-    assert!(rt; !source.failed());
-    Ok(())
+    assert!(rt; source.pull(&mut buffer).ok() == Some(2) && buffer == *b"ab");
+    assert!(rt; source.pull(&mut buffer).ok() == Some(1) && buffer == *b"cb");
+    assert!(rt; source.pull(&mut buffer).ok() == Some(0));
+    assert!(rt; source.calls() == 3 && !source.failed());
 }
