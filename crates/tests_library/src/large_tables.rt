@@ -364,11 +364,10 @@ fn counts(entry: &Entry) -> (usize, usize, usize, usize) {
 
 // Where the first range of an entry begins.
 fn low_line(alloc: Global, entry: &Entry) -> Result<String, ClauseFault> {
-    let mut line = String::new(alloc);
-    if let Some(range) = entry.versions().ranges().first() {
-        range.low().push_text(&mut line)?;
+    match entry.versions().ranges().first() {
+        Some(range) => range.low().text(alloc),
+        None => Ok(String::from_str(alloc, "no range")?),
     }
-    Ok(line)
 }
 
 #[test]

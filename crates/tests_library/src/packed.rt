@@ -521,11 +521,11 @@ fn made_cuts(alloc: Global) -> Result<Vec<Cut>, ClauseFault> {
     Ok(cuts)
 }
 
-/// A copy of the cut at this place in the row.
+/// A copy of the cut at this place, where there is one.
 pub(crate) fn cut_at(alloc: Global, cuts: &[Cut], place: usize) -> Result<Cut, ClauseFault> {
     match cuts.get(place) {
         Some(cut) => cut.copied(alloc),
-        None => Ok(Cut::end()),
+        None => Err(ClauseFault::BadVersion),
     }
 }
 

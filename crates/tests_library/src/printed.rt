@@ -35,10 +35,13 @@ fn bad_line(alloc: Global, text: &str) -> Result<usize, TableFault> {
     }
 }
 
-// A line that no text has, where this isn't the text of the table.
+// Stands for the line where a table is read of the text, but has another text.
+const ANOTHER: usize = usize::MAX;
+
+// No line where this is the text of the table.
 fn line_of(alloc: Global, table: &Table, text: &str) -> Result<usize, TableFault> {
     let is_own = table.text(alloc)?.as_str() == text;
-    Ok(if is_own { 0 } else { usize::MAX })
+    Ok(if is_own { 0 } else { ANOTHER })
 }
 
 fn expect_lines(rt: &(impl Abort + AllocGlobal), rows: &[(&str, usize)]) -> Result<(), TableFault> {
@@ -255,7 +258,7 @@ fn bad_line_between(
 }
 
 #[test]
-fn the_table(rt: HostRuntime) -> Result<(), Fail> {
+fn the_lines_are_a_table(rt: HostRuntime) -> Result<(), Fail> {
     assert!(rt; bad_line_with(rt.alloc(), 0, 0, &[])? == 0);
     Ok(())
 }
@@ -274,7 +277,7 @@ fn lines_left_out(rt: HostRuntime) -> Result<(), Fail> {
 
 #[test]
 fn lines_that_stand_twice(rt: HostRuntime) -> Result<(), Fail> {
-    for index in 0..11usize {
+    for index in 0..LINES.len() {
         let line = bad_line_with_two(rt.alloc(), index)?;
         expect_same(&rt, index, line, index + 2);
     }
@@ -301,7 +304,7 @@ fn expect_bad_lines(
     front: &str,
     behind: &str,
 ) -> Result<(), TableFault> {
-    for index in 0..11usize {
+    for index in 0..LINES.len() {
         let line = bad_line_between(rt.alloc(), index, front, behind)?;
         expect_same(rt, index, line, index + 1);
     }
@@ -339,10 +342,12 @@ fn lines_of_another_kind(rt: HostRuntime) -> Result<(), Fail> {
 
 // ---- beginnings of tables
 
-// Appends how many bytes the text has, if it is a table's.
+// Appends how many bytes the text has, if a table is read of it, and a mark if that has another text.
 fn push_size(alloc: Global, sizes: &mut String, text: &str) -> Result<(), TableFault> {
-    if bad_line(alloc, text)? == 0 {
-        let size = format!(in alloc; "{} ", text.len())?;
+    let line = bad_line(alloc, text)?;
+    if line == 0 || line == ANOTHER {
+        let mark = if line == 0 { "" } else { "!" };
+        let size = format!(in alloc; "{}{mark} ", text.len())?;
         sizes.push_str(size.as_str())?;
     }
     Ok(())

@@ -227,6 +227,19 @@ fn long_lines(rt: HostRuntime) -> Result<(), Fail> {
     Ok(())
 }
 
+// How many bytes the name has on a line that is a name of 65,536 bytes.
+fn longest_name(alloc: Global) -> Result<usize, RequireFault> {
+    let line = repeated(alloc, "", "a", 65_536, "")?;
+    let requirement = Requirement::read(alloc, line.as_str())?;
+    Ok(requirement.name().text().len())
+}
+
+#[test]
+fn a_name_as_long_as_a_line(rt: HostRuntime) -> Result<(), Fail> {
+    assert_eq!(rt; longest_name(rt.alloc())?, 65_536);
+    Ok(())
+}
+
 // A line with extras in their order.
 fn line_of_extras(alloc: Global) -> Result<String, AllocError> {
     let mut line = String::from_str(alloc, "a[b")?;

@@ -1,6 +1,7 @@
 //! One table, whatever the order, the grouping and the repeats of what is merged.
 
 use crate::calls::{Part, inputs_of, machine};
+use crate::lines::expect;
 use pep_marker::Name;
 use pep_table::{Join, Table, TableFault, Verdict, join_all};
 use pep_tool::{Kind, gather, list_of};
@@ -96,20 +97,17 @@ fn joined_left(alloc: Global, both: &Table, list: &str) -> Result<Table, TableFa
     table(alloc, list)?.joined(alloc, both)
 }
 
-// Whether the join is a conflict, and the same on both sides.
-fn conflicts_stay(alloc: Global, both: &Table, list: &str) -> Result<bool, TableFault> {
-    let right = joined(alloc, both, list)?;
-    Ok(is_conflict(alloc, &right)? && joined_left(alloc, both, list)? == right)
-}
-
-// Joins each later table to one with a conflict.
-fn expect_conflicts(rt: &(impl Abort + AllocGlobal), conflict: Table) -> Result<(), TableFault> {
-    let mut both = conflict;
+// Joins each later table to one with a conflict, on its right and on its left.
+fn expect_conflicts(rt: &(impl Abort + AllocGlobal), both: Table) -> Result<(), TableFault> {
+    let mut right = both.copied(rt.alloc())?;
+    let mut left = both;
     for list in &LATER {
-        assert!(rt; conflicts_stay(rt.alloc(), &both, list)?);
-        both = joined(rt.alloc(), &both, list)?;
+        right = joined(rt.alloc(), &right, list)?;
+        left = joined_left(rt.alloc(), &left, list)?;
+        let stays = is_conflict(rt.alloc(), &right)? && left == right;
+        expect(rt, list, stays);
     }
-    assert!(rt; has_text(rt.alloc(), &both, ALL)?);
+    assert!(rt; has_text(rt.alloc(), &left, ALL)?);
     Ok(())
 }
 
@@ -117,10 +115,11 @@ const URLS: [&str; 2] = ["a @ https://x.test/1", "a @ https://x.test/2"];
 
 #[test]
 fn conflicts_stay_in_joins(rt: HostRuntime) -> Result<(), Fail> {
-    let both = all_joined(rt.alloc(), &URLS)?;
+    let (first, second) = (table(rt.alloc(), URLS[0])?, table(rt.alloc(), URLS[1])?);
+    let both = first.joined(rt.alloc(), &second)?;
     assert!(rt; has_text(rt.alloc(), &both, CONFLICT)?);
     expect_conflicts(&rt, both)?;
-    expect_conflicts(&rt, all_joined(rt.alloc(), &[URLS[1], URLS[0]])?)?;
+    expect_conflicts(&rt, second.joined(rt.alloc(), &first)?)?;
     Ok(())
 }
 
@@ -196,5 +195,37 @@ fn tables_of_many_demands(rt: HostRuntime) -> Result<(), Fail> {
     let again = table.joined(rt.alloc(), &table.copied(rt.alloc())?)?;
     assert!(rt; again == table);
     assert!(rt; again.text(rt.alloc())? == many_demanded(rt.alloc())?);
+    Ok(())
+}
+
+// As many tables, each with an extra of its own.
+fn many_tables(alloc: Global) -> Result<Vec<Table>, TableFault> {
+    let mut tables = Vec::new(alloc);
+    for i in 100..300 {
+        let list = format!(in alloc; "a[x{i}]>={i}")?;
+        tables.push(table(alloc, list.as_str())?)?;
+    }
+    Ok(tables)
+}
+
+fn joined_tables(alloc: Global) -> Result<Table, TableFault> {
+    join_all(alloc, Table::empty(alloc), many_tables(alloc)?.iter())
+}
+
+// The text of their join.
+fn many_joined(alloc: Global) -> Result<String, AllocError> {
+    let mut text = String::from_str(alloc, "a open\n")?;
+    for i in 100..300 {
+        let line = format!(in alloc; "  extra x{i}\n")?;
+        text.push_str(line.as_str())?;
+    }
+    text.push_str("  range before 299 to end\n")?;
+    Ok(text)
+}
+
+#[test]
+fn joins_of_many_tables(rt: HostRuntime) -> Result<(), Fail> {
+    let joined = joined_tables(rt.alloc())?;
+    assert!(rt; joined.text(rt.alloc())? == many_joined(rt.alloc())?);
     Ok(())
 }

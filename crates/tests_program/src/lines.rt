@@ -11,3 +11,8 @@ pub(crate) fn expect_line(rt: &impl Abort, line: &str, want: &str) {
 pub(crate) fn expect_row(rt: &impl Abort, row: &str, line: &str, want: &str) {
     assert_eq!(rt; line, want, "of {row}");
 }
+
+/// Asserts that something holds of a row, and tells the row.
+pub(crate) fn expect(rt: &impl Abort, row: &str, holds: bool) {
+    assert!(rt; holds, "of {row}");
+}
