@@ -42,8 +42,9 @@ impl Model for Entry {
 }
 
 impl Entry {
-    /// The entry of these parts, which are what an entry may hold: texts in byte order, each once, and
-    /// ranges that are a normal list. A table that is read back is made of such.
+    /// The entry of these parts. Each text of a URL has one byte or more, all from `!` to `~`, and each
+    /// demanded text is one that `===` may demand, in lower case; the rest is true of all such parts. A
+    /// table that is read back is made of them.
     pub fn of(
         extras: Sorted<Name>,
         urls: Sorted<String>,

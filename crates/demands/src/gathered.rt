@@ -1,4 +1,4 @@
-// What the requirements so far demand of one package.
+//! What is demanded so far of one package.
 
 ghost use Rattle.std.specs.Prelude.{◌≡◌, ◌∷◌, [], All, IfErr, IfOk, OnOk, option_map};
 ghost use Rattle.specifiers.specs.Valid.{IsValidClause};
@@ -24,11 +24,12 @@ use pep_require::{Requirement, Target};
 use std::alloc::Global;
 use std::marker::Model;
 
-/// What the requirements so far demand of one package: with all versions, and without extras, URLs
-/// and texts, where they are `None`, for which no memory is asked.
+/// What requirements and entries so far demand of one package. Clauses see the entry of it.
 #[derive(Drop)]
 pub struct Gathered {
+    // All versions, where it is `None`: for this no memory is asked.
     versions: Option<VersionSet>,
+    // No extras, URLs and texts, where it is `None`.
     others: Option<Box<Others>>,
 }
 
@@ -228,8 +229,8 @@ impl Gathered {
         }
     }
 
-    /// Takes what a requirement demands, whatever its marker. The only fault is `NoMemory`, 42; what is
-    /// gathered may then have a part of it.
+    /// Takes what a requirement demands, whatever its name and its marker. The only fault is
+    /// `NoMemory`, 42; what is gathered is then of no more use: it may lack what it had.
     pub fn take(&mut self, alloc: Global, requirement: &Requirement) -> Result<(), TableFault>
         ensures taken { OnOk result (TakesEntry self.old (requirement_parts requirement.now)
             self.new) }
@@ -242,8 +243,8 @@ impl Gathered {
         meet_target(alloc, &mut self.versions, requirement.target())
     }
 
-    /// Takes what an entry demands. The only fault is `NoMemory`, 42; what is gathered may then have a
-    /// part of it.
+    /// Takes what an entry demands. The only fault is `NoMemory`, 42; what is gathered is then of no
+    /// more use: it may lack what it had.
     pub fn join(&mut self, alloc: Global, entry: &Entry) -> Result<(), TableFault>
         ensures joined { OnOk result (JoinsEntries self.old entry.now self.new) }
         ensures valid { IsValidEntry entry.now }
@@ -254,7 +255,8 @@ impl Gathered {
         narrow_by(alloc, &mut self.versions, versions)
     }
 
-    /// The entry of what is gathered. The only fault is `NoMemory`, 42.
+    /// The entry of what is gathered, which has to be one: what `take` and `join` made of `bare` is,
+    /// unless one of them was refused. The only fault is `NoMemory`, 42.
     pub fn entry(self, alloc: Global) -> Result<Entry, TableFault>
         requires { IsValidEntry self }
         ensures same { IfOk result (λ e. e ≡ self) }

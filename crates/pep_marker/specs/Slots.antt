@@ -1,4 +1,5 @@
--- The slots of an environment's texts as it is made from pairs: the code's way.
+-- The slots of an environment's texts as it is made from pairs, and the variables in the order in which a
+-- name is looked for: the code's way.
 use Rattle.std.specs.Prelude.{◌≡◌, ℕ, not, IsTrue, List, [], ◌∷◌, find, bytes_eq}
 use Rattle.std.specs.Prelude.{get_or, Option, Some, None, option_map, unwrap_or}
 use Rattle.std.specs.Prelude.{if◌then◌else◌}

@@ -77,7 +77,8 @@ pub(crate) fn clauses_at<'a>(
     Ok(Bounds { clauses, rest })
 }
 
-// Reads the clauses in front of the text, and gives the text behind them.
+// Reads the clauses in front of the text into the vector, which is empty, and gives the text behind
+// them.
 fn read_clauses<'a>(
     alloc: Global,
     text: &'a str,
