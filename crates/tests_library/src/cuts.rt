@@ -172,13 +172,21 @@ fn range(alloc: Global, low: &Cut, high: &Cut) -> Result<Option<Range>, ClauseFa
     Ok(Range::of(low.copied(alloc)?, high.copied(alloc)?))
 }
 
+// Whether the range has these ends.
+fn has_ends(range: &Range, low: &Cut, high: &Cut) -> &'static str {
+    if range.low() == low && range.high() == high {
+        "range"
+    } else {
+        "another range"
+    }
+}
+
 // Whether there is a range between two cuts, and it has their ends.
 fn range_word(alloc: Global, low: &Cut, high: &Cut) -> Result<&'static str, ClauseFault> {
-    Ok(match range(alloc, low, high)? {
-        Some(range) if range.low() == low && range.high() == high => "range",
-        Some(_) => "another range",
-        None => "no range",
-    })
+    match range(alloc, low, high)? {
+        Some(range) => Ok(has_ends(&range, low, high)),
+        None => Ok("no range"),
+    }
 }
 
 fn expect_ranges(rt: &(impl Abort + AllocGlobal), cuts: &[Cut]) -> Result<(), ClauseFault> {
@@ -224,6 +232,15 @@ fn ranges_at(
     Ok(ranges)
 }
 
+// Whether the set has these ranges.
+fn has_ranges(set: &VersionSet, ranges: &[Range]) -> &'static str {
+    if set.ranges() == ranges {
+        "set"
+    } else {
+        "another set"
+    }
+}
+
 // Whether the ranges are those of a set, and the set has them.
 fn set_word(
     alloc: Global,
@@ -231,13 +248,10 @@ fn set_word(
     pairs: &[(usize, usize)],
 ) -> Result<&'static str, ClauseFault> {
     let ranges = ranges_at(alloc, cuts, pairs)?;
-    Ok(
-        match VersionSet::of_ranges(ranges_at(alloc, cuts, pairs)?) {
-            Some(set) if set.ranges() == ranges.as_slice() => "set",
-            Some(_) => "another set",
-            None => "no set",
-        },
-    )
+    match VersionSet::of_ranges(ranges_at(alloc, cuts, pairs)?) {
+        Some(set) => Ok(has_ranges(&set, ranges.as_slice())),
+        None => Ok("no set"),
+    }
 }
 
 #[test]
