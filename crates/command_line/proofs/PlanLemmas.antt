@@ -1,9 +1,9 @@
 -- What the matches of the command line say of the plan.
 use Rattle.std.proofs.Common.{◌≡◌, ◌≢◌, ◌⊎◌, ◌<◌, ◌==◌, map, List, [], ◌∷◌, length, Option, Some}
-use Rattle.std.proofs.Common.{None, IfOk, IfErr, true, ap, ap₂, sym, refl, ◌∙◌, inl}
+use Rattle.std.proofs.Common.{None, Result, Ok, Err, IfOk, IfErr, true, ap, ap₂, sym, refl, ◌∙◌, inl}
 use Rattle.std.proofs.Common.{inr, arith, codes, option_map, option_and_then, Bool, false}
 use Rattle.std.proofs.lemmas.Slice.Eq.{bytes_eq-Decides}
-use Rattle.std.specs.Option.{ok_or, option_map_or}
+use Rattle.std.specs.Option.{option_map_or}
 use Rattle.std.specs.Str.{bytes_eq}
 use Rattle.std.specs.Str.Parse.{ParsesBool, true_text}
 use Rattle.std.specs.Prelude.{unwrap_or}
@@ -106,7 +106,7 @@ kinds-error kinds e (inl memory) other = λ _. other memory
 kinds-error [] e (inr among) other = λ _. among
 kinds-error (k ∷ ks) e (inr among) other = λ same. cc same
 
--- the command that was met in the words is what they ask for, or they ask for nothing
+-- the command that was met in the words is what they ask for
 asks-command : (a : App) (words : List Text) (m : ArgMatches) (r : Request) → a ≡ program →
     0 < length words
     → (is_simple_and_free a ≡ true → fault_of a words ≡ []) → HasMatchesOf a words m
@@ -118,6 +118,7 @@ asks-command a words m r same some none matches met =
     (ap (option_and_then request_of) (ap (λ (b : App). subcommand_of b words) (sym same)
     ∙ sym (matches exact).1) ∙ met)
 
+-- .. or they ask for nothing
 none-command : (a : App) (words : List Text) (m : ArgMatches) → a ≡ program → 0 < length words →
     HasMatchesOf a words m
     → option_and_then request_of (subcommand_rows_of m) ≡ None → AskNothing words
@@ -142,19 +143,22 @@ some_words f [] e = cc e
 some_words f (x ∷ xs) e = omega arith
 
 -- the plan of the command that was met, or the fault where there is none
-pub asks-plan : (a : App) (words : List Text) (m : ArgMatches) (plan : Option Plan) (fault : Fault)
-    → a ≡ program → 0 < length words → (is_simple_and_free a ≡ true → fault_of a words ≡ [])
-    → HasMatchesOf a words m
-    → option_map request plan ≡ option_and_then request_of (subcommand_rows_of m) →
-    IfOk (ok_or plan fault) (λ p. Asks words (request p))
-asks-plan a words m None fault same some none matches met = tt
-asks-plan a words m (Some p) fault same some none matches met =
-    asks-command a words m (request p) same some none matches (sym met)
+pub asks-plan : (a : App) (words : List Text) (m : ArgMatches) (plan : Option Plan)
+    (r : Result Plan Fault) → a ≡ program → 0 < length words
+    → (is_simple_and_free a ≡ true → fault_of a words ≡ []) → HasMatchesOf a words m
+    → option_map request plan ≡ option_and_then request_of (subcommand_rows_of m)
+    → IfOk r (λ p. plan ≡ Some p) → IfOk r (λ p. Asks words (request p))
+asks-plan a words m plan (Ok p) same some none matches met is =
+    asks-command a words m (request p) same some none matches
+    (sym met ∙ ap (option_map request) is)
+asks-plan a words m plan (Err f) same some none matches met is = tt
 
-pub none-plan : (a : App) (words : List Text) (m : ArgMatches) (plan : Option Plan) (fault : Fault)
-    → a ≡ program → 0 < length words → HasMatchesOf a words m → IsBadWords fault
-    → option_map request plan ≡ option_and_then request_of (subcommand_rows_of m) →
-    IfErr (ok_or plan fault) (λ f. (f ≡ no_memory) ⊎ (IsBadWords f × AskNothing words))
-none-plan a words m None fault same some matches bad met =
-    inr (bad, none-command a words m same some matches (sym met))
-none-plan a words m (Some p) fault same some matches bad met = tt
+pub none-plan : (a : App) (words : List Text) (m : ArgMatches) (plan : Option Plan)
+    (r : Result Plan Fault) → a ≡ program → 0 < length words → HasMatchesOf a words m
+    → option_map request plan ≡ option_and_then request_of (subcommand_rows_of m)
+    → IfErr r (λ f. (plan ≡ None) × ((f ≡ no_memory) ⊎ IsBadWords f))
+    → IfErr r (λ f. (f ≡ no_memory) ⊎ (IsBadWords f × AskNothing words))
+none-plan a words m plan (Ok p) same some matches met is = tt
+none-plan a words m plan (Err f) same some matches met (is, inl memory) = inl memory
+none-plan a words m plan (Err f) same some matches met (is, inr bad) =
+    inr (bad, none-command a words m same some matches (sym met ∙ ap (option_map request) is))

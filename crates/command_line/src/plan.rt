@@ -1,6 +1,16 @@
 //! What the words of the command line ask for.
 
-ghost use Rattle.std.specs.Prelude.{◌≡◌, ◌≢◌, ◌⊎◌, IfErr, IfOk, map, string_bytes};
+ghost use Rattle.std.specs.Prelude.{
+  ◌≡◌,
+  ◌≢◌,
+  ◌⊎◌,
+  IfErr,
+  IfOk,
+  None,
+  Some,
+  map,
+  string_bytes,
+};
 ghost use Rattle.clap.specs.Words.{kind_of};
 ghost use Rattle.command_line.specs.Plan.{AskNothing, Asks, IsBadWords, request};
 ghost use Rattle.faults.specs.NoMemory.{no_memory};
@@ -69,11 +79,34 @@ fn words_fault(alloc: Global, error: &Error) -> Fault
     }
 }
 
+// The fault of words in which no command is met; clap has no text for them.
+fn no_command(alloc: Global) -> Fault
+    ensures { (result ≡ no_memory) ⊎ IsBadWords result }
+{
+    match String::from_str(alloc, "error: no command is given\n") {
+        Ok(text) => refused(text),
+        Err(_) => Fault::no_memory(),
+    }
+}
+
+// The plan that was met, or the fault where there is none.
+fn plan_or_fault(alloc: Global, plan: Option<Plan>) -> Result<Plan, Fault>
+    ensures some { IfOk result (λ p. plan ≡ Some p) }
+    ensures none { IfErr result (λ fault. (plan ≡ None)
+        × ((fault ≡ no_memory) ⊎ IsBadWords fault)) }
+{
+    match plan {
+        Some(plan) => Ok(plan),
+        None => Err(no_command(alloc)),
+    }
+}
+
 /// What the words of the command line ask for, the program's own name not among them. They are read
 /// by `clap`.
 ///
 /// No words are the standard plan. Words that `clap` refuses, a request for help among them, are
-/// `BadWords`, 61, with the text of `clap`. A growth that is refused is 60.
+/// `BadWords`, 61, with the text of `clap`; words in which it meets no command are too. A growth that
+/// is refused is 60.
 pub fn plan_of(alloc: Global, words: &[String]) -> Result<Plan, Fault>
     ensures plan { IfOk result (λ p. Asks (map string_bytes words.now) (request p)) }
     ensures refused { IfErr result (λ fault. (fault ≡ no_memory)
@@ -83,8 +116,7 @@ pub fn plan_of(alloc: Global, words: &[String]) -> Result<Plan, Fault>
         return Ok(Plan::Standard);
     }
     match program(alloc)?.try_get_matches_from(words) {
-        // Matches of no command ask for nothing; clap has no text for them.
-        Ok(matches) => plan_met(alloc, &matches)?.ok_or(refused(String::new(alloc))),
+        Ok(matches) => plan_or_fault(alloc, plan_met(alloc, &matches)?),
         Err(error) => Err(words_fault(alloc, &error)),
     }
 }

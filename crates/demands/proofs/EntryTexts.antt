@@ -1,6 +1,7 @@
 -- Which versions have the demanded texts of an entry.
 use Rattle.std.proofs.Common.{◌≡◌, ◌≢◌, ℕ, ◌<◌, ◌≤◌, List, [], ◌∷◌, length, refl, sym, ap, subst}
-use Rattle.std.proofs.Common.{◌∙◌, arith, Result, Ok, Err, IfOk, false, Bool}
+use Rattle.std.proofs.Common.{◌∙◌, arith, map, Result, Ok, Err, IfOk, false, Bool}
+use Rattle.std.proofs.lemmas.List.{length-map}
 use Rattle.std.specs.Prelude.{◌↔◌, IsTrue, slice_index_or}
 use Rattle.std.specs.List.{All}
 use Rattle.std.proofs.lemmas.List.Elements.{All-cons, All-nil}
@@ -22,6 +23,12 @@ use Rattle.demands.specs.Verdict.{FitsEntry, HasVersionOfText}
 use Rattle.demands.proofs.KeptSets.{text_cmp}
 
 -- ---- by the number of texts
+
+-- two items or more have two texts or more
+pub more_texts : {A : Type 0} (f : A → List ℕ) (items : List A) (texts : List (List ℕ)) →
+    map f items ≡ texts → 2 ≤ length items → 2 ≤ length texts
+more_texts f items texts same more =
+    subst (λ n. 2 ≤ n) (sym (length-map items f) ∙ ap length same) more
 
 all_one : (v : Version) (t : List ℕ) → normal_text v ≡ t → All (λ x. normal_text v ≡ x) (t ∷ [])
 all_one v t e = All-cons (λ x. normal_text v ≡ x) t [] e (All-nil (λ x. normal_text v ≡ x))

@@ -7,7 +7,7 @@ use Rattle.std.proofs.lemmas.List.Folds.{list_all-append}
 use Rattle.std.specs.List.{All, AllByRecursion, list_all}
 use Rattle.std.specs.Borrow.{Bor}
 use Rattle.std.specs.Prelude.{IsTrue, false, is_some, option_map}
-use Rattle.pep_version.proofs.Connectives.{and-true, and_given, and_given_second}
+use Rattle.texts.proofs.Connectives.{and-true, and_given, and_given_second}
 use Rattle.specifiers.specs.Clause.{Clause, demanded_text, is_demanded_text, demanded, compatible}
 use Rattle.specifiers.specs.Clause.{matching, matching_prefix, excluding, excluding_prefix, at_most}
 use Rattle.specifiers.specs.Clause.{at_least, less_than, greater_than}

@@ -4,16 +4,16 @@
 
 mod entry;
 mod fault;
-mod gathered;
 mod join;
 mod others;
+mod package_demands;
 mod same;
 mod sorted;
 mod verdict;
 
 pub use crate::entry::Entry;
 pub use crate::fault::TableFault;
-pub use crate::gathered::Gathered;
 pub use crate::join::{Join, join_all};
+pub use crate::package_demands::PackageDemands;
 pub use crate::sorted::{Kept, Sorted};
 pub use crate::verdict::{Answer, Verdict, is_wanted};

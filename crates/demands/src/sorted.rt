@@ -144,7 +144,8 @@ impl<T: Kept> Sorted<T> {
         }
     }
 
-    /// These values, which are in the order of their texts, each once.
+    /// These values, which are in the order of their texts, each once. Public for the crate of
+    /// tables, which reads them so.
     pub fn of_ascending(items: Vec<T>) -> Self
         requires { IsAscending (map T.text items.items) }
         ensures { result ≡ map T.text items.items }

@@ -253,6 +253,7 @@ impl std::error::Error for Fault {}
 impl Fault {
     ghost use Rattle.std.specs.Prelude.{◌≡◌, IfOk, IfErr, string_bytes};
     ghost use Rattle.faults.specs.FaultLine.{fault_line};
+    ghost use Rattle.faults.specs.InnerFault.{fault_of_argument};
     ghost use Rattle.faults.specs.declared.fault.Cause.TheVariants.{NoMemory};
     ghost use Rattle.faults.specs.declared.fault.Place.TheVariants.{Nowhere};
 
@@ -263,6 +264,21 @@ impl Fault {
         Fault {
             place: Place::Nowhere,
             cause: Cause::NoMemory,
+        }
+    }
+
+    /// A version or a name on the command line that can't be read: 62, in no place, with the code
+    /// of the fault behind it. Want of memory, 3 or 29, is that of [`Fault::no_memory`].
+    pub fn of_argument(fault: ArgumentFault) -> Fault
+        ensures { result ≡ fault_of_argument fault }
+    {
+        match fault {
+            ArgumentFault::Version(VersionFault::NoMemory)
+            | ArgumentFault::Name(MarkerFault::NoMemory) => Fault::no_memory(),
+            fault => Fault {
+                place: Place::Nowhere,
+                cause: Cause::BadArgument(fault),
+            },
         }
     }
 
@@ -320,38 +336,6 @@ impl<T: Drop> From<AllocFailed<T>> for Fault {
 
     fn from(_: AllocFailed<T>) -> Fault {
         Fault::no_memory()
-    }
-}
-
-impl From<VersionFault> for Fault {
-    ghost use Rattle.faults.specs.InnerFault.{fault_of_version};
-
-    ghost from_gives = { λ f e. e ≡ fault_of_version f };
-
-    fn from(fault: VersionFault) -> Fault {
-        match fault {
-            VersionFault::NoMemory => Fault::no_memory(),
-            fault => Fault {
-                place: Place::Nowhere,
-                cause: Cause::BadArgument(ArgumentFault::Version(fault)),
-            },
-        }
-    }
-}
-
-impl From<MarkerFault> for Fault {
-    ghost use Rattle.faults.specs.InnerFault.{fault_of_name};
-
-    ghost from_gives = { λ f e. e ≡ fault_of_name f };
-
-    fn from(fault: MarkerFault) -> Fault {
-        match fault {
-            MarkerFault::NoMemory => Fault::no_memory(),
-            fault => Fault {
-                place: Place::Nowhere,
-                cause: Cause::BadArgument(ArgumentFault::Name(fault)),
-            },
-        }
     }
 }
 

@@ -3,14 +3,14 @@ use Rattle.std.proofs.Common.{◌≡◌, ℕ, ◌⊎◌, arith, List, [], ◌∷
 use Rattle.std.specs.Prelude.{All, ◌↔◌}
 use Rattle.std.specs.List.{AllZip}
 use Rattle.std.proofs.lemmas.List.Elements.{All-cons, All-head, All-nil, All-tail}
-use Rattle.pep_marker.specs.Environment.{EnvironmentParts}
+use Rattle.pep_marker.specs.Environment.{EnvironmentParts, extra_in}
 use Rattle.pep_require.proofs.ExtrasLaws.{AllZip-one}
 use Rattle.pep_require.proofs.LineLaws.{one_requirement}
 use Rattle.pep_require.specs.Reads.{Reads}
 use Rattle.pep_require.specs.Requirement.{HasDefinedMarker}
 use Rattle.pep_require.specs.Requirement.{RequirementParts}
 use Rattle.pep_table.proofs.SameDemands.{same_demands}
-use Rattle.pep_table.proofs.Taking.{applying_is_table, no_demands}
+use Rattle.pep_table.proofs.Taking.{applying_is_table, no_demands, of_nothing}
 use Rattle.demands.specs.Demand.{ApplyingDemands, Demand, Demands, Together}
 use Rattle.demands.specs.Gathering.{TakesApplying}
 use Rattle.demands.specs.Table.{HasExactPoints, IsTable, IsValidTable, TableDemands}
@@ -82,7 +82,7 @@ refused_bytes e kind.List bytes c told (inl h) (inl a) = refused_list bytes c a.
 refused_bytes e kind.List bytes c told (inr h) (inl a) = undefined_list e bytes c a.0 h a.1 a.2
 refused_bytes e kind.List bytes c told h (inr a) = absurd a.1
 refused_bytes e kind.Project bytes c told (inl h) (inl a) =
-    refused_project e.extra bytes c a.0 told h a.1
+    refused_project (extra_in e) bytes c a.0 told h a.1
 refused_bytes e kind.Project bytes c told (inr h) (inl a) =
     undefined_project e bytes c a.0 h a.1 a.2
 refused_bytes e kind.Project bytes c told h (inr a) = absurd a.1
@@ -138,14 +138,14 @@ holds_valid kind.Project bytes t h = absurd h
 holds_valid kind.Table bytes t h = h.valid
 
 bytes_demand_in : (e : EnvironmentParts) (k : Kind) (bytes : List ℕ) (rs : List RequirementParts)
-    (name : List ℕ) (d : Demand) → Lists e.extra k bytes rs →
+    (name : List ℕ) (d : Demand) → Lists (extra_in e) k bytes rs →
     ApplyingDemands e rs name d ↔ BytesDemand e k bytes name d
 bytes_demand_in e k bytes rs name d is = (λ h. inl (rs, is, h), back)
   where
     back : BytesDemand e k bytes name d → ApplyingDemands e rs name d
     back (inl h) = subst (λ (qs : List RequirementParts). ApplyingDemands e qs name d)
-        (one_list e.extra k bytes h.0 rs h.1 is) h.2
-    back (inr h) = absurd (apart e.extra k bytes rs h.0 is h.1)
+        (one_list (extra_in e) k bytes h.0 rs h.1 is) h.2
+    back (inr h) = absurd (apart (extra_in e) k bytes rs h.0 is h.1)
 
 pub table_demands_in : (e : EnvironmentParts) (k : Kind) (bytes : List ℕ) (t : TableParts)
     (name : List ℕ) (d : Demand) → HoldsTable k bytes t →
@@ -153,7 +153,7 @@ pub table_demands_in : (e : EnvironmentParts) (k : Kind) (bytes : List ℕ) (t :
 table_demands_in e k bytes t name d is = (λ h. inr (t, is, h), back)
   where
     back : BytesDemand e k bytes name d → TableDemands t name d
-    back (inl h) = absurd (apart e.extra k bytes h.0 t h.1 is)
+    back (inl h) = absurd (apart (extra_in e) k bytes h.0 t h.1 is)
     back (inr h) = subst (λ (s : TableParts). TableDemands s name d)
         (one_table_in k bytes h.0 t h.1 is) h.2
 
@@ -215,10 +215,4 @@ pub gathered_table : (e : EnvironmentParts) (inputs : List Input) (new : TablePa
     IsTable (Gathered e inputs) new × HasExactPoints (Gathered e inputs) new
 gathered_table e inputs new g =
     let all = inputs_table e (λ name d. ⊥) inputs [] new no_demands.0 no_demands.1 g in
-    same_demands (Together (λ name d. ⊥) (Gathered e inputs)) (Gathered e inputs) new
-    (λ name d. (back name d, λ w. inr w)) all.0 all.1
-  where
-    back : (name : List ℕ) (d : Demand) → ⊥ ⊎ Gathered e inputs name d →
-        Gathered e inputs name d
-    back name d (inl q) = absurd q
-    back name d (inr w) = w
+    of_nothing (Gathered e inputs) new all.0 all.1

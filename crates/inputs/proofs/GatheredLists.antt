@@ -1,5 +1,5 @@
--- The loops of `gather`: over the lines of a list, and over inputs.
-use Rattle.std.proofs.Common.{◌≡◌, ◌≢◌, ℕ, ◌+◌, ◌<◌, ◌≤◌, ◌⊎◌, List, [], ◌∷◌, ◌++◌, length, take}
+-- The loops of `gather`: over inputs, and over the requirements of a project file.
+use Rattle.std.proofs.Common.{◌≡◌, ◌≢◌, ℕ, ◌+◌, ◌<◌, ◌⊎◌, List, [], ◌∷◌, ◌++◌, length, take}
 use Rattle.std.proofs.Common.{Bor, Option, Some, None, Result, Ok, Err, IfOk, IfErr, codes}
 use Rattle.std.proofs.Common.{option_map, get_or, map, refl, sym, ap, subst, ◌∙◌, inl, inr}
 use Rattle.std.specs.Prelude.{unwrap_or}
@@ -7,9 +7,8 @@ use Rattle.std.proofs.lemmas.List.{take_more}
 use Rattle.std.proofs.lemmas.Option.{same_Some}
 use Rattle.pep_marker.specs.declared.fault.MarkerFault.{MarkerFault}
 use Rattle.pep_marker.specs.declared.fault.MarkerFault.TheVariants as marker_fault
-use Rattle.pep_marker.specs.Environment.{EnvironmentParts, value_at}
+use Rattle.pep_marker.specs.Environment.{EnvironmentParts, extra_in, value_at}
 use Rattle.pep_require.specs.Requirement.{HasUndefinedMarker, RequirementParts}
-use Rattle.pep_require.specs.declared.fault.RequireFault.TheVariants as require
 use Rattle.pep_table.proofs.FirstFault.{next_mapped}
 use Rattle.pep_table.proofs.Taking.{all_taken}
 use Rattle.demands.specs.Gathering.{TakesApplying}
@@ -17,61 +16,17 @@ use Rattle.demands.specs.Table.{TableParts}
 use Rattle.faults.specs.declared.fault.Cause.{Cause}
 use Rattle.faults.specs.declared.fault.Cause.TheVariants as cause
 use Rattle.faults.specs.declared.fault.Fault.{Fault}
-use Rattle.faults.specs.declared.fault.LineFault.{LineFault}
 use Rattle.faults.specs.declared.fault.LineFault.TheVariants as line_fault
 use Rattle.faults.specs.declared.fault.Place.TheVariants as place
 use Rattle.inputs.specs.declared.input.Input.{Input}
 use Rattle.inputs.specs.declared.input.Kind.TheVariants as kind
-use Rattle.inputs.specs.GatheredLines.{GathersBytes, GathersInputs, GathersLine, RefusesLineIn}
-use Rattle.inputs.specs.GatheredLines.{RefusesInput, RefusesListIn}
-use Rattle.inputs.specs.Lists.{IsProjectOf, input_limit, lines_of}
-use Rattle.inputs.specs.Refusal.{IsNumbered, IsRefused, IsRefusedProject, IsUndefinedAt}
+use Rattle.inputs.specs.GatheredLines.{GathersBytes, GathersInputs, RefusesAsInput}
+use Rattle.inputs.specs.Lists.{IsProjectOf}
+use Rattle.inputs.specs.Refusal.{IsRefused, IsRefusedProject, IsUndefinedAt}
 use Rattle.inputs.specs.Refusal.{RefusesInputs, no_memory}
 use Rattle.inputs.proofs.AcceptedInputs.{refused_in}
-use Rattle.inputs.proofs.ListLemmas.{line_refuses}
 use Rattle.inputs.proofs.Placed.{placed}
 use Rattle.inputs.proofs.ReadTexts.{numbered, numbered_mapped}
-use Rattle.inputs.proofs.RequirementLists.{SoFar, all_read, one_line_more}
-use Rattle.inputs.proofs.RequirementLists.{taken_behind}
-
--- ---- lines
-
--- the lines before these are read, and the second table has what they demand beside the first
-abbrev pub TakenSoFar : EnvironmentParts → List ℕ → ℕ → List (List ℕ) → TableParts → TableParts →
-    Type 0
-TakenSoFar e read number left old new =
-    (rs : List RequirementParts) × SoFar read number left rs × TakesApplying e old rs new
-
-pub line_taken : (e : EnvironmentParts) (read line : List ℕ) (number : ℕ) (left : List (List ℕ))
-    (old mid new : TableParts) → TakenSoFar e read number (line ∷ left) old mid →
-    GathersLine e line mid new → TakenSoFar e read (number + 1) left old new
-line_taken e read line number left old mid new s g = (
-  s.0 ++ g.0,
-  one_line_more read line number left s.0 (s.0 ++ g.0) s.1 (taken_behind line s.0 g.0 g.1),
-  all_taken e old s.0 mid g.0 new s.2 g.2,
-)
-
-pub lines_taken : (e : EnvironmentParts) (read : List ℕ) (number : ℕ) (old new : TableParts) →
-    length read ≤ input_limit → TakenSoFar e read number [] old new →
-    GathersBytes e kind.List read old new
-lines_taken e read number old new size s = inl (s.0, all_read read number s.0 size s.1, s.2)
-
--- the cause of a fault of a line
-pub line_refuses_in : (e : EnvironmentParts) (bytes line : List ℕ) (number : ℕ) (f : LineFault)
-    (c : Cause) → IsNumbered (lines_of bytes) number line → RefusesLineIn e line f →
-    (f ≡ line_fault.Requirement require.NoMemory → c ≡ cause.NoMemory) →
-    (f ≢ line_fault.Requirement require.NoMemory → c ≡ cause.Line number f) →
-    RefusesListIn e bytes c
-line_refuses_in e bytes line number f c at (inl h) none told =
-    inl (line_refuses bytes line number f c at h none told)
-line_refuses_in e bytes line number f c at (inr h) none told =
-    inr (record {
-      number = number;
-      line = line;
-      numbered = at;
-      undefined = h.1;
-      is = told (λ memory. cc (h.0, memory)) ∙ ap (cause.Line number) h.0;
-    })
 
 -- ---- inputs
 
@@ -93,17 +48,10 @@ input_taken e inputs k i old mid new lt is g h =
     subst (λ (t : List Input). GathersInputs e t old new) (sym more)
     (inputs_then e (take k inputs) i old mid new g h)
 
--- why a list is refused
-pub list_refuses_in : (e : EnvironmentParts) (bytes : List ℕ) (c : Cause) →
-    RefusesListIn e bytes c → RefusesInput e kind.List bytes c
-list_refuses_in e bytes c (inl (inl memory)) = inl memory
-list_refuses_in e bytes c (inl (inr h)) = inr (inl h)
-list_refuses_in e bytes c (inr h) = inr (inr h)
-
 -- the fault of an input
 pub input_blamed_in : (e : EnvironmentParts) (inputs : List Input) (k number : ℕ) (i : Input)
     (c : Cause) (f : Fault) → k < length inputs → i ≡ get_or inputs k i → number ≡ k →
-    RefusesInput e i.kind i.bytes.items c → f.cause ≡ c → (c ≡ cause.NoMemory → f ≡ no_memory) →
+    RefusesAsInput e i.kind i.bytes.items c → f.cause ≡ c → (c ≡ cause.NoMemory → f ≡ no_memory) →
     (c ≢ cause.NoMemory → f.place ≡ place.Input (number + 1)) → RefusesInputs e inputs f
 input_blamed_in e inputs k number i c f lt is counted refuses same none at =
     elim (placed (IsRefused e i.kind i.bytes.items) (place.Input (number + 1)) c f refuses same
@@ -153,19 +101,19 @@ undefined_told f is (inr h) = h.1
 
 pub extra_of : (e : EnvironmentParts) (r : Option (Bor (List ℕ))) (d t : Bor (List ℕ)) →
     option_map (λ (b : Bor (List ℕ)). b.now) r ≡ value_at e (codes "extra") →
-    t ≡ unwrap_or r d → t.now ≡ e.extra
-extra_of e (Some x) d t h is = ap (λ (b : Bor (List ℕ)). b.now) is ∙ same_Some x.now e.extra h
+    t ≡ unwrap_or r d → t.now ≡ extra_in e
+extra_of e (Some x) d t h is = ap (λ (b : Bor (List ℕ)). b.now) is ∙ same_Some x.now (extra_in e) h
 extra_of e None d t h is = cc h
 
 pub project_refuses_in : (e : EnvironmentParts) (extra bytes : List ℕ) (c : Cause) →
-    extra ≡ e.extra → (c ≡ cause.NoMemory) ⊎ IsRefusedProject extra bytes c →
-    RefusesInput e kind.Project bytes c
+    extra ≡ extra_in e → (c ≡ cause.NoMemory) ⊎ IsRefusedProject extra bytes c →
+    RefusesAsInput e kind.Project bytes c
 project_refuses_in e extra bytes c same (inl memory) = inl memory
 project_refuses_in e extra bytes c same (inr h) =
     inr (inl (subst (λ x. IsRefusedProject x bytes c) same h))
 
 module _ (e : EnvironmentParts) (extra bytes : List ℕ) (rs given : List RequirementParts)
-    (same : extra ≡ e.extra) (all : given ≡ rs) (is : IsProjectOf extra bytes rs) where
+    (same : extra ≡ extra_in e) (all : given ≡ rs) (is : IsProjectOf extra bytes rs) where
   pub project_taken : (old : TableParts) (r : Result TableParts Cause) →
       IfOk r (TakesApplying e old given) → IfOk r (GathersBytes e kind.Project bytes old)
   project_taken old (Ok new) h = inl (
@@ -177,7 +125,7 @@ module _ (e : EnvironmentParts) (extra bytes : List ℕ) (rs given : List Requir
 
   pub project_undefined : (r : Result TableParts Cause) →
       IfErr r (λ c. (c ≡ cause.NoMemory) ⊎ IsUndefinedAt e given c) →
-      IfErr r (RefusesInput e kind.Project bytes)
+      IfErr r (RefusesAsInput e kind.Project bytes)
   project_undefined (Ok new) h = tt
   project_undefined (Err c) (inl memory) = inl memory
   project_undefined (Err c) (inr h) = inr (inr (

@@ -9,7 +9,8 @@ pub mod EnvironmentPairs
 pub mod ListLemmas
 pub mod MergeLemmas
 pub mod LineTexts
-pub mod RequirementLists
+pub mod TakenLines
+pub mod TakenTexts
 pub mod AcceptedInputs
 pub mod GatheredLists
 pub mod SameInputs

@@ -12,11 +12,12 @@ use Rattle.std.proofs.lemmas.List.{take-append-drop}
 use Rattle.std.proofs.lemmas.List.Folds.{list_all-append}
 use Rattle.std.proofs.lemmas.Str.{IsCharBoundary-at_seam, IsCharBoundary-from_take, IsUtf8-append}
 use Rattle.std.proofs.lemmas.Str.{IsUtf8-drop, IsUtf8-from_ascii, IsUtf8-take}
-use Rattle.pep_marker.specs.Runs.{is_blank_byte, without_leading_blanks, without_outer_blanks}
-use Rattle.pep_marker.proofs.RunLemmas.{all-run, ascii-class}
+use Rattle.texts.specs.Bytes.{is_blank_byte}
+use Rattle.texts.specs.Runs.{without_leading_blanks, without_outer_blanks}
+use Rattle.texts.proofs.RunLemmas.{all-run, ascii-class}
 use Rattle.pep_require.proofs.BlankLemmas.{leading, leading_blank, leading_whole}
 use Rattle.inputs.specs.Lists.{content}
-use Rattle.pep_version.proofs.Connectives.{and_first, and_from, and_second, by_answer}
+use Rattle.texts.proofs.Connectives.{and_first, and_from, and_second, by_answer}
 
 abbrev is_small : ℕ → Bool
 is_small b = nat_lt b 128

@@ -9,8 +9,8 @@ use Rattle.std.specs.List.{AllZip, onto_first}
 use Rattle.std.proofs.lemmas.Bool.{cases_lt}
 use Rattle.std.proofs.lemmas.List.{map-append}
 use Rattle.std.proofs.lemmas.List.Elements.{filter-append}
-use Rattle.pep_require.specs.LineParts as requirement
-use Rattle.pep_require.specs.Reads.{Reads, line_limit}
+use Rattle.pep_require.specs.Reads.{Reads}
+use Rattle.texts.specs.Limits.{line_limit}
 use Rattle.pep_require.specs.Requirement.{RequirementParts}
 use Rattle.pep_require.specs.declared.fault.RequireFault.{RequireFault}
 use Rattle.pep_require.specs.declared.fault.RequireFault.TheVariants as fault
@@ -19,12 +19,13 @@ use Rattle.faults.specs.declared.fault.Cause.TheVariants as cause
 use Rattle.faults.specs.declared.fault.LineFault.{LineFault}
 use Rattle.faults.specs.declared.fault.LineFault.TheVariants as line_fault
 use Rattle.pep_require.proofs.LineLaws.{refused_is_not_read}
-use Rattle.inputs.specs.Lists.{IsListBy, IsRequirementList, content, input_limit}
+use Rattle.inputs.specs.Lists.{IsListBy, IsRequirementList, content}
+use Rattle.texts.specs.Limits.{input_limit}
 use Rattle.inputs.specs.Lists.{is_skipped, lines_of, requirement_lines}
 use Rattle.inputs.specs.Refusal.{IsNumbered, IsOverflow, IsRefusedLine, IsRefusedList}
 use Rattle.inputs.specs.Refusal.{by_content, by_encoding, by_length, by_line, by_size}
 use Rattle.inputs.specs.LineReading.{IsReadOf, RefusesLineBytes, RefusesList}
-use Rattle.pep_version.specs.Split.{left_parts}
+use Rattle.texts.specs.Split.{left_parts}
 
 -- the requirement lines among these lines
 abbrev pub requirements_among : List (List ℕ) → List (List ℕ)
@@ -122,31 +123,33 @@ known fault.LineTooLong = inr (λ e. cc e)
 known fault.UrlOverflow = inr (λ e. cc e)
 
 -- a fault of a line is no want of memory, whatever a line is refused for
-line_known : (line : List ℕ) (f : LineFault) →
+pub line_known : (line : List ℕ) (f : LineFault) →
     IsRefusedLine line f → f ≢ line_fault.Requirement fault.NoMemory
 line_known line f (by_length long e) memory = cc (e, memory)
 line_known line f (by_encoding short other e) memory = cc (e, memory)
 line_known line f (by_content g short text seen known refuses e) memory = known (cc (e, memory))
 
--- a line whose content is refused
-pub content_refuses : (line : List ℕ) (f : RequireFault) →
-    length line ≤ line_limit → IsUtf8 line → is_skipped (content line) ≡ false →
-    requirement.RefusesLine (content line) f → RefusesLineBytes line (line_fault.Requirement f)
-content_refuses line f short text seen refuses = by (known f)
-  where
-    by : (f ≡ fault.NoMemory) ⊎ (f ≢ fault.NoMemory) →
-        RefusesLineBytes line (line_fault.Requirement f)
-    by (inl memory) = inl (ap line_fault.Requirement memory)
-    by (inr other) = inr (by_content f short text seen other refuses refl)
-
 -- the cause of a fault of a line
-pub line_refuses : (bytes line : List ℕ) (number : ℕ)
+pub line_refuses : (refuses : List ℕ → LineFault → Type 0) (bytes line : List ℕ) (number : ℕ)
     (f : LineFault) (c : Cause) → IsNumbered (lines_of bytes) number line →
-    RefusesLineBytes line f → (f ≡ line_fault.Requirement fault.NoMemory → c ≡ cause.NoMemory) →
-    (f ≢ line_fault.Requirement fault.NoMemory → c ≡ cause.Line number f) → RefusesList bytes c
-line_refuses bytes line number f c at (inl memory) none told = inl (none memory)
-line_refuses bytes line number f c at (inr refused) none told =
-    inr (by_line number line f at refused (told (line_known line f refused)))
+    RefusesLineBytes refuses line f →
+    (f ≡ line_fault.Requirement fault.NoMemory → c ≡ cause.NoMemory) →
+    (f ≢ line_fault.Requirement fault.NoMemory → c ≡ cause.Line number f) →
+    RefusesList refuses bytes c
+line_refuses refuses bytes line number f c at (inl refused) none told =
+    inl (by_line number line f at refused (told (line_known line f refused)))
+line_refuses refuses bytes line number f c at (inr (text, has, refused)) none told =
+    inr (record {
+      number = number;
+      line = line;
+      numbered = at;
+      text = text;
+      has = has;
+      fault = f;
+      refused = refused;
+      memory = none;
+      told = told;
+    })
 
 -- the cause of a list that goes on behind its largest size
 cut_refuses : (bytes line : List ℕ) (number : ℕ) (c : Cause) →
@@ -154,14 +157,14 @@ cut_refuses : (bytes line : List ℕ) (number : ℕ) (c : Cause) →
     ((longer : List ℕ) × IsNumbered (lines_of bytes) number longer
     × (length line ≤ length longer)) →
     (line_limit < length line → c ≡ cause.Line number (line_fault.Requirement fault.LineTooLong)) →
-    (length line ≤ line_limit → c ≡ cause.TooLarge) → RefusesList bytes c
+    (length line ≤ line_limit → c ≡ cause.TooLarge) → IsRefusedList bytes c
 cut_refuses bytes line number c large at long fits = by (cases_lt line_limit (length line))
   where
-    by : (line_limit < length line) ⊎ (length line ≤ line_limit) → RefusesList bytes c
+    by : (line_limit < length line) ⊎ (length line ≤ line_limit) → IsRefusedList bytes c
     by (inl more) =
-        inr (by_line number at.0 (line_fault.Requirement fault.LineTooLong) at.1
-        (by_length (omega (arith, more, at.2)) refl) (long more))
-    by (inr less) = inr (by_size large (fits less))
+        by_line number at.0 (line_fault.Requirement fault.LineTooLong) at.1
+        (by_length (omega (arith, more, at.2)) refl) (long more)
+    by (inr less) = by_size large (fits less)
 
 -- ---- the lines of a text that goes on
 
@@ -262,7 +265,7 @@ pub cut_of_read : (bytes read line : List ℕ) (fits : Bool)
     fits ≡ false → after ≡ None → IsReadOf fits read bytes → lines_of read ≡ done
     ++ line ∷ left_parts 10 after → number ≡ length done + 1 →
     (line_limit < length line → c ≡ cause.Line number (line_fault.Requirement fault.LineTooLong)) →
-    (length line ≤ line_limit → c ≡ cause.TooLarge) → RefusesList bytes c
+    (length line ≤ line_limit → c ≡ cause.TooLarge) → IsRefusedList bytes c
 cut_of_read bytes read line true done after number c cut over is e counted long large = cc cut
 cut_of_read bytes read line false done (Some rest) number c cut over is e counted long large =
     cc over

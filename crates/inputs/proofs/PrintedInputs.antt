@@ -17,7 +17,7 @@ use Rattle.inputs.specs.declared.input.Input.{Input}
 use Rattle.inputs.specs.declared.input.Kind.{Kind}
 use Rattle.inputs.specs.declared.input.Kind.TheVariants as kind
 use Rattle.inputs.specs.Gathered.{AcceptsBytes, Gathered, IsAccepted}
-use Rattle.inputs.specs.Limits.{input_limit}
+use Rattle.texts.specs.Limits.{input_limit}
 use Rattle.inputs.specs.Lists.{HoldsTable}
 use Rattle.inputs.specs.Merge.{IsMerge}
 use Rattle.inputs.proofs.AcceptedInputs.{table_demands_in}

@@ -3,7 +3,7 @@ use Rattle.std.proofs.Common.{◌≡◌, ℕ, List, ap, subst, sym, ◌∙◌}
 use Rattle.std.specs.Prelude.{All}
 use Rattle.std.specs.List.{AllZip}
 use Rattle.std.proofs.lemmas.List.Elements.{All-contains}
-use Rattle.pep_marker.specs.Environment.{EnvironmentParts}
+use Rattle.pep_marker.specs.Environment.{EnvironmentParts, extra_in}
 use Rattle.pep_require.proofs.ExtrasLaws.{AllZip-one}
 use Rattle.pep_require.proofs.LineLaws.{one_requirement, refused_is_not_read}
 use Rattle.pep_require.specs.Reads.{Reads}
@@ -40,10 +40,10 @@ refused_project extra bytes c rs told (by_text texts e t) h =
 
 -- .. and one with an undefined marker has it
 pub undefined_project : (e : EnvironmentParts) (bytes : List ℕ) (c : Cause)
-    (rs : List RequirementParts) → IsUndefinedProject e bytes c → IsProjectOf e.extra bytes rs →
+    (rs : List RequirementParts) → IsUndefinedProject e bytes c → IsProjectOf (extra_in e) bytes rs →
     All (HasDefinedMarker e) rs → ⊥
 undefined_project e bytes c rs (qs, is, at) h defined =
-    let same : rs ≡ qs = one_project e.extra bytes rs qs h is in
+    let same : rs ≡ qs = one_project (extra_in e) bytes rs qs h is in
     both_markers e at.requirement
     (All-contains (HasDefinedMarker e) qs at.requirement
     (subst (All (HasDefinedMarker e)) same defined)

@@ -3,7 +3,7 @@ use Rattle.std.proofs.Common.{ℕ, ◌⊎◌, List, [], ◌∷◌, refl, sym, su
 use Rattle.std.specs.Prelude.{All, Contains}
 use Rattle.std.specs.List.{AllZip}
 use Rattle.std.proofs.lemmas.List.Elements.{All-contains}
-use Rattle.pep_marker.specs.Environment.{EnvironmentParts}
+use Rattle.pep_marker.specs.Environment.{EnvironmentParts, extra_in}
 use Rattle.pep_require.proofs.LineLaws.{one_requirement}
 use Rattle.pep_require.specs.Reads.{Reads}
 use Rattle.pep_require.specs.Requirement.{Applies, RequirementParts}
@@ -96,17 +96,17 @@ read_too e b x r accepted (i, among, has) reads =
   where
     by : AcceptsBytes e i.kind i.bytes.items → HasRequirement e b r
     by (inl (rs, is, defined)) =
-        let found = zip_read (input_texts e.extra i.kind i.bytes.items) rs x
-        (lines_read e.extra i.kind i.bytes.items rs is) has in
+        let found = zip_read (input_texts (extra_in e) i.kind i.bytes.items) rs x
+        (lines_read (extra_in e) i.kind i.bytes.items rs is) has in
         (i, among, (rs, is, subst (Contains rs) (one_requirement x found.0 r found.2 reads) found.1))
-    by (inr (t, is)) = absurd (no_texts e.extra i.kind i.bytes.items t x is has)
+    by (inr (t, is)) = absurd (no_texts (extra_in e) i.kind i.bytes.items t x is has)
 
 requirement_too : (e : EnvironmentParts) (a b : List Input)
     (same : (x : List ℕ) → HasLine e a x → HasLine e b x) (r : RequirementParts) →
     All (IsAccepted e) b → HasRequirement e a r → HasRequirement e b r
 requirement_too e a b same r accepted (i, among, (rs, is, has)) =
-    let found = zip_line (input_texts e.extra i.kind i.bytes.items) rs r
-    (lines_read e.extra i.kind i.bytes.items rs is) has in
+    let found = zip_line (input_texts (extra_in e) i.kind i.bytes.items) rs r
+    (lines_read (extra_in e) i.kind i.bytes.items rs is) has in
     read_too e b found.0 r accepted (same found.0 (i, among, found.1)) found.2
 
 pub same_lines : (e : EnvironmentParts) (a b : List Input) → All (IsAccepted e) a →

@@ -7,7 +7,7 @@ use Rattle.demands.specs.declared.fault.TableFault.TheVariants as table_fault
 use Rattle.faults.specs.declared.fault.Cause.{Cause}
 use Rattle.faults.specs.declared.fault.Cause.TheVariants as cause
 use Rattle.faults.specs.declared.fault.LineFault.TheVariants as line_fault
-use Rattle.inputs.specs.Limits.{input_limit}
+use Rattle.texts.specs.Limits.{input_limit}
 use Rattle.inputs.specs.TableFiles.{IsRefusedTable, by_text}
 
 -- the cause of the fault of a text

@@ -6,7 +6,7 @@ use Rattle.toml.specs.Data.{Data, Items, no_items, item, Members, get_member, as
 use Rattle.toml.specs.Parse.{parse_document}
 use Rattle.faults.specs.declared.fault.Cause.{Cause}
 use Rattle.faults.specs.declared.fault.Cause.TheVariants.{NotUtf8, NotToml, WrongShape, TooLarge}
-use Rattle.inputs.specs.Limits.{input_limit}
+use Rattle.texts.specs.Limits.{input_limit}
 
 -- ---- checks, one after the other
 

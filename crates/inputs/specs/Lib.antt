@@ -1,4 +1,3 @@
-pub mod Limits
 pub mod Texts
 pub mod Document
 pub mod Project
@@ -10,5 +9,6 @@ pub mod Gathered
 pub mod Refusal
 pub mod Merge
 pub mod LineReading
+pub mod TakenTexts
 pub mod GatheredLines
 pub mod ListedText

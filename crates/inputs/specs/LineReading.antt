@@ -1,32 +1,16 @@
--- How the code reads the lines of a list: no meaning rests on this.
-use Rattle.std.specs.Prelude.{Bool, Option, Some, None, ◌<◌, ◌≡◌, ℕ, ◌≤◌, ◌⊎◌, true, false, List}
-use Rattle.std.specs.Prelude.{[], ◌∷◌, ◌++◌, length, IsUtf8}
-use Rattle.pep_require.specs.Reads.{Reads, line_limit}
-use Rattle.pep_require.specs.Requirement.{RequirementParts}
-use Rattle.pep_require.specs.View.{requirement_parts}
+-- How the code reads the lines of a list, whatever their texts are taken for: no meaning rests on
+-- this.
+use Rattle.std.specs.Prelude.{Bool, Option, Some, None, ◌<◌, ◌≡◌, ◌≢◌, ℕ, ◌≤◌, ◌⊎◌, true, false}
+use Rattle.std.specs.Prelude.{List, [], ◌∷◌, ◌++◌, All, length, IsUtf8}
+use Rattle.texts.specs.Limits.{line_limit}
 use Rattle.pep_require.specs.declared.fault.RequireFault.TheVariants as require
-use Rattle.pep_require.specs.declared.requirement.Requirement.{Requirement}
 use Rattle.faults.specs.declared.fault.Cause.{Cause}
-use Rattle.faults.specs.declared.fault.Cause.TheVariants.{NoMemory}
+use Rattle.faults.specs.declared.fault.Cause.TheVariants as cause
 use Rattle.faults.specs.declared.fault.LineFault.{LineFault}
 use Rattle.faults.specs.declared.fault.LineFault.TheVariants as line_fault
-use Rattle.inputs.specs.Lists.{content, input_limit, is_skipped}
-use Rattle.inputs.specs.Refusal.{IsRefusedLine, IsRefusedList}
-
--- ---- what a line adds to the requirements of the lines before it
-
--- the line is skipped, and adds nothing; or it adds the requirement that its content is read as
-abbrev pub Adds : List ℕ → List RequirementParts → List RequirementParts → Type 0
-Adds line old new =
-    ((is_skipped (content line) ≡ true) × (new ≡ old))
-    ⊎ ((is_skipped (content line) ≡ false)
-    × ((r : RequirementParts) × Reads (content line) r × (new ≡ old ++ r ∷ [])))
-
--- the line is one that a list may have, and the new requirements are the old ones with its own
-pub record TakesLine (line : List ℕ) (old new : List RequirementParts) : Type 0 where
-  pub short : length line ≤ line_limit
-  pub text : IsUtf8 line
-  pub adds : Adds line old new
+use Rattle.inputs.specs.Lists.{content, is_skipped, lines_of, requirement_lines}
+use Rattle.texts.specs.Limits.{input_limit}
+use Rattle.inputs.specs.Refusal.{IsNumbered, IsRefusedLine, IsRefusedList}
 
 -- the text of the requirement on a line, and none where the line is skipped
 abbrev pub IsTextOn : List ℕ → Option (List ℕ) → Type 0
@@ -39,20 +23,54 @@ pub record HasText (line : List ℕ) (found : Option (List ℕ)) : Type 0 where
   pub encoded : IsUtf8 line
   pub text : IsTextOn line found
 
--- the requirements that a line has: one, or none
-abbrev pub some_parts : Option Requirement → List RequirementParts
-some_parts None = []
-some_parts (Some r) = requirement_parts r ∷ []
+-- ---- what is taken
+
+-- the texts are taken one after the other, by what a text makes of what was taken before it
+abbrev pub TakesInTurn : {A : Type 0} → (List ℕ → A → A → Type 0) → List (List ℕ) → A → A → Type 0
+TakesInTurn takes [] old new = old ≡ new
+TakesInTurn {A} takes (x ∷ xs) old new = (mid : A) × takes x old mid × TakesInTurn takes xs mid new
+
+-- .. if there is one
+abbrev pub TakesFound : {A : Type 0} → (List ℕ → A → A → Type 0) → Option (List ℕ) → A → A → Type 0
+TakesFound takes None old new = old ≡ new
+TakesFound takes (Some x) old new = takes x old new
+
+-- the line is one that a list may have, and its text is taken
+abbrev pub TakesLine : {A : Type 0} → (List ℕ → A → A → Type 0) → List ℕ → A → A → Type 0
+TakesLine takes line old new =
+    (found : Option (List ℕ)) × HasText line found × TakesFound takes found old new
+
+-- the lines are lines that a list may have, and their texts are taken in turn
+pub record TakesLines {A : Type 0} (takes : List ℕ → A → A → Type 0) (bytes : List ℕ) (old new : A)
+    : Type 0 where
+  pub size : length bytes ≤ input_limit
+  pub short : All (λ line. length line ≤ line_limit) (lines_of bytes)
+  pub texts : All IsUtf8 (lines_of bytes)
+  pub taken : TakesInTurn takes (requirement_lines bytes) old new
 
 -- ---- refusals
 
--- why a line is refused: want of memory, of which nothing is said, or a fault of its own
-abbrev pub RefusesLineBytes : List ℕ → LineFault → Type 0
-RefusesLineBytes line f = (f ≡ line_fault.Requirement require.NoMemory) ⊎ IsRefusedLine line f
+-- why a line is refused: a fault of its own, or one that its text is refused for
+abbrev pub RefusesLineBytes : (List ℕ → LineFault → Type 0) → List ℕ → LineFault → Type 0
+RefusesLineBytes refuses line f =
+    IsRefusedLine line f ⊎ ((text : List ℕ) × HasText line (Some text) × refuses text f)
 
--- .. and why bytes are, as a list
-abbrev pub RefusesList : List ℕ → Cause → Type 0
-RefusesList bytes c = (c ≡ NoMemory) ⊎ IsRefusedList bytes c
+-- the cause names a line whose text is refused; of want of memory nothing is said
+pub record RefusesTextOf (refuses : List ℕ → LineFault → Type 0) (bytes : List ℕ) (c : Cause) :
+    Type 0 where
+  pub number : ℕ
+  pub line : List ℕ
+  pub numbered : IsNumbered (lines_of bytes) number line
+  pub text : List ℕ
+  pub has : HasText line (Some text)
+  pub fault : LineFault
+  pub refused : refuses text fault
+  pub memory : fault ≡ line_fault.Requirement require.NoMemory → c ≡ cause.NoMemory
+  pub told : fault ≢ line_fault.Requirement require.NoMemory → c ≡ cause.Line number fault
+
+-- why bytes are refused as a list
+abbrev pub RefusesList : (List ℕ → LineFault → Type 0) → List ℕ → Cause → Type 0
+RefusesList refuses bytes c = IsRefusedList bytes c ⊎ RefusesTextOf refuses bytes c
 
 -- the bytes are what was read; or they are more than a list may have, and what was read is their
 -- front

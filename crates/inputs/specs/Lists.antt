@@ -5,12 +5,13 @@ use Rattle.std.specs.Prelude.{IsUtf8, Ok, unwrap_or}
 use Rattle.std.specs.Result.{result_ok}
 use Rattle.std.specs.List.{AllZip, slice_split}
 use Rattle.std.specs.Str.Lines.{strip_carriage_return}
-use Rattle.pep_marker.specs.Runs.{begins, without_outer_blanks}
-use Rattle.pep_require.specs.Reads.{Reads, line_limit}
+use Rattle.texts.specs.Runs.{begins, without_outer_blanks}
+use Rattle.pep_require.specs.Reads.{Reads}
+use Rattle.texts.specs.Limits.{line_limit}
 use Rattle.pep_require.specs.Requirement.{RequirementParts}
 use Rattle.inputs.specs.declared.input.Kind.{Kind}
 use Rattle.inputs.specs.declared.input.Kind.TheVariants as kind
-pub use Rattle.inputs.specs.Limits.{input_limit}
+pub use Rattle.texts.specs.Limits.{input_limit}
 use Rattle.demands.specs.Table.{TableParts}
 use Rattle.inputs.specs.Project.{project_file}
 use Rattle.inputs.specs.TableFiles.{IsTableFile}

@@ -2,9 +2,10 @@
 -- else is answered.
 use Rattle.std.specs.Prelude.{◌≡◌, ◌≢◌, ℕ, ◌+◌, ◌<◌, ◌≤◌, ◌⊎◌, false, List, ◌∷◌, ◌++◌, length}
 use Rattle.std.specs.Prelude.{IsUtf8, Ok, Err}
-use Rattle.pep_marker.specs.Environment.{EnvironmentParts}
+use Rattle.pep_marker.specs.Environment.{EnvironmentParts, extra_in}
 use Rattle.pep_require.specs.LineParts.{RefusesLine}
-use Rattle.pep_require.specs.Reads.{Reads, line_limit}
+use Rattle.pep_require.specs.Reads.{Reads}
+use Rattle.texts.specs.Limits.{line_limit}
 use Rattle.pep_require.specs.Requirement.{HasUndefinedMarker, RequirementParts}
 use Rattle.pep_require.specs.declared.fault.RequireFault.{RequireFault}
 use Rattle.pep_require.specs.declared.fault.RequireFault.TheVariants as require
@@ -19,7 +20,8 @@ use Rattle.inputs.specs.declared.input.Input.{Input}
 use Rattle.inputs.specs.declared.input.Kind.{Kind}
 use Rattle.inputs.specs.declared.input.Kind.TheVariants as kind
 use Rattle.inputs.specs.Gathered.{IsAccepted}
-use Rattle.inputs.specs.Lists.{IsProjectOf, content, input_limit, is_skipped, lines_of}
+use Rattle.inputs.specs.Lists.{IsProjectOf, content, is_skipped, lines_of}
+use Rattle.texts.specs.Limits.{input_limit}
 use Rattle.inputs.specs.Project.{project_file}
 use Rattle.inputs.specs.TableFiles.{IsRefusedTable}
 
@@ -108,7 +110,7 @@ pub record IsUndefinedAt (e : EnvironmentParts) (rs : List RequirementParts) (c 
 -- .. of a project file, all of whose texts are requirements
 abbrev pub IsUndefinedProject : EnvironmentParts → List ℕ → Cause → Type 0
 IsUndefinedProject e bytes c =
-    (rs : List RequirementParts) × IsProjectOf e.extra bytes rs × IsUndefinedAt e rs c
+    (rs : List RequirementParts) × IsProjectOf (extra_in e) bytes rs × IsUndefinedAt e rs c
 
 -- ---- inputs
 
@@ -118,7 +120,7 @@ IsUndefinedProject e bytes c =
 abbrev pub IsRefused : EnvironmentParts → Kind → List ℕ → Cause → Type 0
 IsRefused e kind.List bytes c = IsRefusedList bytes c ⊎ IsUndefinedList e bytes c
 IsRefused e kind.Project bytes c =
-    IsRefusedProject e.extra bytes c ⊎ IsUndefinedProject e bytes c
+    IsRefusedProject (extra_in e) bytes c ⊎ IsUndefinedProject e bytes c
 IsRefused e kind.Table bytes c = IsRefusedTable bytes c
 
 -- The fault names an input, says why it is refused, and unless the reader of URLs answered its own

@@ -5,7 +5,7 @@ use Rattle.pep_table.specs.TableText.{IsNoTableText, IsTableText}
 use Rattle.faults.specs.declared.fault.Cause.{Cause}
 use Rattle.faults.specs.declared.fault.Cause.TheVariants as cause
 use Rattle.faults.specs.declared.fault.LineFault.TheVariants as line_fault
-use Rattle.inputs.specs.Limits.{input_limit}
+use Rattle.texts.specs.Limits.{input_limit}
 
 -- the bytes are the text of this table
 pub record IsTableFile (bytes : List ℕ) (t : TableParts) : Type 0 where

@@ -5,9 +5,9 @@ ghost use Rattle.toml.specs.View.{items_view, table_view, view};
 ghost use Rattle.inputs.specs.Document.{document_of, texts_at, texts_of, texts_of_items};
 ghost use Rattle.inputs.specs.Texts.{lent_texts};
 
-use crate::list::INPUT_LIMIT;
 use faults::Cause;
 use std::alloc::Global;
+use texts::INPUT_LIMIT;
 use toml::{Table, Value};
 
 /// The TOML document that the bytes are.

@@ -25,14 +25,14 @@ pub fn environment_of(alloc: Global, bytes: &[u8]) -> Result<Environment, Fault>
         ⊎ ((fault.place ≡ Place.Environment)
         × (environment_file bytes.now ≡ Err fault.cause))) }
 {
-    match read_environment(alloc, bytes) {
+    match environment_in(alloc, bytes) {
         Ok(environment) => Ok(environment),
         Err(cause) => Err(fault_in(Place::Environment, cause)),
     }
 }
 
 // The same, with the cause alone.
-fn read_environment(alloc: Global, bytes: &[u8]) -> Result<Environment, Cause>
+fn environment_in(alloc: Global, bytes: &[u8]) -> Result<Environment, Cause>
     ensures ok { IfOk result (λ environment. environment_file bytes.now ≡ Ok environment) }
     ensures refused { IfErr result (λ cause. (cause ≡ Cause.NoMemory)
         ⊎ (environment_file bytes.now ≡ Err cause)) }

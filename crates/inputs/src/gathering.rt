@@ -2,17 +2,11 @@
 
 ghost use Rattle.std.specs.Prelude.{
   ◌≡◌,
-  ◌≤◌,
   ◌⊎◌,
   [],
   All,
-  List,
-  ℕ,
   IfErr,
   IfOk,
-  IsTrue,
-  OnOk,
-  length,
   map,
 };
 ghost use Rattle.pep_require.specs.View.{requirement_parts};
@@ -22,86 +16,46 @@ ghost use Rattle.demands.specs.Table.{HasExactPoints, IsTable, TableParts};
 ghost use Rattle.inputs.specs.GatheredLines.{
   GathersBytes,
   GathersInputs,
-  GathersLine,
-  RefusesInput,
-  RefusesLineIn,
-  RefusesListIn,
+  RefusesAsInput,
 };
 ghost use Rattle.inputs.specs.Gathered.{Gathered, IsAccepted};
-ghost use Rattle.inputs.specs.LineReading.{IsReadOf};
-ghost use Rattle.inputs.specs.Lists.{input_limit};
 ghost use Rattle.inputs.specs.Refusal.{IsUndefinedAt, RefusesInputs};
 ghost use Rattle.inputs.specs.TableFiles.{IsRefusedTable, IsTableFile};
 
 use crate::input::{Input, Kind};
-use crate::lines::text_on;
-use crate::list::{INPUT_LIMIT, cut_off, line_cause};
+use crate::lines::{Taker, take_lines};
 use crate::project::project_requirements;
 use crate::table_file::table_in;
 use faults::{Cause, Fault, LineFault, Place, fault_in};
 use pep_marker::{Environment, MarkerFault};
 use pep_require::{RequireFault, Requirement};
 use pep_table::Gathering;
-use pep_version::first_part;
 use std::alloc::Global;
 
-// What is demanded so far and, if it applies in the environment, by the requirement on a line.
-fn take_line(
+// Takes each text as a requirement, whose demands count if it applies in the environment.
+#[derive(Drop)]
+struct DemandTaker<'a> {
     alloc: Global,
-    gathering: Gathering,
-    line: &[u8],
-    environment: &Environment,
-) -> Result<Gathering, LineFault>
-    ensures ok { IfOk result (GathersLine environment.now line.now gathering) }
-    ensures refused { IfErr result (RefusesLineIn environment.now line.now) }
-{
-    let text = match text_on(line) {
-        Ok(Some(text)) => text,
-        Ok(None) => return Ok(gathering),
-        Err(fault) => return Err(fault),
-    };
-    let requirement = match Requirement::read(alloc, text) {
-        Ok(requirement) => requirement,
-        Err(fault) => return Err(LineFault::Requirement(fault)),
-    };
-    match gathering.take_applying(alloc, &requirement, environment) {
-        Ok(new) => Ok(new),
-        Err(MarkerFault::Undefined) => Err(LineFault::Undefined),
-        Err(_) => Err(LineFault::Requirement(RequireFault::NoMemory)),
-    }
+    environment: &'a Environment,
 }
 
-// What is demanded so far and by lines. Where the list does not fit its largest size these are its
-// first lines, and the last of them is cut.
-fn take_lines(
-    alloc: Global,
-    gathering: Gathering,
-    read: &[u8],
-    fits: bool,
-    environment: &Environment,
-) -> Result<Gathering, Cause>
-    ensures fits { OnOk result (IsTrue fits) }
-    ensures ok { IfOk result (λ new. length read.now ≤ input_limit →
-        GathersBytes environment.now Kind.List read.now gathering new) }
-    ensures refused { IfErr result (λ cause. (bytes : List ℕ) → IsReadOf fits read.now bytes
-        → RefusesListIn environment.now bytes cause) }
-{
-    let mut gathering = gathering;
-    let mut rest = Some(read);
-    let mut number: u64 = 0;
-    while let Some(text) = rest {
-        let (line, after) = first_part(text, b'\n');
-        number += 1;
-        if !fits && after.is_none() {
-            return Err(cut_off(number, line));
+impl Taker for DemandTaker<'_> {
+    ghost use Rattle.inputs.specs.TakenTexts.{GathersText, RefusesTextIn};
+
+    type Taken = Gathering;
+
+    ghost takes = { λ j text old new. GathersText j.environment.now text old new };
+
+    ghost refuses = { λ j text fault. RefusesTextIn j.environment.now text fault };
+
+    fn take(&self, gathering: Gathering, text: &str) -> Result<Gathering, LineFault> {
+        let requirement = Requirement::read(self.alloc, text)?;
+        match gathering.take_applying(self.alloc, &requirement, self.environment) {
+            Ok(new) => Ok(new),
+            Err(MarkerFault::Undefined) => Err(LineFault::Undefined),
+            Err(_) => Err(LineFault::Requirement(RequireFault::NoMemory)),
         }
-        gathering = match take_line(alloc, gathering, line, environment) {
-            Ok(new) => new,
-            Err(fault) => return Err(line_cause(number, fault)),
-        };
-        rest = after;
     }
-    Ok(gathering)
 }
 
 // What is demanded so far and by a list.
@@ -112,14 +66,9 @@ fn take_list(
     environment: &Environment,
 ) -> Result<Gathering, Cause>
     ensures ok { IfOk result (GathersBytes environment.now Kind.List bytes.now gathering) }
-    ensures refused { IfErr result (RefusesListIn environment.now bytes.now) }
+    ensures refused { IfErr result (RefusesAsInput environment.now Kind.List bytes.now) }
 {
-    if bytes.len() <= INPUT_LIMIT {
-        take_lines(alloc, gathering, bytes, true, environment)
-    } else {
-        let (read, _) = bytes.split_at(INPUT_LIMIT);
-        take_lines(alloc, gathering, read, false, environment)
-    }
+    take_lines(&DemandTaker { alloc, environment }, gathering, bytes)
 }
 
 // What is demanded so far and by requirements, each judged in its turn.
@@ -156,7 +105,7 @@ fn take_project(
     environment: &Environment,
 ) -> Result<Gathering, Cause>
     ensures ok { IfOk result (GathersBytes environment.now Kind.Project bytes.now gathering) }
-    ensures refused { IfErr result (RefusesInput environment.now Kind.Project bytes.now) }
+    ensures refused { IfErr result (RefusesAsInput environment.now Kind.Project bytes.now) }
 {
     let extra = environment.value("extra").unwrap_or("");
     let requirements = project_requirements(alloc, bytes, extra)?;
@@ -186,7 +135,7 @@ fn take_input(
 ) -> Result<Gathering, Cause>
     ensures ok { IfOk result (GathersBytes environment.now input.now.kind
         input.now.bytes.items gathering) }
-    ensures refused { IfErr result (RefusesInput environment.now input.now.kind
+    ensures refused { IfErr result (RefusesAsInput environment.now input.now.kind
         input.now.bytes.items) }
 {
     let bytes = input.bytes.as_slice();

@@ -15,6 +15,6 @@ mod table_file;
 pub use crate::environment_file::environment_of;
 pub use crate::gathering::gather;
 pub use crate::input::{Input, Kind};
-pub use crate::lines::{lines_text, list_of};
+pub use crate::list::{lines_text, list_of};
 pub use crate::merge::{check_bytes, merge_bytes, text_of};
 pub use crate::project::project_of;

@@ -1,59 +1,106 @@
-//! Lines of a list, and its limits.
+//! A list as requirements, one on each line, and their texts.
 
-ghost use Rattle.std.specs.Prelude.{◌≡◌, ◌≢◌, ◌<◌, ◌≤◌, length};
-ghost use Rattle.pep_require.specs.Reads.{line_limit};
-ghost use Rattle.inputs.specs.Lists.{content, is_skipped};
+ghost use Rattle.std.specs.Prelude.{
+  ◌≡◌,
+  ◌⊎◌,
+  ◌++◌,
+  IfErr,
+  IfOk,
+  OnOk,
+  codes,
+  map,
+  string_bytes,
+};
+ghost use Rattle.pep_require.specs.RequirementText.{requirement_text};
+ghost use Rattle.pep_require.specs.View.{requirement_parts};
+ghost use Rattle.inputs.specs.ListedText.{listed_text};
+ghost use Rattle.inputs.specs.Lists.{IsRequirementList};
+ghost use Rattle.inputs.specs.Refusal.{IsRefusedList, no_memory};
 
-use faults::{Cause, LineFault};
-use pep_marker::without_outer_blanks;
-use pep_require::RequireFault;
+use crate::lines::{Taker, take_lines};
+use faults::{Fault, LineFault, Place, fault_in};
+use pep_require::Requirement;
+use std::alloc::Global;
 
-/// The longest line, in bytes.
-pub(crate) const LINE_LIMIT: usize = 65536;
-
-/// The largest input, in bytes.
-pub(crate) const INPUT_LIMIT: usize = 16_777_216;
-
-/// The line without a carriage return at its end, and then without white space at both ends.
-pub(crate) fn content(line: &[u8]) -> &[u8]
-    ensures { result.now ≡ content line.now }
-{
-    let line = match line {
-        [front @ .., b'\r'] => front,
-        _ => line,
-    };
-    without_outer_blanks(line)
+// Takes each text as the requirement that it is.
+#[derive(Drop)]
+struct RequirementTaker {
+    alloc: Global,
 }
 
-/// Whether a line with this content is empty or a comment.
-pub(crate) fn is_skipped(content: &[u8]) -> bool
-    ensures { result ≡ is_skipped content.now }
-{
-    content.is_empty() || content.starts_with(b"#")
-}
+impl Taker for RequirementTaker {
+    ghost use Rattle.std.specs.Prelude.{map};
+    ghost use Rattle.pep_require.specs.View.{requirement_parts};
+    ghost use Rattle.inputs.specs.TakenTexts.{AddsText, RefusesText};
 
-/// Why the bytes are no list: a fault of a line, or want of memory, which has no place.
-pub(crate) fn line_cause(number: u64, fault: LineFault) -> Cause
-    ensures memory { fault ≡ LineFault.Requirement RequireFault.NoMemory → result ≡ Cause.NoMemory }
-    ensures line { fault ≢ LineFault.Requirement RequireFault.NoMemory →
-        result ≡ Cause.Line number fault }
-{
-    match fault {
-        LineFault::Requirement(RequireFault::NoMemory) => Cause::NoMemory,
-        fault => Cause::Line(number, fault),
+    type Taken = Vec<Requirement>;
+
+    ghost takes = { λ _ text old new. AddsText text (map requirement_parts old.items)
+        (map requirement_parts new.items) };
+
+    ghost refuses = { λ _ text fault. RefusesText text fault };
+
+    fn take(
+        &self,
+        mut requirements: Vec<Requirement>,
+        text: &str,
+    ) -> Result<Vec<Requirement>, LineFault> {
+        let requirement = Requirement::read(self.alloc, text)?;
+        requirements.push(requirement)?;
+        Ok(requirements)
     }
 }
 
-/// The fault of a list that goes on behind its largest size, in this line: that of the limit which
-/// is passed first.
-pub(crate) fn cut_off(number: u64, line: &[u8]) -> Cause
-    ensures long { line_limit < length line.now →
-        result ≡ Cause.Line number (LineFault.Requirement RequireFault.LineTooLong) }
-    ensures large { length line.now ≤ line_limit → result ≡ Cause.TooLarge }
+/// The requirements of a list, which is at most 16,777,216 bytes: one on each line (PEP 508,
+/// "Grammar"), of at most 65,536 bytes. A carriage return at a line's end and white space at both
+/// ends are dropped; empty lines and lines that begin with `#` are skipped.
+///
+/// The fault is that of input 1, in the order of the bytes: 57 with 38 at the 65,537th byte of a
+/// line, and at its end 57 with 51 where the line isn't UTF-8, else with the fault of its
+/// requirement (see [`Requirement::read`]); 56 at the 16,777,217th byte, which is the fault where
+/// both fall on one byte. Want of memory, 60, has no place.
+pub fn list_of(alloc: Global, bytes: &[u8]) -> Result<Vec<Requirement>, Fault>
+    ensures ok { IfOk result (λ requirements.
+        IsRequirementList bytes.now (map requirement_parts requirements.items)) }
+    ensures refused { IfErr result (λ fault. (fault ≡ no_memory)
+        ⊎ ((fault.place ≡ Place.Input 1)
+        × IsRefusedList bytes.now fault.cause)) }
 {
-    if line.len() > LINE_LIMIT {
-        Cause::Line(number, LineFault::Requirement(RequireFault::LineTooLong))
-    } else {
-        Cause::TooLarge
+    match take_lines(&RequirementTaker { alloc }, Vec::new(alloc), bytes) {
+        Ok(requirements) => Ok(requirements),
+        Err(cause) => Err(fault_in(Place::Input(1), cause)),
     }
+}
+
+// Appends the text of a requirement and a line feed.
+fn push_requirement(
+    alloc: Global,
+    text: &mut String,
+    requirement: &Requirement,
+) -> Result<(), Fault>
+    ensures text { OnOk result (string_bytes text.new ≡ string_bytes text.old
+        ++ (requirement_text (requirement_parts requirement.now) ++ codes "\n")) }
+    ensures faults { IfErr result (λ fault. fault ≡ no_memory) }
+{
+    match requirement.text(alloc) {
+        Ok(written) => {
+            text.push_str(written.as_str())?;
+            text.push_str("\n")?;
+            Ok(())
+        }
+        Err(_) => Err(Fault::no_memory()),
+    }
+}
+
+/// The text of each requirement and a line feed. The only fault is want of memory.
+pub fn lines_text(alloc: Global, requirements: &[Requirement]) -> Result<String, Fault>
+    ensures text { IfOk result (λ text.
+        string_bytes text ≡ listed_text (map requirement_parts requirements.now)) }
+    ensures faults { IfErr result (λ fault. fault ≡ no_memory) }
+{
+    let mut text = String::new(alloc);
+    for requirement in requirements {
+        push_requirement(alloc, &mut text, requirement)?;
+    }
+    Ok(text)
 }

@@ -34,7 +34,7 @@ ghost use Rattle.inputs.specs.Refusal.{IsRefusedProject, IsRefusedText, no_memor
 ghost use Rattle.inputs.specs.Texts.{lent_texts};
 
 use crate::document::{read_document, texts_at, texts_of};
-use crate::list::line_cause;
+use crate::lines::line_cause;
 use faults::{Cause, Fault, LineFault, Place, fault_in};
 use pep_marker::{MarkerFault, Name, norm_of};
 use pep_require::Requirement;
@@ -82,11 +82,11 @@ pub(crate) fn project_requirements(
 {
     let document = read_document(alloc, bytes)?;
     let texts = project_texts(alloc, &document, extra)?;
-    requirements_of(alloc, texts.as_slice())
+    requirements_of_texts(alloc, texts.as_slice())
 }
 
 // The requirements that texts are.
-fn requirements_of(alloc: Global, texts: &[&str]) -> Result<Vec<Requirement>, Cause>
+fn requirements_of_texts(alloc: Global, texts: &[&str]) -> Result<Vec<Requirement>, Cause>
     ensures ok { IfOk result (λ requirements.
         AllZip Reads (lent_texts texts.now) (map requirement_parts requirements.items)) }
     ensures refused { IfErr result (λ cause. (cause ≡ Cause.NoMemory)

@@ -3,10 +3,10 @@
 ghost use Rattle.std.specs.Prelude.{◌≡◌, ◌⊎◌, ℕ, IfErr, IfOk};
 ghost use Rattle.inputs.specs.TableFiles.{IsRefusedTable, IsTableFile};
 
-use crate::list::INPUT_LIMIT;
 use faults::{Cause, LineFault};
 use pep_table::{Table, TableFault};
 use std::alloc::Global;
+use texts::INPUT_LIMIT;
 
 // The cause of a fault of the text of a table.
 fn table_cause(fault: TableFault) -> Cause

@@ -7,8 +7,8 @@ use Rattle.std.specs.Prelude.{if◌then◌else◌}
 use Rattle.std.specs.declared.cmp.Ordering.{Ordering}
 use Rattle.std.specs.declared.cmp.Ordering.TheVariants.{Less, Equal, Greater}
 use Rattle.pep_clause.specs.Joined.{earlier, later}
-use Rattle.pep_version.proofs.Connectives.{and_given, and_given_second, and_not_given, not_given}
-use Rattle.pep_version.proofs.Connectives.{not_given_second}
+use Rattle.texts.proofs.Connectives.{and_given, and_given_second, and_not_given, not_given}
+use Rattle.texts.proofs.Connectives.{not_given_second}
 
 pub less_told : (r : Ordering) → is_lt r ≡ true → r ≡ Less
 less_told Less e = refl

@@ -9,7 +9,8 @@ use Rattle.std.specs.declared.cmp.Ordering.TheVariants.{Less, Equal, Greater}
 use Rattle.pep_version.specs.Laws.{version_total}
 use Rattle.pep_version.specs.Order.{is_below, is_same, place_of, public_version, suffix_cmp}
 use Rattle.pep_version.specs.Order.{version_cmp}
-use Rattle.pep_version.specs.Version.{IsVersion, Segment, Version, is_empty}
+use Rattle.pep_version.specs.Version.{IsVersion, Segment, Version}
+use Rattle.texts.specs.Lists.{is_empty}
 use Rattle.specifiers.specs.Admits.{admits}
 use Rattle.pep_clause.proofs.Between.{less_told, not_below_itself}
 use Rattle.specifiers.specs.Clause.{at_most, excluding, greater_than, less_than, matching}
@@ -27,7 +28,7 @@ use Rattle.pep_clause.proofs.Rows.{IsCut-before_place, is_below-place_of, is_bel
 use Rattle.pep_clause.proofs.Rows.{is_in-from_least, release_cmp-short}
 use Rattle.pep_version.proofs.PlaceLemmas.{place-version}
 use Rattle.pep_clause.proofs.StrictPlaces.{greater-under, less-under}
-use Rattle.pep_version.proofs.Connectives.{not-not}
+use Rattle.texts.proofs.Connectives.{not-not}
 
 -- ---- at most, more than and less than a version
 

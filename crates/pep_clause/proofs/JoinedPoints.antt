@@ -15,9 +15,9 @@ use Rattle.pep_clause.specs.OperatorTable.{range}
 use Rattle.pep_clause.specs.VersionSet.{Range, is_in, is_point}
 use Rattle.pep_clause.proofs.Between.{below-earlier, below-not_above, is_between, less_told}
 use Rattle.pep_clause.proofs.Between.{none_between, not_below-later}
-use Rattle.pep_version.proofs.Connectives.{by_answer, and-false, and_from, and_given, and_parts}
-use Rattle.pep_version.proofs.Connectives.{or-false, or_assoc, or_given, and-or_distrib_left}
-use Rattle.pep_version.proofs.Connectives.{and-or_distrib_right, answers_differ, not-true}
+use Rattle.texts.proofs.Connectives.{by_answer, and-false, and_from, and_given, and_parts}
+use Rattle.texts.proofs.Connectives.{or-false, or_assoc, or_given, and-or_distrib_left}
+use Rattle.texts.proofs.Connectives.{and-or_distrib_right, answers_differ, not-true}
 
 -- the points of one range
 abbrev pub has_point : Range → Cut → Bool
@@ -81,6 +81,17 @@ is_in-joined ranges others v =
     is_in-is_point (joined ranges others) v
     ∙ is_point-joined ranges others (before v)
     ∙ (λ i. sym (is_in-is_point ranges v) i && sym (is_in-is_point others v) i)
+
+-- .. of a list that is what two lists have in common
+pub joined_points : (ranges others found : List Range) → found ≡ joined ranges others → (c : Cut) →
+    is_point found c ≡ (is_point ranges c && is_point others c)
+joined_points ranges others found e c =
+    (λ i. is_point (e i) c) ∙ is_point-joined ranges others c
+
+pub joined_versions : (ranges others found : List Range) → found ≡ joined ranges others →
+    (v : Version) → is_in found v ≡ (is_in ranges v && is_in others v)
+joined_versions ranges others found e v =
+    (λ i. is_in (e i) v) ∙ is_in-joined ranges others v
 
 -- ---- ranges that lie in one range
 

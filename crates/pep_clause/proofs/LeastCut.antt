@@ -15,7 +15,7 @@ use Rattle.pep_clause.specs.Cut.{least}
 use Rattle.pep_clause.specs.Laws.{cut_total}
 use Rattle.pep_clause.proofs.UnderCut.{is_under-cut_cmp}
 use Rattle.pep_clause.specs.VersionSet.{IsNormal, Range, all_versions, is_point}
-use Rattle.pep_version.proofs.Connectives.{and-true, and_left, or-false, or_from}
+use Rattle.texts.proofs.Connectives.{and-true, and_left, or-false, or_from}
 use Rattle.pep_clause.proofs.Between.{is_between}
 
 then_not_above : (r s : Ordering) → is_le r ≡ true → is_le s ≡ true →

@@ -149,3 +149,7 @@ IsNormal-joined ranges others h g =
     IsNormal-from (joined ranges others)
     (joined_apart ranges others (IsNormal-apart ranges h) (IsNormal-apart others g))
     (joined_spelled ranges others (IsNormal-spelled ranges h) (IsNormal-spelled others g))
+
+pub joined_normal : (ranges others found : List Range) → found ≡ joined ranges others →
+    IsNormal ranges → IsNormal others → IsNormal found
+joined_normal ranges others found e h g = rw e (IsNormal-joined ranges others h g)

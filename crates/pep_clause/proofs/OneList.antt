@@ -7,8 +7,8 @@ use Rattle.pep_clause.specs.Laws.{cut_total}
 use Rattle.pep_clause.specs.VersionSet.{IsNormal, Range, is_point}
 use Rattle.pep_clause.proofs.Between.{is_between, less_told, not_above-test, not_below_itself}
 use Rattle.pep_clause.proofs.Between.{not_turned, tied_told}
-use Rattle.pep_version.proofs.Connectives.{by_answer, and_left, and_not_or, and_not_right}
-use Rattle.pep_version.proofs.Connectives.{answers_differ, or_from}
+use Rattle.texts.proofs.Connectives.{by_answer, and_left, and_not_or, and_not_right}
+use Rattle.texts.proofs.Connectives.{answers_differ, or_from}
 use Rattle.pep_clause.proofs.NormalLists.{AllAbove, Apart, IsNormal-apart, IsNormal-spelled}
 use Rattle.pep_clause.proofs.NormalLists.{Spelled}
 use Rattle.pep_clause.proofs.OneCut.{one-cut}

@@ -10,7 +10,7 @@ use Rattle.std.specs.declared.cmp.Ordering.{Ordering}
 use Rattle.std.specs.declared.cmp.Ordering.TheVariants.{Less, Equal, Greater}
 use Rattle.pep_version.specs.Order.{dev_cmp, segment_cmp}
 use Rattle.pep_version.specs.Version.{Fits, Segment}
-use Rattle.pep_version.proofs.Connectives.{by_answer}
+use Rattle.texts.proofs.Connectives.{by_answer}
 use Rattle.pep_clause.specs.OperatorTable.{last}
 use Rattle.pep_version.specs.declared.parts.Phase.{Phase}
 

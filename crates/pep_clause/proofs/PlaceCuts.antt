@@ -6,7 +6,8 @@ use Rattle.std.specs.Prelude.{if◌then◌else◌}
 use Rattle.pep_version.specs.declared.parts.Phase.{Phase}
 use Rattle.pep_version.specs.declared.parts.Phase.TheVariants.{Alpha, Beta, Rc}
 use Rattle.pep_version.specs.Order.{place_of, without_dev, without_post}
-use Rattle.pep_version.specs.Version.{Fits, IsVersion, Version, is_empty, is_pre_release}
+use Rattle.pep_version.specs.Version.{Fits, IsVersion, Version, is_pre_release}
+use Rattle.texts.specs.Lists.{is_empty}
 use Rattle.pep_clause.specs.Cut.{IsCut, after, least}
 use Rattle.pep_clause.proofs.LeastCut.{IsNormal-all_versions}
 use Rattle.pep_clause.specs.OperatorTable.{after_last_dev, before_place, done, done_at, greater_at}

@@ -12,7 +12,7 @@ use Rattle.std.specs.declared.cmp.Ordering.TheVariants.{Less, Equal, Greater}
 use Rattle.pep_version.specs.Order.{release_cmp, suffix_cmp}
 use Rattle.pep_version.specs.Version.{Fits, IsVersion, Version}
 use Rattle.specifiers.specs.Admits.{begins_padded, has_prefix}
-use Rattle.pep_version.proofs.Connectives.{by_answer}
+use Rattle.texts.proofs.Connectives.{by_answer}
 use Rattle.specifiers.specs.Clause.{Prefix}
 use Rattle.pep_clause.specs.Cut.{final_version, is_under}
 use Rattle.pep_clause.proofs.LeastCut.{none-under_least}
@@ -27,21 +27,13 @@ by_order : {G : Type 0} (n m : ℕ) → (n < m → G) → (n ≡ m → G) → (m
 by_order n m f g h =
     elim (cases_order n m) [ inl e ↦ g e | inr d ↦ elim d [ inl e ↦ f e | inr e ↦ h e ] ]
 
--- a test on two numbers, and their comparison
-same_test : (m n : ℕ) → (m == n) ≡ is_eq (nat_cmp n m)
-same_test m n =
+-- a test on two numbers, and their comparison, either way round
+equal_tests : (m n : ℕ) → ((m == n) ≡ is_eq (nat_cmp n m)) × ((n == m) ≡ is_eq (nat_cmp n m))
+equal_tests m n =
     by_order n m
-    (λ (e : n < m). grind (arith, nat_tests))
-    (λ (e : n ≡ m). grind (arith, nat_tests))
-    (λ (e : m < n). grind (arith, nat_tests))
-
--- the same test, the other way round
-epoch_test : (m n : ℕ) → (n == m) ≡ is_eq (nat_cmp n m)
-epoch_test m n =
-    by_order n m
-    (λ (e : n < m). grind (arith, nat_tests))
-    (λ (e : n ≡ m). grind (arith, nat_tests))
-    (λ (e : m < n). grind (arith, nat_tests))
+    (λ (e : n < m). (grind (arith, nat_tests), grind (arith, nat_tests)))
+    (λ (e : n ≡ m). (grind (arith, nat_tests), grind (arith, nat_tests)))
+    (λ (e : m < n). (grind (arith, nat_tests), grind (arith, nat_tests)))
 
 -- below the next number is not above this one
 next_test : (m n : ℕ) → is_lt (nat_cmp n (m + 1)) ≡ is_le (nat_cmp n m)
@@ -103,11 +95,11 @@ raised_by : (m n : ℕ) (high : Option (List ℕ)) (rest more : List ℕ) → Fi
     ≡ (is_below_raised (raised_first m high) (n ∷ more)
     && not (is_lt (ordering_then (nat_cmp n m) (release_cmp more rest))))
 raised_by m n (Some high) rest more h e =
-    (λ i. same_test m n i && begins_padded rest more)
+    (λ i. (equal_tests m n).0 i && begins_padded rest more)
     ∙ same_by (nat_cmp n m) (release_cmp more high) (release_cmp more rest)
     (begins_padded rest more) e
 raised_by m n None rest more h e =
-    (λ i. same_test m n i && begins_padded rest more)
+    (λ i. (equal_tests m n).0 i && begins_padded rest more)
     ∙ by_answer (nat_lt m last) can_raise cannot_raise
   where
     can_raise : nat_lt m last ≡ true
@@ -210,7 +202,7 @@ end_by epoch prefix None v h e = by_answer (nat_lt epoch last) can_raise cannot_
 pub prefix-under : (p : Prefix) (v : Version) → IsVersion v
     → has_prefix p v ≡ (is_under (prefix_end p) v && not (is_under (before_prefix p) v))
 prefix-under p v h =
-    (λ i. epoch_test p.epoch v.epoch i && begins_padded p.release v.release)
+    (λ i. (equal_tests p.epoch v.epoch).1 i && begins_padded p.release v.release)
     ∙ end_by p.epoch p.release (raised p.release) v h.numbers.epoch
     (begins-raised p.release v.release h.numbers.release)
     ∙ (λ i. is_under (prefix_end p) v && not (sym (under-before_dev p.epoch p.release v) i))

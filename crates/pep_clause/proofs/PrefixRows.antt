@@ -10,7 +10,8 @@ use Rattle.std.specs.Ordering.{is_lt}
 use Rattle.std.specs.Prelude.{if◌then◌else◌}
 use Rattle.std.specs.declared.cmp.Ordering.TheVariants.{Less}
 use Rattle.pep_version.specs.Order.{is_below, place_of, short_release, without_end_zeros}
-use Rattle.pep_version.specs.Version.{Fits, IsVersion, Version, is_empty}
+use Rattle.pep_version.specs.Version.{Fits, IsVersion, Version}
+use Rattle.texts.specs.Lists.{is_empty}
 use Rattle.specifiers.specs.Admits.{admits, begins_padded, compatible_prefix, has_prefix}
 use Rattle.pep_clause.proofs.Between.{below-not_above, less_told}
 use Rattle.specifiers.specs.Clause.{Prefix, compatible, excluding_prefix, matching_prefix}
@@ -27,7 +28,7 @@ use Rattle.pep_clause.proofs.RangeRows.{IsNormal-outside, outside-row, range-row
 use Rattle.pep_clause.proofs.Rows.{IsCut-before_place, IsVersion-with_dev, is_below-place_of}
 use Rattle.pep_clause.proofs.Rows.{is_below-public}
 use Rattle.pep_version.proofs.PlaceLemmas.{place-version}
-use Rattle.pep_version.proofs.Connectives.{and_first, and_not_parts}
+use Rattle.texts.proofs.Connectives.{and_first, and_not_parts}
 use Rattle.pep_clause.proofs.OrderRows.{next_fits}
 use Rattle.specifiers.proofs.FinalVersion.{IsVersion-release}
 use Rattle.pep_version.specs.Laws.{positive}

@@ -2,7 +2,7 @@
 use Rattle.std.proofs.Common.{◌≡◌, ℕ, ◌+◌, ◌-◌, ◌≤◌, Bool, true, false, List, [], ◌∷◌, ◌++◌, Option}
 use Rattle.std.proofs.Common.{Some, None, length, take, get_or, nat_lt, refl, ap, ◌∙◌}
 use Rattle.std.proofs.Common.{if◌then◌else◌}
-use Rattle.pep_version.proofs.ListLemmas.{last-shape}
+use Rattle.texts.proofs.ListLemmas.{last-shape}
 use Rattle.pep_clause.specs.OperatorTable.{last, raised, raised_first}
 
 -- the number above, unless the number is the largest

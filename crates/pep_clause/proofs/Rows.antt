@@ -20,7 +20,7 @@ use Rattle.pep_version.specs.Order.{short_release, stage_of, suffix_cmp, without
 use Rattle.pep_version.specs.Version.{IsVersion, Segment, Version}
 use Rattle.specifiers.specs.Admits.{admits}
 use Rattle.pep_clause.proofs.Between.{not_above-test}
-use Rattle.pep_version.proofs.Connectives.{by_answer, or-false, and-true}
+use Rattle.texts.proofs.Connectives.{by_answer, or-false, and-true}
 use Rattle.specifiers.specs.Clause.{Prefix, at_least, less_than}
 use Rattle.pep_clause.specs.Cut.{Cut, IsCut, before, after, past, end, cut_cmp, final_version}
 use Rattle.pep_clause.specs.Cut.{is_under, least}

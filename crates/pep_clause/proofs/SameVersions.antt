@@ -2,9 +2,9 @@
 -- two cuts.
 use Rattle.std.proofs.Common.{◌≡◌, ◌↔◌, ◌&&◌, Bool, true, false, not, List, [], ◌∷◌, refl, sym, ap}
 use Rattle.std.proofs.Common.{◌∙◌}
-use Rattle.pep_version.proofs.Connectives.{and_parts, by_answer, and_not_first, and_not_or}
-use Rattle.pep_version.proofs.Connectives.{not-true, or_parts, or_right, or_second, and_left}
-use Rattle.pep_version.proofs.Connectives.{and_not_right, or_from}
+use Rattle.texts.proofs.Connectives.{and_parts, by_answer, and_not_first, and_not_or}
+use Rattle.texts.proofs.Connectives.{not-true, or_parts, or_right, or_second, and_left}
+use Rattle.texts.proofs.Connectives.{and_not_right, or_from}
 use Rattle.std.specs.Ordering.{is_eq, is_lt}
 use Rattle.std.specs.Prelude.{IsTrue}
 use Rattle.std.specs.declared.cmp.Ordering.{Ordering}

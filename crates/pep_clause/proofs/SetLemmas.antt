@@ -5,7 +5,7 @@ use Rattle.std.specs.Prelude.{IsTrue}
 use Rattle.std.specs.declared.cmp.Ordering.{Ordering}
 use Rattle.std.specs.declared.cmp.Ordering.TheVariants.{Less, Equal, Greater}
 use Rattle.pep_version.specs.Order.{place_of}
-use Rattle.pep_version.proofs.ListLemmas.{is_empty-length}
+use Rattle.texts.proofs.ListLemmas.{is_empty-length}
 use Rattle.pep_version.specs.Version.{IsVersion, Version}
 use Rattle.specifiers.specs.declared.clause.ClauseForm.{ClauseForm}
 use Rattle.specifiers.specs.declared.clause.ClauseForm.TheVariants as stored

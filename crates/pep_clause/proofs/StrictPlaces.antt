@@ -22,7 +22,7 @@ use Rattle.pep_clause.proofs.NextPlace.{without_label}
 use Rattle.pep_clause.proofs.OrderRows.{dev-not_below_first, label-not_below, then_neither}
 use Rattle.pep_clause.proofs.Rows.{is_below-place_of, is_below-public, is_in-from_least}
 use Rattle.pep_clause.proofs.Rows.{less_than-row}
-use Rattle.pep_version.proofs.Connectives.{and-false, and-true}
+use Rattle.texts.proofs.Connectives.{and-false, and-true}
 
 -- ---- greater than a version
 

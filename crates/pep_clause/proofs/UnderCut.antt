@@ -1,35 +1,37 @@
 -- A version is under a cut exactly if the cut directly before it is below that cut. So a version is
 -- in a list exactly if the cut before it is a point.
 use Rattle.std.proofs.Common.{◌≡◌, ◌&&◌, ◌||◌, ◌==◌, List, [], ◌∷◌, Bool, true, false, cond, not}
-use Rattle.std.proofs.Common.{nat_lt, refl}
+use Rattle.std.proofs.Common.{nat_lt, refl, ap, ◌∙◌}
 use Rattle.std.specs.Ordering.{is_le, is_lt, nat_cmp, ordering_then}
 use Rattle.std.specs.declared.cmp.Ordering.{Ordering}
 use Rattle.std.specs.declared.cmp.Ordering.TheVariants.{Less, Equal, Greater}
 use Rattle.pep_version.specs.Order.{release_cmp, suffix_cmp}
 use Rattle.pep_version.specs.Version.{Version}
+use Rattle.pep_version.proofs.ByteOrderLemmas.{then_assoc}
 use Rattle.pep_clause.specs.Cut.{Cut, before, after, past, end, cut_cmp, is_under}
 use Rattle.pep_clause.specs.VersionSet.{Range, is_in, is_point}
+
+then_equal : (s : Ordering) → s ≡ ordering_then s Equal
+then_equal Less = refl
+then_equal Equal = refl
+then_equal Greater = refl
+
+le_then : (s : Ordering) → is_le s ≡ is_lt (ordering_then s Less)
+le_then Less = refl
+le_then Equal = refl
+le_then Greater = refl
 
 -- below a version, and not above it, by place and by what is behind
 below_both : (e r s : Ordering) → is_lt (ordering_then (ordering_then e r) s)
     ≡ is_lt (ordering_then e (ordering_then r (ordering_then s Equal)))
-below_both Less r s = refl
-below_both Greater r s = refl
-below_both Equal Less s = refl
-below_both Equal Greater s = refl
-below_both Equal Equal Less = refl
-below_both Equal Equal Equal = refl
-below_both Equal Equal Greater = refl
+below_both e r s =
+    ap is_lt (then_assoc e r s) ∙ ap (λ t. is_lt (ordering_then e (ordering_then r t))) (then_equal s)
 
 not_above_both : (e r s : Ordering) → is_le (ordering_then (ordering_then e r) s)
     ≡ is_lt (ordering_then e (ordering_then r (ordering_then s Less)))
-not_above_both Less r s = refl
-not_above_both Greater r s = refl
-not_above_both Equal Less s = refl
-not_above_both Equal Greater s = refl
-not_above_both Equal Equal Less = refl
-not_above_both Equal Equal Equal = refl
-not_above_both Equal Equal Greater = refl
+not_above_both e r s =
+    le_then (ordering_then (ordering_then e r) s)
+    ∙ ap is_lt (then_assoc (ordering_then e r) s Less ∙ then_assoc e r (ordering_then s Less))
 
 within_both : (less same : Bool) (r : Ordering)
     → (less || (same && is_le r)) ≡ is_lt (ordering_then (cond less Less (cond same Equal Greater))

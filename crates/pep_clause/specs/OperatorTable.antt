@@ -7,7 +7,8 @@ use Rattle.std.specs.Ordering.{is_lt}
 use Rattle.pep_version.specs.declared.parts.Phase.{Phase}
 use Rattle.pep_version.specs.declared.parts.Phase.TheVariants.{Alpha, Beta, Rc}
 use Rattle.pep_version.specs.Order.{place_of, short_release, without_dev, without_post, without_pre}
-use Rattle.pep_version.specs.Version.{Version, is_empty, is_pre_release}
+use Rattle.pep_version.specs.Version.{Version, is_pre_release}
+use Rattle.texts.specs.Lists.{is_empty}
 use Rattle.specifiers.specs.Admits.{compatible_prefix}
 use Rattle.specifiers.specs.Clause.{Clause, Prefix, compatible, matching, matching_prefix}
 use Rattle.specifiers.specs.Clause.{excluding, excluding_prefix, at_most, at_least, less_than}

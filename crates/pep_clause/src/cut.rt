@@ -21,6 +21,7 @@ ghost use Rattle.std.specs.Cmp.{
 ghost use Rattle.std.specs.Ordering.{as_partial_cmp, eq_by_cmp, is_le};
 ghost use Rattle.std.specs.declared.cmp.Ordering.TheVariants.{Less, Equal, Greater};
 ghost use Rattle.pep_version.specs.Order.{place_of};
+ghost use Rattle.pep_version.specs.Version.{IsVersion};
 ghost use Rattle.pep_clause.specs.Cut.{
   IsCut,
   after,
@@ -84,6 +85,18 @@ impl Cut {
         Cut::before_suffixed(alloc, version, version.pre(), version.post(), version.dev())
     }
 
+    // The cut directly before the version at this place, whose bytes are the key's.
+    fn before_key(key: Key) -> Cut
+        requires version { IsVersion key }
+        requires own_place { place_of key ≡ key }
+        ensures place { result ≡ before key }
+        ensures spelled { IsCut result }
+    {
+        Cut {
+            bytes: Some(key.into_bytes()),
+        }
+    }
+
     /// The cut directly before the version with these suffixes in place of its own.
     pub(crate) fn before_suffixed(
         alloc: Global,
@@ -102,9 +115,7 @@ impl Cut {
         ensures faults { IfErr result (λ e. e ≡ ClauseFault.NoMemory) }
     {
         let key = Key::with_suffixes(alloc, version, pre, post, dev)?;
-        Ok(Cut {
-            bytes: Some(key.into_bytes()),
-        })
+        Ok(Cut::before_key(key))
     }
 
     /// The cut before the first developmental release of a release, and so before all its
@@ -116,9 +127,7 @@ impl Cut {
         ensures faults { IfErr result (λ e. e ≡ ClauseFault.NoMemory) }
     {
         let key = Key::of_release(alloc, epoch, release, Some(0))?;
-        Ok(Cut {
-            bytes: Some(key.into_bytes()),
-        })
+        Ok(Cut::before_key(key))
     }
 
     /// The cut directly after a version with a label and all that are the same in order.

@@ -10,4 +10,4 @@ mod set;
 pub use crate::cut::Cut;
 pub use crate::range::Range;
 pub use crate::set::VersionSet;
-pub use specifiers::{Clause, ClauseFault, Op, clause_run, is_clause_byte};
+pub use specifiers::{Clause, ClauseFault, Op};

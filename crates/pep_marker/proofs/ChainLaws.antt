@@ -1,14 +1,17 @@
 -- The chains at the front of a list of tokens: there is at most one, and it is the grammar's.
-use Rattle.std.proofs.Common.{◌≡◌, ℕ, suc, ◌≤◌, ◌<◌, true, false, List, [], ◌∷◌}
+use Rattle.std.proofs.Common.{◌≡◌, ℕ, suc, ◌+◌, ◌≤◌, ◌<◌, true, false, List, [], ◌∷◌}
 use Rattle.std.proofs.Common.{◌++◌, length, refl, ap, sym, subst, ◌∙◌, arith, append_assoc}
 use Rattle.std.proofs.Common.{append-nil}
-use Rattle.pep_marker.specs.Marker.{MarkerParts, and, or, comparisons, Token, open_parenthesis}
+use Rattle.pep_marker.specs.Marker.{MarkerParts, comparisons, Token, open_parenthesis}
 use Rattle.pep_marker.specs.Marker.{close_parenthesis, and_word, or_word, operand, operator}
 use Rattle.pep_marker.specs.Marker.{IsOrChain, one_chain, or_chain, IsAndChain, one_item, and_chain}
 use Rattle.pep_marker.specs.Marker.{IsItem, comparison, parentheses}
-use Rattle.pep_marker.specs.Chains.{ItemFrom, comparison_from, parentheses_from, AndFrom, and_from}
-use Rattle.pep_marker.specs.Chains.{AndRest, and_end, and_more, OrFrom, or_from, OrRest, or_end}
-use Rattle.pep_marker.specs.Chains.{or_more, ends_and, ends_or}
+use Rattle.pep_marker.specs.Chains.{ItemFrom, comparison_from, parentheses_from, PartFrom}
+use Rattle.pep_marker.specs.Chains.{item_part, chain_part, ChainFrom, parts_from, RestFrom}
+use Rattle.pep_marker.specs.Chains.{rest_end, rest_more, ends, ends_and, ends_or, part_ends, joined}
+use Rattle.pep_marker.specs.Chains.{link_word}
+use Rattle.pep_marker.specs.declared.chains.Link.{Link}
+use Rattle.pep_marker.specs.declared.chains.Link.TheVariants.{And, Or}
 
 -- ---- at most one
 
@@ -22,187 +25,205 @@ tail (t ∷ ts) = ts
 pub never : {A : Type 0} → false ≡ true → A
 never e = absurd (cc e)
 
-pub moved_and : {d : ℕ} {m n k : MarkerParts} {ts us r : List Token} → m ≡ n → ts ≡ us →
-    AndRest d n us k r → AndRest d m ts k r
-moved_and {d} {m} {n} {k} {ts} {us} {r} e f c =
-    subst (λ x. AndRest d x ts k r) (sym e) (subst (λ x. AndRest d n x k r) (sym f) c)
+pub moved : {l : Link} {d : ℕ} {m n k : MarkerParts} {ts us r : List Token} → m ≡ n → ts ≡ us →
+    RestFrom l d n us k r → RestFrom l d m ts k r
+moved {l} {d} {m} {n} {k} {ts} {us} {r} e f c =
+    subst (λ x. RestFrom l d x ts k r) (sym e) (subst (λ x. RestFrom l d n x k r) (sym f) c)
 
-pub moved_or : {d : ℕ} {m n k : MarkerParts} {ts us r : List Token} → m ≡ n → ts ≡ us →
-    OrRest d n us k r → OrRest d m ts k r
-moved_or {d} {m} {n} {k} {ts} {us} {r} e f c =
-    subst (λ x. OrRest d x ts k r) (sym e) (subst (λ x. OrRest d n x k r) (sym f) c)
+-- where a link's word stands its chain goes on
+pub goes_on : {A : Type 0} (l : Link) (ts vs : List Token) → vs ≡ link_word l ∷ ts →
+    ends l vs ≡ true → A
+goes_on And ts vs e f = never (sym (ap ends_and e) ∙ f)
+goes_on Or ts vs e f = never (sym (ap ends_or e) ∙ f)
 
--- behind an and-chain that an or-chain follows, no `and` stands
-pub ends_and-or_rest : {d : ℕ} {m k : MarkerParts} {ts r : List Token} → OrRest d m ts k r →
-    ends_or r ≡ true → ends_and ts ≡ true
-ends_and-or_rest (or_end {rest = rest}) f = ends rest f
-  where
-    ends : (ts : List Token) → ends_or ts ≡ true → ends_and ts ≡ true
-    ends [] f = refl
-    ends (and_word ∷ ts) f = f
-    ends (or_word ∷ ts) f = refl
-    ends (open_parenthesis ∷ ts) f = refl
-    ends (close_parenthesis ∷ ts) f = refl
-    ends (operand o ∷ ts) f = refl
-    ends (operator o ∷ ts) f = refl
-ends_and-or_rest (or_more c e) f = refl
+-- where a chain ends its last part does
+ends_part : (l : Link) (ts : List Token) → ends l ts ≡ true → part_ends l ts ≡ true
+ends_part And ts f = refl
+ends_part Or [] f = refl
+ends_part Or (and_word ∷ ts) f = f
+ends_part Or (or_word ∷ ts) f = refl
+ends_part Or (open_parenthesis ∷ ts) f = refl
+ends_part Or (close_parenthesis ∷ ts) f = refl
+ends_part Or (operand o ∷ ts) f = refl
+ends_part Or (operator o ∷ ts) f = refl
+
+word_ends_part : (l : Link) (ts : List Token) → part_ends l (link_word l ∷ ts) ≡ true
+word_ends_part And ts = refl
+word_ends_part Or ts = refl
+
+-- a part that a chain goes on behind has ended
+pub part_ends-rest : {l : Link} {d : ℕ} {m k : MarkerParts} {ts r : List Token} →
+    RestFrom l d m ts k r → ends l r ≡ true → part_ends l ts ≡ true
+part_ends-rest {l = l} (rest_end {rest = rest}) f = ends_part l rest f
+part_ends-rest {l = l} (rest_more {ts = us} e i c) f =
+    subst (λ x. part_ends l x ≡ true) (sym e) (word_ends_part l us)
+
+-- the tokens behind one word
+pub behind_one : {d : ℕ} {l : Link} {m : MarkerParts} {ts us vs r : List Token} →
+    vs ≡ link_word l ∷ ts → vs ≡ link_word l ∷ us → PartFrom l d us m r → PartFrom l d ts m r
+behind_one {d} {l} {m} {ts} {us} {vs} {r} e f i =
+    subst (λ x. PartFrom l d x m r) (ap tail (sym f ∙ e)) i
 
 mutual
   pub same_item : {d : ℕ} {ts r s : List Token} {m n : MarkerParts} → ItemFrom d ts m r →
       ItemFrom d ts n s → Same m n r s
   same_item comparison_from comparison_from = (refl, refl)
   same_item (parentheses_from c) (parentheses_from e) =
-      let same = same_or c e refl refl in (same.0, ap tail same.1)
+      let same = same_chain c e refl refl in (same.0, ap tail same.1)
 
-  pub same_and : {d : ℕ} {ts r s : List Token} {m n : MarkerParts} → AndFrom d ts m r →
-      AndFrom d ts n s → ends_and r ≡ true → ends_and s ≡ true → Same m n r s
-  same_and (and_from i c) (and_from j e) f g =
-      let same = same_item i j in same_and_rest c (moved_and same.0 same.1 e) f g
+  pub same_part : {l : Link} {d : ℕ} {ts r s : List Token} {m n : MarkerParts} →
+      PartFrom l d ts m r → PartFrom l d ts n s → part_ends l r ≡ true → part_ends l s ≡ true →
+      Same m n r s
+  same_part (item_part i) (item_part j) f g = same_item i j
+  same_part (chain_part c) (chain_part e) f g = same_chain c e f g
 
-  pub same_and_rest : {d : ℕ} {ts r s : List Token} {m k l : MarkerParts} → AndRest d m ts k r →
-      AndRest d m ts l s → ends_and r ≡ true → ends_and s ≡ true → Same k l r s
-  same_and_rest and_end and_end f g = (refl, refl)
-  same_and_rest and_end (and_more j e) f g = never f
-  same_and_rest (and_more i c) and_end f g = never g
-  same_and_rest {m = m} (and_more i c) (and_more j e) f g =
-      let same = same_item i j in
-      same_and_rest c (moved_and (ap (λ n. and m n) same.0) same.1 e) f g
+  pub same_chain : {l : Link} {d : ℕ} {ts r s : List Token} {m n : MarkerParts} →
+      ChainFrom l d ts m r → ChainFrom l d ts n s → ends l r ≡ true → ends l s ≡ true →
+      Same m n r s
+  same_chain (parts_from i c) (parts_from j e) f g =
+      let same = same_part i j (part_ends-rest c f) (part_ends-rest e g) in
+      same_rest c (moved same.0 same.1 e) f g
 
-  pub same_or : {d : ℕ} {ts r s : List Token} {m n : MarkerParts} → OrFrom d ts m r →
-      OrFrom d ts n s → ends_or r ≡ true → ends_or s ≡ true → Same m n r s
-  same_or (or_from i c) (or_from j e) f g =
-      let same = same_and i j (ends_and-or_rest c f) (ends_and-or_rest e g) in
-      same_or_rest c (moved_or same.0 same.1 e) f g
-
-  pub same_or_rest : {d : ℕ} {ts r s : List Token} {m k l : MarkerParts} → OrRest d m ts k r →
-      OrRest d m ts l s → ends_or r ≡ true → ends_or s ≡ true → Same k l r s
-  same_or_rest or_end or_end f g = (refl, refl)
-  same_or_rest or_end (or_more j e) f g = never f
-  same_or_rest (or_more i c) or_end f g = never g
-  same_or_rest {m = m} (or_more i c) (or_more j e) f g =
-      let same = same_and i j (ends_and-or_rest c f) (ends_and-or_rest e g) in
-      same_or_rest c (moved_or (ap (λ n. or m n) same.0) same.1 e) f g
+  same_rest : {l : Link} {d : ℕ} {ts r s : List Token} {m j k : MarkerParts} →
+      RestFrom l d m ts j r → RestFrom l d m ts k s → ends l r ≡ true → ends l s ≡ true →
+      Same j k r s
+  same_rest rest_end rest_end f g = (refl, refl)
+  same_rest {l = l} rest_end (rest_more e i c) f g = goes_on l _ _ e f
+  same_rest {l = l} (rest_more e i c) rest_end f g = goes_on l _ _ e g
+  same_rest {l = l} {m = m} (rest_more e i c) (rest_more h j b) f g =
+      let same = same_part i (behind_one e h j) (part_ends-rest c f) (part_ends-rest b g) in
+      same_rest c (moved (ap (λ n. joined l m n) same.0) same.1 b) f g
 
 -- ---- what is read is in the grammar
 
+abbrev pub IsPart : Link → ℕ → List Token → MarkerParts → Type 0
+IsPart And d ts m = IsItem d ts m
+IsPart Or d ts m = IsAndChain d ts m
+
+abbrev pub IsChain : Link → ℕ → List Token → MarkerParts → Type 0
+IsChain And d ts m = IsAndChain d ts m
+IsChain Or d ts m = IsOrChain d ts m
+
+first_part : (l : Link) (d : ℕ) (ts : List Token) (m : MarkerParts) → IsPart l d ts m →
+    IsChain l d ts m
+first_part And d ts m i = one_item i
+first_part Or d ts m c = one_chain c
+
+next_part : (l : Link) (d : ℕ) (ts us : List Token) (m n : MarkerParts) → IsChain l d ts m →
+    IsPart l d us n → IsChain l d (ts ++ link_word l ∷ us) (joined l m n)
+next_part And d ts us m n c i = and_chain ts us c i
+next_part Or d ts us m n c i = or_chain ts us c i
+
 mutual
-  pub item_grammar : {d : ℕ} {ts rest : List Token} {m : MarkerParts} → ItemFrom d ts m rest →
+  item_grammar : {d : ℕ} {ts rest : List Token} {m : MarkerParts} → ItemFrom d ts m rest →
       (used : List Token) × (ts ≡ used ++ rest) × IsItem d used m
   item_grammar (comparison_from {depth = d} {l = l} {r = r} {o = o}) =
       (operand l ∷ operator o ∷ operand r ∷ [], refl, comparison d l r o)
   item_grammar (parentheses_from {rest = rest} c) =
-      let (used, e, g) = or_grammar c in (
+      let (used, e, g) = chain_grammar c in (
         open_parenthesis ∷ used ++ close_parenthesis ∷ [],
         ap (λ x. open_parenthesis ∷ x)
             (e ∙ sym (append_assoc used (close_parenthesis ∷ []) rest)),
         parentheses used g,
       )
 
-  pub and_grammar : {d : ℕ} {ts rest : List Token} {m : MarkerParts} → AndFrom d ts m rest →
-      (used : List Token) × (ts ≡ used ++ rest) × IsAndChain d used m
-  and_grammar (and_from i c) =
-      let (front, e, g) = item_grammar i in
-      let (used, f, h) = and_rest_grammar c front (one_item g) in
+  part_grammar : {l : Link} {d : ℕ} {ts rest : List Token} {m : MarkerParts} →
+      PartFrom l d ts m rest → (used : List Token) × (ts ≡ used ++ rest) × IsPart l d used m
+  part_grammar (item_part i) = item_grammar i
+  part_grammar (chain_part c) = chain_grammar c
+
+  pub chain_grammar : {l : Link} {d : ℕ} {ts rest : List Token} {m : MarkerParts} →
+      ChainFrom l d ts m rest → (used : List Token) × (ts ≡ used ++ rest) × IsChain l d used m
+  chain_grammar {l = l} {d = d} (parts_from {n = n} i c) =
+      let (front, e, g) = part_grammar i in
+      let (used, f, h) = rest_grammar c front (first_part l d front n g) in
       (used, e ∙ f, h)
 
-  pub and_rest_grammar : {d : ℕ} {ts rest : List Token} {m k : MarkerParts} →
-      AndRest d m ts k rest → (front : List Token) → IsAndChain d front m →
-      (used : List Token) × (front ++ ts ≡ used ++ rest) × IsAndChain d used k
-  and_rest_grammar and_end front g = (front, refl, g)
-  and_rest_grammar (and_more {us = us} i c) front g =
-      let (item, e, h) = item_grammar i in
-      let chain = and_chain front item g h in
-      let (used, f, k) = and_rest_grammar c (front ++ and_word ∷ item) chain in (
-        used,
-        ap (λ x. front ++ and_word ∷ x) e ∙ sym (append_assoc front (and_word ∷ item) us) ∙ f,
-        k,
-      )
-
-  pub or_grammar : {d : ℕ} {ts rest : List Token} {m : MarkerParts} → OrFrom d ts m rest →
-      (used : List Token) × (ts ≡ used ++ rest) × IsOrChain d used m
-  or_grammar (or_from i c) =
-      let (front, e, g) = and_grammar i in
-      let (used, f, h) = or_rest_grammar c front (one_chain g) in
-      (used, e ∙ f, h)
-
-  pub or_rest_grammar : {d : ℕ} {ts rest : List Token} {m k : MarkerParts} →
-      OrRest d m ts k rest → (front : List Token) → IsOrChain d front m →
-      (used : List Token) × (front ++ ts ≡ used ++ rest) × IsOrChain d used k
-  or_rest_grammar or_end front g = (front, refl, g)
-  or_rest_grammar (or_more {us = us} i c) front g =
-      let (chain, e, h) = and_grammar i in
-      let (used, f, k) = or_rest_grammar c (front ++ or_word ∷ chain) (or_chain front chain g h) in
-      let moved = sym (append_assoc front (or_word ∷ chain) us) in
-      (used, ap (λ x. front ++ or_word ∷ x) e ∙ moved ∙ f, k)
+  rest_grammar : {l : Link} {d : ℕ} {ts rest : List Token} {m k : MarkerParts} →
+      RestFrom l d m ts k rest → (front : List Token) → IsChain l d front m →
+      (used : List Token) × (front ++ ts ≡ used ++ rest) × IsChain l d used k
+  rest_grammar rest_end front g = (front, refl, g)
+  rest_grammar {l = l} {d = d} {m = m} (rest_more {us = us} {n = n} e i c) front g =
+      let (part, f, h) = part_grammar i in
+      let longer = front ++ link_word l ∷ part in
+      let (used, q, k) = rest_grammar c longer (next_part l d front part m n g h) in
+      let moved = sym (append_assoc front (link_word l ∷ part) us) in
+      (used, ap (λ x. front ++ x) (e ∙ ap (λ x. link_word l ∷ x) f) ∙ moved ∙ q, k)
 
 -- ---- what is in the grammar is read
 
+-- two parts of a chain, with what is behind them
+longer : {d : ℕ} {k : MarkerParts} {r : List Token} (l : Link) (ts us rest : List Token) →
+    ChainFrom l d (ts ++ (link_word l ∷ us ++ rest)) k r →
+    ChainFrom l d ((ts ++ link_word l ∷ us) ++ rest) k r
+longer {d} {k} {r} l ts us rest =
+    subst (λ x. ChainFrom l d x k r) (sym (append_assoc ts (link_word l ∷ us) rest))
+
 mutual
-  pub item_from : {d : ℕ} {ts : List Token} {m : MarkerParts} → IsItem d ts m →
+  item_from : {d : ℕ} {ts : List Token} {m : MarkerParts} → IsItem d ts m →
       (rest : List Token) → ItemFrom d (ts ++ rest) m rest
   item_from (comparison d l r o) rest = comparison_from
   item_from (parentheses {depth = d} {m = m} ts c) rest =
       subst (λ x. ItemFrom (suc d) (open_parenthesis ∷ x) m rest)
       (sym (append_assoc ts (close_parenthesis ∷ []) rest))
-      (parentheses_from (chain_from c (close_parenthesis ∷ rest) or_end))
+      (parentheses_from (or_chain_from c (close_parenthesis ∷ rest) rest_end))
 
-  pub and_chain_from : {d : ℕ} {ts : List Token} {m k : MarkerParts} {r : List Token} →
-      IsAndChain d ts m → (rest : List Token) → AndRest d m rest k r →
-      AndFrom d (ts ++ rest) k r
-  and_chain_from (one_item i) rest c = and_from (item_from i rest) c
-  and_chain_from {d = d} {k = k} {r = r} (and_chain ts us g i) rest c =
-      subst (λ x. AndFrom d x k r) (sym (append_assoc ts (and_word ∷ us) rest))
-      (and_chain_from g (and_word ∷ us ++ rest) (and_more (item_from i rest) c))
+  and_chain_from : {d : ℕ} {ts : List Token} {m k : MarkerParts} {r : List Token} →
+      IsAndChain d ts m → (rest : List Token) → RestFrom And d m rest k r →
+      ChainFrom And d (ts ++ rest) k r
+  and_chain_from (one_item i) rest c = parts_from (item_part (item_from i rest)) c
+  and_chain_from (and_chain ts us g i) rest c =
+      longer And ts us rest
+      (and_chain_from g (and_word ∷ us ++ rest) (rest_more refl (item_part (item_from i rest)) c))
 
-  pub chain_from : {d : ℕ} {ts : List Token} {m k : MarkerParts} {r : List Token} →
-      IsOrChain d ts m → (rest : List Token) → OrRest d m rest k r → OrFrom d (ts ++ rest) k r
-  chain_from (one_chain i) rest c = or_from (and_chain_from i rest and_end) c
-  chain_from {d = d} {k = k} {r = r} (or_chain ts us g i) rest c =
-      subst (λ x. OrFrom d x k r) (sym (append_assoc ts (or_word ∷ us) rest))
-      (chain_from g (or_word ∷ us ++ rest) (or_more (and_chain_from i rest and_end) c))
+  or_chain_from : {d : ℕ} {ts : List Token} {m k : MarkerParts} {r : List Token} →
+      IsOrChain d ts m → (rest : List Token) → RestFrom Or d m rest k r →
+      ChainFrom Or d (ts ++ rest) k r
+  or_chain_from (one_chain i) rest c = parts_from (chain_part (and_chain_from i rest rest_end)) c
+  or_chain_from (or_chain ts us g i) rest c =
+      let part = chain_part (and_chain_from i rest rest_end) in
+      longer Or ts us rest (or_chain_from g (or_word ∷ us ++ rest) (rest_more refl part c))
 
-pub whole_from : {d : ℕ} {ts : List Token} {m : MarkerParts} → IsOrChain d ts m → OrFrom d ts m []
-whole_from {d} {ts} {m} c = subst (λ x. OrFrom d x m []) (append-nil ts) (chain_from c [] or_end)
+pub whole_from : {d : ℕ} {ts : List Token} {m : MarkerParts} → IsOrChain d ts m →
+    ChainFrom Or d ts m []
+whole_from {d} {ts} {m} c =
+    subst (λ x. ChainFrom Or d x m []) (append-nil ts) (or_chain_from c [] rest_end)
 
 -- tokens are one marker
 pub one_marker_of_tokens : {d : ℕ} {ts : List Token} {m n : MarkerParts} → IsOrChain d ts m →
     IsOrChain d ts n → m ≡ n
-one_marker_of_tokens c e = (same_or (whole_from c) (whole_from e) refl refl).0
+one_marker_of_tokens c e = (same_chain (whole_from c) (whole_from e) refl refl).0
 
 -- ---- comparisons
 
-pub more_and : {d : ℕ} {ts rest : List Token} {m k : MarkerParts} → AndRest d m ts k rest →
-    comparisons m ≤ comparisons k
-more_and and_end = omega arith
-more_and (and_more i c) = omega (arith, more_and c)
+pub comparisons-joined : (l : Link) (m n : MarkerParts) →
+    comparisons (joined l m n) ≡ comparisons m + comparisons n
+comparisons-joined And m n = refl
+comparisons-joined Or m n = refl
 
-pub more_or : {d : ℕ} {ts rest : List Token} {m k : MarkerParts} → OrRest d m ts k rest →
-    comparisons m ≤ comparisons k
-more_or or_end = omega arith
-more_or (or_more i c) = omega (arith, more_or c)
+pub more : {l : Link} {d : ℕ} {ts rest : List Token} {m k : MarkerParts} →
+    RestFrom l d m ts k rest → comparisons m ≤ comparisons k
+more rest_end = omega arith
+more {l = l} {m = m} (rest_more {n = n} e i c) = omega (arith, more c, comparisons-joined l m n)
 
 -- ---- each item and chain takes a token
 
 mutual
-  pub shorter_item : {d : ℕ} {ts rest : List Token} {m : MarkerParts} → ItemFrom d ts m rest →
+  shorter_item : {d : ℕ} {ts rest : List Token} {m : MarkerParts} → ItemFrom d ts m rest →
       length rest < length ts
   shorter_item comparison_from = omega arith
-  shorter_item (parentheses_from c) = omega (arith, shorter_or c)
+  shorter_item (parentheses_from c) = omega (arith, shorter_chain c)
 
-  pub shorter_and : {d : ℕ} {ts rest : List Token} {m : MarkerParts} → AndFrom d ts m rest →
-      length rest < length ts
-  shorter_and (and_from i c) = omega (arith, shorter_item i, shorter_and_rest c)
+  pub shorter_part : {l : Link} {d : ℕ} {ts rest : List Token} {m : MarkerParts} →
+      PartFrom l d ts m rest → length rest < length ts
+  shorter_part (item_part i) = shorter_item i
+  shorter_part (chain_part c) = shorter_chain c
 
-  pub shorter_and_rest : {d : ℕ} {ts rest : List Token} {m k : MarkerParts} →
-      AndRest d m ts k rest → length rest ≤ length ts
-  shorter_and_rest and_end = omega arith
-  shorter_and_rest (and_more i c) = omega (arith, shorter_item i, shorter_and_rest c)
+  shorter_chain : {l : Link} {d : ℕ} {ts rest : List Token} {m : MarkerParts} →
+      ChainFrom l d ts m rest → length rest < length ts
+  shorter_chain (parts_from i c) = omega (arith, shorter_part i, shorter_rest c)
 
-  pub shorter_or : {d : ℕ} {ts rest : List Token} {m : MarkerParts} → OrFrom d ts m rest →
-      length rest < length ts
-  shorter_or (or_from i c) = omega (arith, shorter_and i, shorter_or_rest c)
-
-  pub shorter_or_rest : {d : ℕ} {ts rest : List Token} {m k : MarkerParts} →
-      OrRest d m ts k rest → length rest ≤ length ts
-  shorter_or_rest or_end = omega arith
-  shorter_or_rest (or_more i c) = omega (arith, shorter_and i, shorter_or_rest c)
+  shorter_rest : {l : Link} {d : ℕ} {ts rest : List Token} {m k : MarkerParts} →
+      RestFrom l d m ts k rest → length rest ≤ length ts
+  shorter_rest rest_end = omega arith
+  shorter_rest (rest_more e i c) = omega (arith, ap length e, shorter_part i, shorter_rest c)

@@ -10,7 +10,6 @@ use Rattle.std.proofs.lemmas.Str.{IsCharBoundary-after_ascii, IsCharBoundary-fro
 use Rattle.std.proofs.lemmas.Str.{IsCharBoundary-from_take, IsUtf8-drop, IsUtf8-from_ascii}
 use Rattle.std.specs.Str.{IsCharBoundary, IsUtf8}
 use Rattle.std.proofs.Common.{get_or, ◌<◌, ◌≤◌, ◌+◌, suc}
-use Rattle.pep_marker.specs.declared.environment.Variable.TheVariants as var
 use Rattle.std.specs.Prelude.{codes, bytes_eq, find, not, nat_lt, option_map}
 use Rattle.std.specs.Prelude.{if◌then◌else◌}
 use Rattle.std.specs.List.{prefix_len}
@@ -18,18 +17,20 @@ use Rattle.specifiers.proofs.OperatorLemmas.{operator_shape}
 use Rattle.specifiers.specs.Clause.{operator_of, operator_text}
 use Rattle.specifiers.specs.declared.op.Op.{Op}
 use Rattle.specifiers.specs.declared.op.Op.TheVariants as op
+use Rattle.pep_marker.proofs.VariableLemmas.{same_each}
 use Rattle.pep_marker.specs.Environment.{variable_name, variable_of, variables}
 use Rattle.pep_marker.specs.declared.environment.Variable.{Variable}
 use Rattle.pep_marker.specs.Marker.{Token, open_parenthesis, close_parenthesis, and_word, or_word}
 use Rattle.pep_marker.specs.Marker.{operand, operator, variable, text, version_operator, is_in}
 use Rattle.pep_marker.specs.Marker.{is_not_in, is_quote, is_word_byte, IsToken, ends_before}
-use Rattle.pep_marker.specs.Runs.{begins, IsBlank, is_blank_byte}
+use Rattle.texts.specs.Runs.{begins, IsBlank}
+use Rattle.texts.specs.Bytes.{is_blank_byte}
 use Rattle.pep_marker.specs.TokenReading.{next_token, word_token, text_token, operator_token}
 use Rattle.pep_marker.specs.TokenReading.{word_of, word_run, in_behind, not_in_token}
 use Rattle.pep_marker.specs.TokenReading.{is_quoted_byte}
-use Rattle.pep_marker.proofs.RunLemmas.{all-run, ascii-class, begins-rest}
+use Rattle.texts.proofs.RunLemmas.{all-run, ascii-class, begins-rest}
 use Rattle.pep_marker.proofs.TokenLaws.{found_at, same_found}
-use Rattle.pep_version.proofs.Connectives.{and_first, and_second, and_from, by_answer}
+use Rattle.texts.proofs.Connectives.{and_first, and_second, and_from, by_answer}
 
 -- the text begins with the token, which is written in so many bytes
 pub record Stands (x : List ℕ) (t : Token) (n : ℕ) : Type 0 where
@@ -315,18 +316,7 @@ ends_ascii-append (c ∷ d ∷ x) y h = ends_ascii-append (d ∷ x) y h
 
 name-ends : (v : Variable) → ends_ascii (variable_name v) ≡ true
 unfolding ends_ascii
-name-ends var.OsName = refl
-name-ends var.SysPlatform = refl
-name-ends var.PlatformMachine = refl
-name-ends var.PlatformPythonImplementation = refl
-name-ends var.PlatformRelease = refl
-name-ends var.PlatformSystem = refl
-name-ends var.PlatformVersion = refl
-name-ends var.PythonVersion = refl
-name-ends var.PythonFullVersion = refl
-name-ends var.ImplementationName = refl
-name-ends var.ImplementationVersion = refl
-name-ends var.Extra = refl
+name-ends = same_each (λ v. ends_ascii (variable_name v)) (λ v. true) refl
 
 operator-end : (o : Op) → ends_ascii (operator_text o) ≡ true
 unfolding ends_ascii

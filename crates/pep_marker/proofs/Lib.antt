@@ -1,6 +1,5 @@
 pub mod NormalNames
 pub mod NameHeadLemmas
-pub mod RunLemmas
 pub mod ChainLaws
 pub mod ChainLoops
 pub mod TokenLaws
@@ -9,6 +8,7 @@ pub mod MarkerLaws
 pub mod TokenLoop
 pub mod ChainTexts
 pub mod TokenTexts
+pub mod VariableLemmas
 pub mod SlotLemmas
 pub mod MarkerTruth
 pub mod TextTruth

@@ -6,14 +6,16 @@ use Rattle.pep_marker.specs.Marker.{MarkerParts, comparisons, Token, HasTokens, 
 use Rattle.pep_marker.specs.Marker.{IsMarker, is_word_byte, NoMarker}
 use Rattle.pep_marker.specs.Token.{token_of}
 use Rattle.pep_marker.specs.declared.token.Token as cut
-use Rattle.pep_marker.specs.Chains.{OrFrom, NoOrChain, ends_or}
-use Rattle.pep_marker.proofs.ChainLaws.{one_marker_of_tokens, or_grammar, same_or, whole_from}
+use Rattle.pep_marker.specs.Chains.{ChainFrom, NoChain, ends_or}
+use Rattle.pep_marker.specs.declared.chains.Link.TheVariants.{Or}
+use Rattle.pep_marker.proofs.ChainLaws.{chain_grammar, one_marker_of_tokens, same_chain}
+use Rattle.pep_marker.proofs.ChainLaws.{whole_from}
 use Rattle.pep_marker.proofs.ChainTexts.{or_tokens}
 use Rattle.pep_marker.proofs.TokenLaws.{one_token_list}
 use Rattle.pep_marker.proofs.TokenTexts.{Breaks, joined_texts, read_has_tokens, with_space}
-use Rattle.pep_version.proofs.Connectives.{and_first}
+use Rattle.texts.proofs.Connectives.{and_first}
 use Rattle.std.specs.List.{list_all}
-use Rattle.pep_marker.specs.Runs.{is_blank_byte}
+use Rattle.texts.specs.Bytes.{is_blank_byte}
 use Rattle.pep_marker.specs.MarkerText.{marker_text}
 use Rattle.pep_marker.specs.MarkerTokens.{marker_tokens}
 
@@ -43,7 +45,7 @@ no_tokens x none m h = none h.tokens h.written
 
 -- nor one whose tokens are no chain
 no_chain : (x : List ℕ) (ts : List Token) → HasTokens x ts →
-    ((m : MarkerParts) → OrFrom 64 ts m [] → 1024 < comparisons m) → NoMarker x
+    ((m : MarkerParts) → ChainFrom Or 64 ts m [] → 1024 < comparisons m) → NoMarker x
 no_chain x ts h none m marker =
     let more = none m (whole_from (tokens_are x ts m h marker)) in
     omega (arith, more, marker.few)
@@ -52,9 +54,9 @@ no_chain x ts h none m marker =
 
 -- what is read to its end is a marker
 pub read_marker : (x : List ℕ) (found ts : List Token) (m : MarkerParts) → ts ≡ found →
-    HasTokens x found → OrFrom 64 ts m [] → comparisons m ≤ 1024 → IsMarker x m
+    HasTokens x found → ChainFrom Or 64 ts m [] → comparisons m ≤ 1024 → IsMarker x m
 read_marker x found ts m same h c few =
-    let (used, f, g) = or_grammar c in
+    let (used, f, g) = chain_grammar c in
     record {
       tokens = used;
       written = subst (HasTokens x) (sym same ∙ f ∙ append-nil used) h;
@@ -63,23 +65,23 @@ read_marker x found ts m same h c few =
     }
 
 -- where something is left behind the chain at the front, the tokens are no chain
-pub left_behind : (ts rest : List Token) (m : MarkerParts) → OrFrom 64 ts m rest →
-    ends_or rest ≡ true → 0 < length rest → (n : MarkerParts) → OrFrom 64 ts n [] →
+pub left_behind : (ts rest : List Token) (m : MarkerParts) → ChainFrom Or 64 ts m rest →
+    ends_or rest ≡ true → 0 < length rest → (n : MarkerParts) → ChainFrom Or 64 ts n [] →
     1024 < comparisons n
 left_behind ts rest m c e some n whole =
-    let one = same_or c whole e refl in
+    let one = same_chain c whole e refl in
     omega (arith, some, ap length one.1)
 
 -- nor where there is no chain at the front
-pub none_whole : (ts : List Token) → NoOrChain 64 1024 ts → (m : MarkerParts) →
-    OrFrom 64 ts m [] → 1024 < comparisons m
+pub none_whole : (ts : List Token) → NoChain Or 64 1024 ts → (m : MarkerParts) →
+    ChainFrom Or 64 ts m [] → 1024 < comparisons m
 none_whole ts none m whole = none m [] whole refl
 
 -- there is no marker where the tokens that are found, which may not be the whole text, are no chain
 pub no_chain_of : (x : List ℕ) (found ts : List Token) (whole : Bool) → ts ≡ found →
     (whole ≡ true → HasTokens x found) →
     (whole ≡ false → (us : List Token) → ¬ HasTokens x us) →
-    ((m : MarkerParts) → OrFrom 64 ts m [] → 1024 < comparisons m) → NoMarker x
+    ((m : MarkerParts) → ChainFrom Or 64 ts m [] → 1024 < comparisons m) → NoMarker x
 no_chain_of x found ts true same h stopped none =
     no_chain x ts (subst (HasTokens x) (sym same) (h refl)) none
 no_chain_of x found ts false same h stopped none = no_tokens x (stopped refl)

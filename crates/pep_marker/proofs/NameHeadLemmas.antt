@@ -8,8 +8,9 @@ use Rattle.std.specs.declared.cmp.Ordering.TheVariants.{Less, Equal, Greater}
 use Rattle.std.proofs.lemmas.Bool.{cases_lt}
 use Rattle.std.proofs.Math.Nat.{pow-le-pow_right, pow-suc}
 use Rattle.std.specs.Cmp.Lexicographic.{nat_list_cmp_total}
-use Rattle.pep_marker.specs.Name.{IsNormalName, is_name_byte, name_cmp}
-use Rattle.pep_version.proofs.Connectives.{and_first, and_second}
+use Rattle.pep_marker.specs.Name.{IsNormalName, name_cmp}
+use Rattle.texts.specs.Bytes.{is_name_byte}
+use Rattle.texts.proofs.Connectives.{and_first, and_second}
 use Rattle.pep_marker.proofs.NormalNames.{name_byte_small}
 use Rattle.pep_marker.specs.NameHead.{behind, first, head_of, with_digits}
 

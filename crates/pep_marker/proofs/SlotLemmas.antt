@@ -1,8 +1,9 @@
 -- Lemmas on the slots from which an environment is made.
 use Rattle.std.proofs.Common.{◌≡◌, ◌≢◌, ℕ, ◌+◌, ◌<◌, Bool, true, false, List, [], ◌∷◌, ◌++◌}
 use Rattle.std.proofs.Common.{take, drop, length, get_or, set, refl, sym, ap, subst, ◌∙◌}
-use Rattle.std.proofs.Common.{drop-cons, add-one, ◌≤◌}
+use Rattle.std.proofs.Common.{drop-cons, add-one, ◌≤◌, arith}
 use Rattle.std.specs.Prelude.{Option, Some, None, find, bytes_eq, is_none, not, IsTrue, unwrap_or}
+use Rattle.std.specs.Prelude.{map, ◌&&◌}
 use Rattle.std.specs.Prelude.{if◌then◌else◌, nat_eq}
 use Rattle.std.specs.Borrow.{Bor}
 use Rattle.std.specs.List.{list_any}
@@ -10,106 +11,60 @@ use Rattle.std.specs.Option.{option_map, option_or, is_some, IfSome}
 use Rattle.std.proofs.lemmas.Bool.{false_from_ne_true}
 use Rattle.std.proofs.lemmas.Bool.Decides.{Decides-eqb, not_from_Decides}
 use Rattle.std.proofs.lemmas.List.{drop_all, take_all, get_or-set_same, get_or-set_other}
-use Rattle.std.proofs.lemmas.List.{map-append}
+use Rattle.std.proofs.lemmas.List.{ext_get_or, length-map, map-append}
+use Rattle.std.proofs.lemmas.List.FromFn.{get_or-map-range_with_len}
+use Rattle.std.proofs.Math.ListN.{get_or-map}
 use Rattle.std.proofs.lemmas.List.Folds.{find-append}
 use Rattle.std.proofs.Math.Seq.{take-suc}
-use Rattle.std.proofs.lemmas.Option.{none-some, same_Some}
+use Rattle.std.proofs.lemmas.Option.{same_Some}
 use Rattle.std.proofs.lemmas.Slice.Eq.{bytes_eq-Decides}
-use Rattle.pep_version.proofs.Connectives.{by_answer}
+use Rattle.texts.proofs.Connectives.{by_answer}
 use Rattle.pep_marker.specs.declared.environment.Variable.{Variable}
-use Rattle.pep_marker.specs.declared.environment.Variable.TheVariants.{OsName, SysPlatform}
-use Rattle.pep_marker.specs.declared.environment.Variable.TheVariants.{PlatformMachine}
-use Rattle.pep_marker.specs.declared.environment.Variable.TheVariants.{PlatformPythonImplementation}
-use Rattle.pep_marker.specs.declared.environment.Variable.TheVariants.{PlatformRelease}
-use Rattle.pep_marker.specs.declared.environment.Variable.TheVariants.{PlatformSystem}
-use Rattle.pep_marker.specs.declared.environment.Variable.TheVariants.{PlatformVersion}
-use Rattle.pep_marker.specs.declared.environment.Variable.TheVariants.{PythonVersion}
-use Rattle.pep_marker.specs.declared.environment.Variable.TheVariants.{PythonFullVersion}
-use Rattle.pep_marker.specs.declared.environment.Variable.TheVariants.{ImplementationName}
-use Rattle.pep_marker.specs.declared.environment.Variable.TheVariants.{ImplementationVersion, Extra}
 use Rattle.pep_marker.specs.declared.fault.MarkerFault.{MarkerFault}
 use Rattle.pep_marker.specs.declared.fault.MarkerFault.TheVariants.{BadValue, MissingVariable}
 use Rattle.pep_marker.specs.declared.fault.MarkerFault.TheVariants.{RepeatedVariable}
 use Rattle.pep_marker.specs.declared.fault.MarkerFault.TheVariants.{UnknownVariable}
-use Rattle.pep_marker.specs.Environment.{EnvironmentParts, IsEnvironment, Pair, environment_of}
+use Rattle.pep_marker.specs.Environment.{IsEnvironment, Pair, given}
 use Rattle.pep_marker.specs.Environment.{fault_after, is_given, is_value, missing_fault}
-use Rattle.pep_marker.specs.Environment.{pair_fault, required_variables, variable_name}
+use Rattle.pep_marker.specs.Environment.{is_required, pair_fault, place, variable_name}
 use Rattle.pep_marker.specs.Environment.{variable_of, variables}
 use Rattle.pep_marker.specs.Pairs.{pair_texts}
-use Rattle.pep_marker.specs.Slots.{HoldsPairs, HoldsValues, Slots, environment_of_slots}
-use Rattle.pep_marker.specs.Slots.{interpreter_variables, place, platform_variables, slot}
-use Rattle.pep_marker.specs.Slots.{slot_fault, slot_text, variable_fault}
+use Rattle.pep_marker.proofs.VariableLemmas.{of_own_name, one_place, variable_of-name}
+use Rattle.pep_marker.specs.Slots.{HoldsPairs, HoldsValues, Slots, slot, slot_fault, slot_texts}
+use Rattle.pep_marker.specs.Slots.{variable_fault}
 
--- ---- each variable has a place and a name of its own
+-- ---- the code's table of variables and their names
 
-at_place : (v : Variable) → get_or variables (place v) OsName ≡ v
-at_place OsName = refl
-at_place SysPlatform = refl
-at_place PlatformMachine = refl
-at_place PlatformPythonImplementation = refl
-at_place PlatformRelease = refl
-at_place PlatformSystem = refl
-at_place PlatformVersion = refl
-at_place PythonVersion = refl
-at_place PythonFullVersion = refl
-at_place ImplementationName = refl
-at_place ImplementationVersion = refl
-at_place Extra = refl
+abbrev pub Row : Type 0
+Row = Variable × Bor (List ℕ)
 
-one_place : (v w : Variable) → place v ≡ place w → v ≡ w
-one_place v w e = sym (at_place v) ∙ ap (λ n. get_or variables n OsName) e ∙ at_place w
-
-of_own_name : (v : Variable) → variable_of (variable_name v) ≡ Some v
-of_own_name OsName = refl
-of_own_name SysPlatform = refl
-of_own_name PlatformMachine = refl
-of_own_name PlatformPythonImplementation = refl
-of_own_name PlatformRelease = refl
-of_own_name PlatformSystem = refl
-of_own_name PlatformVersion = refl
-of_own_name PythonVersion = refl
-of_own_name PythonFullVersion = refl
-of_own_name ImplementationName = refl
-of_own_name ImplementationVersion = refl
-of_own_name Extra = refl
-
--- the variable of a name has this name
-found_name : (name : List ℕ) (vs : List Variable) (v : Variable) →
-    find (λ w. bytes_eq (variable_name w) name) vs ≡ Some v → name ≡ variable_name v
-found_name name [] v e = absurd (none-some v e)
-found_name name (w ∷ vs) v e = by (bytes_eq (variable_name w) name) refl (found_name name vs v)
+-- the first row that passes is that of the first variable that passes
+row_found : (q : Row → Bool) (p : Variable → Bool) (rows : List Row) →
+    map q rows ≡ map (λ r. p r.0) rows →
+    option_map (λ r. r.0) (find q rows) ≡ find p (map (λ r. r.0) rows)
+row_found q p [] same = refl
+row_found q p (r ∷ rows) same = by (p r.0) refl (row_found q p rows (cc))
   where
-    by : (p : Bool) → bytes_eq (variable_name w) name ≡ p →
-        (find (λ w. bytes_eq (variable_name w) name) vs ≡ Some v → name ≡ variable_name v) →
-        name ≡ variable_name v
-    by true is rest =
-        sym ((bytes_eq-Decides (variable_name w) name).0 is)
-        ∙ ap variable_name (same_Some _ _ (rw is at e))
-    by false is rest = rest (rw is at e)
+    here : q r ≡ p r.0
+    here = cc
 
-variable_of-name : (name : List ℕ) (v : Variable) → variable_of name ≡ Some v →
-    name ≡ variable_name v
-variable_of-name name v e = found_name name variables v e
+    by : (b : Bool) → p r.0 ≡ b →
+        option_map (λ r. r.0) (find q rows) ≡ find p (map (λ r. r.0) rows) →
+        option_map (λ r. r.0) (find q (r ∷ rows)) ≡ find p (map (λ r. r.0) (r ∷ rows))
+    by true is rest = rw (here, is) refl
+    by false is rest = rw (here, is) rest
 
--- ---- a variable by its name, in one of the two parts
-
-abbrev with_name : List ℕ → List Variable → Option Variable
-with_name name vs = find (λ v. bytes_eq (variable_name v) name) vs
-
-in_parts : (name : List ℕ) → variable_of name
-    ≡ option_or (with_name name platform_variables) (with_name name interpreter_variables)
-in_parts name =
-    find-append (λ v. bytes_eq (variable_name v) name) platform_variables interpreter_variables
-
-pub platform_found : (name : List ℕ) (v : Variable) →
-    with_name name platform_variables ≡ Some v → Some v ≡ variable_of name
-platform_found name v e =
-    sym (in_parts name ∙ ap (λ o. option_or o (with_name name interpreter_variables)) e)
-
-pub other_found : (name : List ℕ) → with_name name platform_variables ≡ None →
-    with_name name interpreter_variables ≡ variable_of name
-other_found name e =
-    sym (in_parts name ∙ ap (λ o. option_or o (with_name name interpreter_variables)) e)
+pub first_row : (q : Row → Bool) (p : Variable → Bool) (given rows : List Row)
+    (found : Option (Bor Row)) (result : Option Variable) → given ≡ rows →
+    option_map (λ r. r.now) found ≡ find q rows → result ≡ option_map (λ r. r.now.0) found →
+    map q rows ≡ map (λ r. p r.0) rows → result ≡ find p (map (λ r. r.0) rows)
+first_row q p given rows found result rest seen is same =
+    is ∙ in_row found ∙ ap (option_map (λ r. r.0)) seen ∙ row_found q p rows same
+  where
+    in_row : (o : Option (Bor Row)) →
+        option_map (λ r. r.now.0) o ≡ option_map (λ r. r.0) (option_map (λ r. r.now) o)
+    in_row None = refl
+    in_row (Some r) = refl
 
 -- ---- what is wrong with a pair
 
@@ -263,54 +218,36 @@ HoldsValues-put slots text v values good within w =
 
 -- ---- the environment of the slots
 
-slot-value : (slots : Slots) (v : Variable) → HoldsValues slots →
-    IsTrue (is_value (slot_text slots v))
-slot-value slots v values = by (slot slots v) (values v)
+text_at : (slots : Slots) (v : Variable) →
+    get_or (slot_texts slots) (place v) [] ≡ unwrap_or (slot slots v) []
+text_at slots v =
+    get_or-map (λ s. unwrap_or (option_map (λ t. t.now) s) []) slots (place v) None
+
+pub IsEnvironment-slots : (slots : Slots) (texts : List (List ℕ)) → HoldsValues slots →
+    texts ≡ slot_texts slots → IsEnvironment (record { texts = texts })
+IsEnvironment-slots slots texts values is v =
+    subst (λ x. IsTrue (is_value x)) (sym (ap (λ xs. get_or xs (place v) []) is ∙ text_at slots v))
+    (by (slot slots v) (values v))
   where
     by : (o : Option (List ℕ)) → IfSome o (λ text. IsTrue (is_value text)) →
         IsTrue (is_value (unwrap_or o []))
     by None h = refl
     by (Some text) h = h
 
-pub IsEnvironment-slots : (slots : Slots) (e : EnvironmentParts) → HoldsValues slots →
-    e ≡ environment_of_slots slots → IsEnvironment e
-IsEnvironment-slots slots e values is = subst IsEnvironment (sym is) of
-  where
-    of : IsEnvironment (environment_of_slots slots)
-    of OsName = slot-value slots OsName values
-    of SysPlatform = slot-value slots SysPlatform values
-    of PlatformMachine = slot-value slots PlatformMachine values
-    of PlatformPythonImplementation = slot-value slots PlatformPythonImplementation values
-    of PlatformRelease = slot-value slots PlatformRelease values
-    of PlatformSystem = slot-value slots PlatformSystem values
-    of PlatformVersion = slot-value slots PlatformVersion values
-    of PythonVersion = slot-value slots PythonVersion values
-    of PythonFullVersion = slot-value slots PythonFullVersion values
-    of ImplementationName = slot-value slots ImplementationName values
-    of ImplementationVersion = slot-value slots ImplementationVersion values
-    of Extra = slot-value slots Extra values
+-- what stands at the place of each variable is a whole list of twelve
+by_places : {A : Type 0} (xs : List A) (d : A) → length xs ≡ 12 →
+    xs ≡ map (λ v. get_or xs (place v) d) variables
+by_places xs d twelve =
+    ext_get_or d xs (map (λ v. get_or xs (place v) d) variables) twelve
+    (λ i within. sym (get_or-map-range_with_len (λ n. get_or xs n d) 0 12 i i d (omega arith) (omega arith)))
 
-environment_with : (Variable → List ℕ) → EnvironmentParts
-environment_with f = record {
-  os_name = f OsName;
-  sys_platform = f SysPlatform;
-  platform_machine = f PlatformMachine;
-  platform_python_implementation = f PlatformPythonImplementation;
-  platform_release = f PlatformRelease;
-  platform_system = f PlatformSystem;
-  platform_version = f PlatformVersion;
-  python_version = f PythonVersion;
-  python_full_version = f PythonFullVersion;
-  implementation_name = f ImplementationName;
-  implementation_version = f ImplementationVersion;
-  extra = f Extra;
-}
-
-pub environment_of_slots-pairs : (slots : Slots) (pairs : List Pair) → HoldsPairs slots pairs →
-    environment_of_slots slots ≡ environment_of pairs
-unfolding environment_with
-environment_of_slots-pairs slots pairs holds =
-    λ i. environment_with (λ v. unwrap_or (holds v i) [])
+pub environment_of-slots : (slots : Slots) (pairs : List Pair) → length slots ≡ 12 →
+    HoldsPairs slots pairs → slot_texts slots ≡ map (given pairs) variables
+environment_of-slots slots pairs twelve holds =
+    let each : (v : Variable) → get_or (slot_texts slots) (place v) [] ≡ given pairs v =
+    λ v. text_at slots v ∙ ap (λ o. unwrap_or o []) (holds v) in
+    by_places (slot_texts slots) [] (length-map slots _ ∙ twelve)
+    ∙ (λ i. map (λ v. each v i) variables)
 
 -- ---- the first that is missing
 
@@ -319,12 +256,12 @@ none-is_some None = refl
 none-is_some (Some a) = refl
 
 pub missing_fault-slots : (slots : Slots) (pairs : List Pair) → HoldsPairs slots pairs →
-    option_map MissingVariable (find (λ v. is_none (slot slots v)) required_variables)
-    ≡ missing_fault pairs
+    option_map MissingVariable
+    (find (λ v. is_required v && is_none (slot slots v)) variables) ≡ missing_fault pairs
 missing_fault-slots slots pairs holds =
     let each : (v : Variable) → is_none (slot slots v) ≡ not (is_given pairs (variable_name v)) =
     λ v. none-is_some (slot slots v) ∙ ap not (is_some-slot slots pairs v holds) in
-    λ i. option_map MissingVariable (find (λ v. each v i) required_variables)
+    λ i. option_map MissingVariable (find (λ v. is_required v && each v i) variables)
 
 -- ---- the pairs one after another
 

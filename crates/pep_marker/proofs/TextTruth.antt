@@ -14,7 +14,7 @@ use Rattle.std.proofs.lemmas.Bool.Decides.{same_from_decides}
 use Rattle.std.proofs.lemmas.List.{take-append-drop}
 use Rattle.std.proofs.lemmas.Map.Text.{is_eq-slice_cmp}
 use Rattle.std.proofs.lemmas.Slice.Eq.{bytes_eq-Decides}
-use Rattle.pep_version.proofs.Connectives.{by_answer, or-true, or_second}
+use Rattle.texts.proofs.Connectives.{by_answer, or-true, or_second}
 use Rattle.pep_marker.specs.Holds.{byte_order, is_part}
 
 -- ---- equal texts

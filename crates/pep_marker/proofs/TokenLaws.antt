@@ -8,19 +8,20 @@ use Rattle.std.specs.List.{list_all, prefix_len}
 use Rattle.specifiers.specs.Clause.{operator_text}
 use Rattle.specifiers.specs.declared.op.Op.{Op}
 use Rattle.specifiers.specs.declared.op.Op.TheVariants as op
+use Rattle.pep_marker.proofs.VariableLemmas.{same_each}
 use Rattle.pep_marker.specs.Environment.{variable_name}
 use Rattle.pep_marker.specs.declared.environment.Variable.{Variable}
-use Rattle.pep_marker.specs.declared.environment.Variable.TheVariants as var
 use Rattle.pep_marker.specs.Marker.{Token, open_parenthesis, close_parenthesis, and_word, or_word}
 use Rattle.pep_marker.specs.Marker.{operand, operator, variable, text, version_operator, is_in}
 use Rattle.pep_marker.specs.Marker.{is_not_in, is_quote, is_word_byte, IsToken, ends_before}
 use Rattle.pep_marker.specs.Marker.{HasTokens, is_quotable}
-use Rattle.pep_marker.specs.Runs.{begins, IsBlank, is_blank_byte, without_leading_blanks}
+use Rattle.texts.specs.Runs.{begins, IsBlank, without_leading_blanks}
+use Rattle.texts.specs.Bytes.{is_blank_byte}
 use Rattle.pep_marker.specs.TokenReading.{next_token, word_token, text_token, operator_token}
 use Rattle.pep_marker.specs.TokenReading.{word_of, word_run, in_behind}
 use Rattle.pep_marker.specs.TokenReading.{is_quoted_byte}
-use Rattle.pep_marker.proofs.RunLemmas.{prefix_len-span, run-span, rest-all, rest-span}
-use Rattle.pep_version.proofs.Connectives.{and_first, and_second, by_answer, not-true}
+use Rattle.texts.proofs.RunLemmas.{prefix_len-span, run-span, rest-all, rest-span}
+use Rattle.texts.proofs.Connectives.{and_first, and_second, by_answer, not-true}
 
 -- ---- what is written is found
 
@@ -56,18 +57,12 @@ name-is_word : (v : Variable) → (begins is_word_byte (variable_name v) ≡ tru
     × (bytes_eq (variable_name v) (codes "not") ≡ false)
     × (word_of (variable_name v) ≡ Some (operand (variable v)))
 unfolding word_of
-name-is_word var.OsName = (refl, refl, refl, refl)
-name-is_word var.SysPlatform = (refl, refl, refl, refl)
-name-is_word var.PlatformMachine = (refl, refl, refl, refl)
-name-is_word var.PlatformPythonImplementation = (refl, refl, refl, refl)
-name-is_word var.PlatformRelease = (refl, refl, refl, refl)
-name-is_word var.PlatformSystem = (refl, refl, refl, refl)
-name-is_word var.PlatformVersion = (refl, refl, refl, refl)
-name-is_word var.PythonVersion = (refl, refl, refl, refl)
-name-is_word var.PythonFullVersion = (refl, refl, refl, refl)
-name-is_word var.ImplementationName = (refl, refl, refl, refl)
-name-is_word var.ImplementationVersion = (refl, refl, refl, refl)
-name-is_word var.Extra = (refl, refl, refl, refl)
+name-is_word v = (
+  same_each (λ w. begins is_word_byte (variable_name w)) (λ w. true) refl v,
+  same_each (λ w. list_all is_word_byte (variable_name w)) (λ w. true) refl v,
+  same_each (λ w. bytes_eq (variable_name w) (codes "not")) (λ w. false) refl v,
+  same_each (λ w. word_of (variable_name w)) (λ w. Some (operand (variable w))) refl v,
+)
 
 variable-found : (v : Variable) (rest : List ℕ) → begins is_word_byte rest ≡ false →
     Finds (operand (variable v)) (variable_name v) rest

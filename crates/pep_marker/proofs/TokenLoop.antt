@@ -4,18 +4,19 @@ use Rattle.std.proofs.Common.{◌++◌, length, take, drop, map, Some, None, ref
 use Rattle.std.proofs.Common.{◌∙◌, arith, append_assoc, length-drop}
 use Rattle.std.proofs.Math.Seq.{take-append_seam, drop-append_seam}
 use Rattle.std.proofs.lemmas.List.{append-nil, drop-drop, drop_all, map-append, take-append-drop}
-use Rattle.pep_version.proofs.Connectives.{and_first}
+use Rattle.texts.proofs.Connectives.{and_first}
 use Rattle.std.proofs.lemmas.Str.{IsUtf8-drop, IsCharBoundary-from_rest}
 use Rattle.std.specs.List.{list_all, prefix_len}
 use Rattle.std.specs.Str.{IsCharBoundary, IsUtf8}
 use Rattle.pep_marker.specs.Marker as syntax
 use Rattle.pep_marker.specs.Marker.{HasTokens}
-use Rattle.pep_marker.specs.Runs.{begins, is_blank_byte, without_leading_blanks}
+use Rattle.texts.specs.Runs.{begins, without_leading_blanks}
+use Rattle.texts.specs.Bytes.{is_blank_byte}
 use Rattle.pep_marker.specs.Token.{AreSpans, AreSpansFrom, IsTokenAt, token_of}
 use Rattle.pep_marker.specs.TokenReading.{next_token}
 use Rattle.pep_marker.specs.declared.token.Token.{Token}
 use Rattle.pep_marker.proofs.FoundTokens.{boundary-token, token-stands, token_some}
-use Rattle.pep_marker.proofs.RunLemmas.{all-rest, all-run, begins-rest, rest-all, rest-span}
+use Rattle.texts.proofs.RunLemmas.{all-rest, all-run, begins-rest, rest-all, rest-span}
 use Rattle.pep_marker.proofs.TokenLaws.{found_at, same_found, tokens_begin, blanks_away, trimmed_at}
 
 -- ---- one token

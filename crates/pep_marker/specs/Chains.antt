@@ -5,8 +5,20 @@ use Rattle.std.specs.Prelude.{Option, Some, None}
 use Rattle.pep_marker.specs.Marker.{Operand, Operator, MarkerParts, compare, and, or, comparisons}
 use Rattle.pep_marker.specs.Marker.{Token, open_parenthesis, close_parenthesis, and_word, or_word}
 use Rattle.pep_marker.specs.Marker.{operand, operator}
+use Rattle.pep_marker.specs.declared.chains.Link.{Link}
+use Rattle.pep_marker.specs.declared.chains.Link.TheVariants.{And, Or}
 use Rattle.pep_marker.specs.declared.fault.MarkerFault.{MarkerFault}
 use Rattle.pep_marker.specs.declared.fault.MarkerFault.TheVariants.{BadMarker, TooDeep, NoMemory}
+
+-- the word of a link
+abbrev pub link_word : Link → Token
+link_word And = and_word
+link_word Or = or_word
+
+-- the marker of two that it joins
+abbrev pub joined : Link → MarkerParts → MarkerParts → MarkerParts
+joined And m n = and m n
+joined Or m n = or m n
 
 mutual
   -- the item at the front of the tokens, and the tokens behind it
@@ -14,32 +26,29 @@ mutual
     comparison_from : {depth : ℕ} {l r : Operand} {o : Operator} {rest : List Token} →
         ItemFrom depth (operand l ∷ operator o ∷ operand r ∷ rest) (compare l o r) rest
     parentheses_from : {depth : ℕ} {ts rest : List Token} {m : MarkerParts} →
-        OrFrom depth ts m (close_parenthesis ∷ rest) →
+        ChainFrom Or depth ts m (close_parenthesis ∷ rest) →
         ItemFrom (suc depth) (open_parenthesis ∷ ts) m rest
 
-  -- an and-chain at the front: its first item, and what goes on behind it
-  pub data AndFrom : ℕ → List Token → MarkerParts → List Token → Type 0 where
-    and_from : {depth : ℕ} {ts us rest : List Token} {m n : MarkerParts} →
-        ItemFrom depth ts n us → AndRest depth n us m rest → AndFrom depth ts m rest
+  -- what a link joins: items under `and`, and and-chains under `or`
+  pub data PartFrom : Link → ℕ → List Token → MarkerParts → List Token → Type 0 where
+    item_part : {depth : ℕ} {ts rest : List Token} {m : MarkerParts} → ItemFrom depth ts m rest →
+        PartFrom And depth ts m rest
+    chain_part : {depth : ℕ} {ts rest : List Token} {m : MarkerParts} →
+        ChainFrom And depth ts m rest → PartFrom Or depth ts m rest
 
-  -- the and-chain goes on with these tokens, from the marker so far to the whole one
-  pub data AndRest : ℕ → MarkerParts → List Token → MarkerParts → List Token → Type 0 where
-    and_end : {depth : ℕ} {m : MarkerParts} {rest : List Token} → AndRest depth m rest m rest
-    and_more : {depth : ℕ} {ts us rest : List Token} {k m n : MarkerParts} →
-        ItemFrom depth ts n us → AndRest depth (and m n) us k rest →
-        AndRest depth m (and_word ∷ ts) k rest
+  -- a chain at the front: its first part, and what goes on behind it
+  pub data ChainFrom : Link → ℕ → List Token → MarkerParts → List Token → Type 0 where
+    parts_from : {link : Link} {depth : ℕ} {ts us rest : List Token} {m n : MarkerParts} →
+        PartFrom link depth ts n us → RestFrom link depth n us m rest →
+        ChainFrom link depth ts m rest
 
-  -- an or-chain at the front: its first and-chain, and what goes on behind it
-  pub data OrFrom : ℕ → List Token → MarkerParts → List Token → Type 0 where
-    or_from : {depth : ℕ} {ts us rest : List Token} {m n : MarkerParts} →
-        AndFrom depth ts n us → OrRest depth n us m rest → OrFrom depth ts m rest
-
-  -- the or-chain goes on with these tokens, from the marker so far to the whole one
-  pub data OrRest : ℕ → MarkerParts → List Token → MarkerParts → List Token → Type 0 where
-    or_end : {depth : ℕ} {m : MarkerParts} {rest : List Token} → OrRest depth m rest m rest
-    or_more : {depth : ℕ} {ts us rest : List Token} {k m n : MarkerParts} →
-        AndFrom depth ts n us → OrRest depth (or m n) us k rest →
-        OrRest depth m (or_word ∷ ts) k rest
+  -- the chain goes on with these tokens, from the marker so far to the whole one
+  pub data RestFrom : Link → ℕ → MarkerParts → List Token → MarkerParts → List Token → Type 0 where
+    rest_end : {link : Link} {depth : ℕ} {m : MarkerParts} {rest : List Token} →
+        RestFrom link depth m rest m rest
+    rest_more : {link : Link} {depth : ℕ} {ts us vs rest : List Token} {k m n : MarkerParts} →
+        vs ≡ link_word link ∷ ts → PartFrom link depth ts n us →
+        RestFrom link depth (joined link m n) us k rest → RestFrom link depth m vs k rest
 
 -- an and-chain doesn't go on with these tokens
 abbrev pub ends_and : List Token → Bool
@@ -51,6 +60,16 @@ abbrev pub ends_or : List Token → Bool
 ends_or (and_word ∷ ts) = false
 ends_or (or_word ∷ ts) = false
 ends_or ts = true
+
+-- a chain doesn't go on with these tokens
+abbrev pub ends : Link → List Token → Bool
+ends And ts = ends_and ts
+ends Or ts = ends_or ts
+
+-- a part of it doesn't go on with these tokens
+abbrev pub part_ends : Link → List Token → Bool
+part_ends And ts = true
+part_ends Or ts = ends_and ts
 
 -- the tokens begin with `)`
 abbrev pub is_closed : List Token → Bool
@@ -72,15 +91,15 @@ abbrev pub NoItem : ℕ → ℕ → List Token → Type 0
 NoItem depth room ts =
     (m : MarkerParts) (rest : List Token) → ItemFrom depth ts m rest → room < comparisons m
 
--- no and-chain at the front, read to its end, has as few
-abbrev pub NoAndChain : ℕ → ℕ → List Token → Type 0
-NoAndChain depth room ts = (m : MarkerParts) (rest : List Token) → AndFrom depth ts m rest →
-    ends_and rest ≡ true → room < comparisons m
+-- no part at the front, read to its end, has as few
+abbrev pub NoPart : Link → ℕ → ℕ → List Token → Type 0
+NoPart link depth room ts = (m : MarkerParts) (rest : List Token) →
+    PartFrom link depth ts m rest → part_ends link rest ≡ true → room < comparisons m
 
--- no or-chain at the front, read to its end, has as few
-abbrev pub NoOrChain : ℕ → ℕ → List Token → Type 0
-NoOrChain depth room ts = (m : MarkerParts) (rest : List Token) → OrFrom depth ts m rest →
-    ends_or rest ≡ true → room < comparisons m
+-- no chain at the front, read to its end, has as few
+abbrev pub NoChain : Link → ℕ → ℕ → List Token → Type 0
+NoChain link depth room ts = (m : MarkerParts) (rest : List Token) →
+    ChainFrom link depth ts m rest → ends link rest ≡ true → room < comparisons m
 
 -- the refusal is want of memory, or one of the grammar, and then this holds
 abbrev pub Refuses : Type 0 → MarkerFault → Type 0

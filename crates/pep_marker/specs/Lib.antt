@@ -1,5 +1,4 @@
 pub mod Name
-pub mod Runs
 pub mod NameHead
 pub mod Environment
 pub mod Pairs

@@ -8,7 +8,7 @@ use Rattle.specifiers.specs.declared.op.Op.{Op}
 use Rattle.specifiers.specs.declared.op.Op.TheVariants.{Equal, Less, More}
 use Rattle.pep_marker.specs.declared.environment.Variable.{Variable}
 use Rattle.pep_marker.specs.Environment.{variable_name}
-use Rattle.pep_marker.specs.Runs.{IsBlank, begins}
+use Rattle.texts.specs.Runs.{IsBlank, begins}
 
 -- ---- what a marker is
 

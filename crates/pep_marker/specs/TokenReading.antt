@@ -8,7 +8,8 @@ use Rattle.pep_marker.specs.Environment.{variable_of}
 use Rattle.pep_marker.specs.Marker.{Token, open_parenthesis, close_parenthesis, and_word, or_word}
 use Rattle.pep_marker.specs.Marker.{operand, operator, variable, text, version_operator, is_in}
 use Rattle.pep_marker.specs.Marker.{is_not_in, is_quote, is_word_byte}
-use Rattle.pep_marker.specs.Runs.{begins, is_blank_byte}
+use Rattle.texts.specs.Runs.{begins}
+use Rattle.texts.specs.Bytes.{is_blank_byte}
 
 -- a byte that may stand between these quotes
 abbrev pub is_quoted_byte : ℕ → ℕ → Bool

@@ -4,18 +4,20 @@
 ghost use Rattle.std.specs.Prelude.{◌≡◌, ℕ, ◌+◌, ◌≤◌, ◌∷◌, IfErr, IfNone, IfOk, IfSome, None};
 ghost use Rattle.std.specs.Prelude.{false, map, true};
 ghost use Rattle.pep_marker.specs.Chains.{
-  AndFrom,
+  ChainFrom,
   ItemFrom,
-  NoAndChain,
+  NoChain,
   NoItem,
-  NoOrChain,
-  OrFrom,
+  NoPart,
+  PartFrom,
   Refuses,
-  ends_and,
-  ends_or,
+  ends,
   first_operand,
   first_operator,
   is_closed,
+  joined,
+  link_word,
+  part_ends,
 };
 ghost use Rattle.pep_marker.specs.Marker as syntax;
 ghost use Rattle.pep_marker.specs.Marker.{comparisons};
@@ -26,6 +28,13 @@ use crate::fault::MarkerFault;
 use crate::marker::{Operand, Operator, Tree};
 use crate::token::{Lexeme, Side, Token};
 use std::alloc::{AllocError, Global};
+
+// What joins markers: items under `and`, and and-chains under `or`.
+#[derive(Clone, Copy)]
+pub(crate) enum Link {
+    And,
+    Or,
+}
 
 // A marker at the front of some tokens, how many comparisons it has, and the tokens behind it.
 #[derive(Drop)]
@@ -158,71 +167,59 @@ fn in_parentheses<'t, 'a>(
     ensures refused { IfErr result (Refuses (NoItem (depth + 1) room
         (syntax.open_parenthesis ∷ map token_of behind.now))) }
 {
-    let front = or_chain(alloc, behind, depth, room)?;
+    let front = chain(alloc, Link::Or, behind, depth, room)?;
     let Some(rest) = behind_close(front.rest) else {
         return Err(MarkerFault::BadMarker);
     };
     Ok(Front { rest, ..front })
 }
 
-// The and-chain at the front of the tokens.
+// The first part of a chain at the front of the tokens.
 #[cycle(chains)]
-fn and_chain<'t, 'a>(
+fn part_at<'t, 'a>(
     alloc: Global,
+    link: Link,
     tokens: &'t [Token<'a>],
     depth: usize,
     room: usize,
 ) -> Result<Front<'t, 'a>, MarkerFault>
     requires { room ≤ 1024 }
-    ensures read { IfOk result (λ f. AndFrom depth (map token_of tokens.now) (tree_parts f.tree)
-        (map token_of f.rest.now)) }
-    ensures ended { IfOk result (λ f. ends_and (map token_of f.rest.now) ≡ true) }
+    ensures read { IfOk result (λ f. PartFrom link depth (map token_of tokens.now)
+        (tree_parts f.tree) (map token_of f.rest.now)) }
+    ensures ended { IfOk result (λ f. part_ends link (map token_of f.rest.now) ≡ true) }
     ensures count { IfOk result (λ f. f.comparisons ≡ comparisons (tree_parts f.tree)) }
     ensures room { IfOk result (λ f. f.comparisons ≤ room) }
-    ensures refused { IfErr result (Refuses (NoAndChain depth room (map token_of tokens.now))) }
+    ensures refused { IfErr result (Refuses (NoPart link depth room (map token_of tokens.now))) }
 {
-    let mut front = item_at(alloc, tokens, depth, room)?;
-    while let Some(behind) = behind_and(front.rest) {
-        let next = item_at(alloc, behind, depth, room - front.comparisons)?;
-        front = both(alloc, front, next)?;
+    match link {
+        Link::And => item_at(alloc, tokens, depth, room),
+        Link::Or => chain(alloc, Link::And, tokens, depth, room),
     }
-    Ok(front)
 }
 
-// The or-chain at the front of the tokens.
+// The chain at the front of the tokens.
 #[cycle(chains)]
-pub(crate) fn or_chain<'t, 'a>(
+pub(crate) fn chain<'t, 'a>(
     alloc: Global,
+    link: Link,
     tokens: &'t [Token<'a>],
     depth: usize,
     room: usize,
 ) -> Result<Front<'t, 'a>, MarkerFault>
     requires { room ≤ 1024 }
-    ensures read { IfOk result (λ f. OrFrom depth (map token_of tokens.now) (tree_parts f.tree)
-        (map token_of f.rest.now)) }
-    ensures ended { IfOk result (λ f. ends_or (map token_of f.rest.now) ≡ true) }
+    ensures read { IfOk result (λ f. ChainFrom link depth (map token_of tokens.now)
+        (tree_parts f.tree) (map token_of f.rest.now)) }
+    ensures ended { IfOk result (λ f. ends link (map token_of f.rest.now) ≡ true) }
     ensures count { IfOk result (λ f. f.comparisons ≡ comparisons (tree_parts f.tree)) }
     ensures room { IfOk result (λ f. f.comparisons ≤ room) }
-    ensures refused { IfErr result (Refuses (NoOrChain depth room (map token_of tokens.now))) }
+    ensures refused { IfErr result (Refuses (NoChain link depth room (map token_of tokens.now))) }
 {
-    let mut front = and_chain(alloc, tokens, depth, room)?;
-    while let Some(behind) = behind_or(front.rest) {
-        let next = and_chain(alloc, behind, depth, room - front.comparisons)?;
-        front = either(alloc, front, next)?;
+    let mut front = part_at(alloc, link, tokens, depth, room)?;
+    while let Some(behind) = behind_word(link, front.rest) {
+        let next = part_at(alloc, link, behind, depth, room - front.comparisons)?;
+        front = join(alloc, link, front, next)?;
     }
     Ok(front)
-}
-
-// The tokens behind the `and` at the front.
-fn behind_and<'t, 'a>(tokens: &'t [Token<'a>]) -> Option<&'t [Token<'a>]>
-    ensures some { IfSome result (λ behind. map token_of tokens.now
-        ≡ syntax.and_word ∷ map token_of behind.now) }
-    ensures none { IfNone result (ends_and (map token_of tokens.now) ≡ true) }
-{
-    match tokens {
-        [first, behind @ ..] if matches!(first.lexeme, Lexeme::And) => Some(behind),
-        _ => None,
-    }
 }
 
 // The tokens behind the `)` at the front.
@@ -237,62 +234,49 @@ fn behind_close<'t, 'a>(tokens: &'t [Token<'a>]) -> Option<&'t [Token<'a>]>
     }
 }
 
-// The tokens behind the `or` at the front, where no `and` stands there.
-fn behind_or<'t, 'a>(tokens: &'t [Token<'a>]) -> Option<&'t [Token<'a>]>
-    requires { ends_and (map token_of tokens.now) ≡ true }
+// The tokens behind the link's word at the front, where a part of its chain has ended.
+fn behind_word<'t, 'a>(link: Link, tokens: &'t [Token<'a>]) -> Option<&'t [Token<'a>]>
+    requires { part_ends link (map token_of tokens.now) ≡ true }
     ensures some { IfSome result (λ behind. map token_of tokens.now
-        ≡ syntax.or_word ∷ map token_of behind.now) }
-    ensures none { IfNone result (ends_or (map token_of tokens.now) ≡ true) }
+        ≡ link_word link ∷ map token_of behind.now) }
+    ensures none { IfNone result (ends link (map token_of tokens.now) ≡ true) }
 {
-    match tokens {
-        [first, behind @ ..] if matches!(first.lexeme, Lexeme::Or) => Some(behind),
+    let [first, behind @ ..] = tokens else {
+        return None;
+    };
+    match (link, first.lexeme) {
+        (Link::And, Lexeme::And) | (Link::Or, Lexeme::Or) => Some(behind),
         _ => None,
     }
 }
 
-// Both markers in storage of their own.
-fn boxed(alloc: Global, left: Tree, right: Tree) -> Result<(Box<Tree>, Box<Tree>), AllocError>
-    ensures first { IfOk result (λ boxes. tree_parts boxes.0.value ≡ tree_parts left) }
-    ensures second { IfOk result (λ boxes. tree_parts boxes.1.value ≡ tree_parts right) }
+// The tree of two trees, each in storage of its own.
+fn joined_tree(alloc: Global, link: Link, left: Tree, right: Tree) -> Result<Tree, AllocError>
+    ensures { IfOk result (λ t. tree_parts t ≡ joined link (tree_parts left) (tree_parts right)) }
 {
-    Ok((Box::new(alloc, left)?, Box::new(alloc, right)?))
-}
-
-fn both<'t, 'a>(
-    alloc: Global,
-    left: Front<'t, 'a>,
-    right: Front<'t, 'a>,
-) -> Result<Front<'t, 'a>, AllocError>
-    requires { left.comparisons + right.comparisons ≤ 1024 }
-    ensures tree { IfOk result (λ f. tree_parts f.tree
-        ≡ syntax.and (tree_parts left.entry.tree) (tree_parts right.entry.tree)) }
-    ensures count { IfOk result (λ f. f.comparisons
-        ≡ left.entry.comparisons + right.entry.comparisons) }
-    ensures rest { IfOk result (λ f. f.rest ≡ right.entry.rest) }
-{
-    let (first, second) = boxed(alloc, left.tree, right.tree)?;
-    Ok(Front {
-        tree: Tree::And(first, second),
-        comparisons: left.comparisons + right.comparisons,
-        rest: right.rest,
+    let left = Box::new(alloc, left)?;
+    let right = Box::new(alloc, right)?;
+    Ok(match link {
+        Link::And => Tree::And(left, right),
+        Link::Or => Tree::Or(left, right),
     })
 }
 
-fn either<'t, 'a>(
+fn join<'t, 'a>(
     alloc: Global,
+    link: Link,
     left: Front<'t, 'a>,
     right: Front<'t, 'a>,
 ) -> Result<Front<'t, 'a>, AllocError>
     requires { left.comparisons + right.comparisons ≤ 1024 }
     ensures tree { IfOk result (λ f. tree_parts f.tree
-        ≡ syntax.or (tree_parts left.entry.tree) (tree_parts right.entry.tree)) }
+        ≡ joined link (tree_parts left.entry.tree) (tree_parts right.entry.tree)) }
     ensures count { IfOk result (λ f. f.comparisons
         ≡ left.entry.comparisons + right.entry.comparisons) }
     ensures rest { IfOk result (λ f. f.rest ≡ right.entry.rest) }
 {
-    let (first, second) = boxed(alloc, left.tree, right.tree)?;
     Ok(Front {
-        tree: Tree::Or(first, second),
+        tree: joined_tree(alloc, link, left.tree, right.tree)?,
         comparisons: left.comparisons + right.comparisons,
         rest: right.rest,
     })

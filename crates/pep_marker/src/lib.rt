@@ -9,7 +9,6 @@ pub mod laws;
 mod marker;
 mod name;
 mod normal;
-mod runs;
 mod slots;
 mod token;
 
@@ -17,7 +16,3 @@ pub use crate::environment::{Environment, Variable};
 pub use crate::fault::MarkerFault;
 pub use crate::marker::{Marker, Operand, Operator};
 pub use crate::name::{Name, norm_of};
-pub use crate::runs::{
-    blank_end, blank_run, is_blank_byte, is_name_byte, name_run, without_leading_blanks,
-    without_outer_blanks,
-};

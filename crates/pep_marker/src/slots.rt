@@ -1,36 +1,14 @@
 // The texts that pairs of a name and a text give the variables of markers.
 
-ghost use Rattle.std.specs.Prelude.{◌≡◌, ◌<◌, None, Some, IfErr, IfOk, IsTrue, find, is_none};
-ghost use Rattle.pep_marker.specs.Environment.{is_value, required_variables, variable_of};
-ghost use Rattle.pep_marker.specs.Slots.{place, slot, slot_fault};
+ghost use Rattle.std.specs.Prelude.{◌≡◌, ◌&&◌, None, Some, IfErr, IfOk, IsTrue, find, is_none};
+ghost use Rattle.pep_marker.specs.Environment.{is_required, is_value, variable_of, variables};
+ghost use Rattle.pep_marker.specs.Slots.{slot, slot_fault};
 
-use crate::environment::Variable;
+use crate::environment::{NAMED, Variable};
 use crate::fault::MarkerFault;
 
 // What a variable is given stands at its place in the order of `Variable`.
 pub(crate) type Slots<'a> = [Option<&'a str>; 12];
-
-// The variables that an environment has, in the order in which they are listed.
-const REQUIRED: [Variable; 11] = [
-    Variable::OsName,
-    Variable::SysPlatform,
-    Variable::PlatformMachine,
-    Variable::PlatformPythonImplementation,
-    Variable::PlatformRelease,
-    Variable::PlatformSystem,
-    Variable::PlatformVersion,
-    Variable::PythonVersion,
-    Variable::PythonFullVersion,
-    Variable::ImplementationName,
-    Variable::ImplementationVersion,
-];
-
-pub(crate) fn place(variable: Variable) -> usize
-    ensures place { result ≡ place variable }
-    ensures within { result < 12 }
-{
-    variable as usize
-}
 
 // Whether a text may be the value of a variable: it holds no control character of ASCII.
 fn is_value(text: &[u8]) -> bool
@@ -39,14 +17,15 @@ fn is_value(text: &[u8]) -> bool
     text.iter().all(|b| 31 < *b && *b != 127)
 }
 
-// The first variable that is missing.
+// The first variable that an environment has to give and whose slot is empty.
 pub(crate) fn missing(slots: &Slots<'_>) -> Option<Variable>
-    ensures { result ≡ find (λ v. is_none (slot slots.now v)) required_variables }
+    ensures { result
+        ≡ find (λ v. is_required v && is_none (slot slots.now v)) variables }
 {
-    REQUIRED
+    NAMED
         .iter()
-        .find(|v| slots[place(**v)].is_none())
-        .copied()
+        .find(|named| named.0.is_required() && slots[named.0.place()].is_none())
+        .map(|named| named.0)
 }
 
 // The variable of a pair that may stand after those that filled the slots.
@@ -63,7 +42,7 @@ pub(crate) fn free_variable(
     let Some(variable) = Variable::of_name(name.as_bytes()) else {
         return Err(MarkerFault::UnknownVariable);
     };
-    if slots[place(variable)].is_some() {
+    if slots[variable.place()].is_some() {
         return Err(MarkerFault::RepeatedVariable);
     }
     if !is_value(text.as_bytes()) {

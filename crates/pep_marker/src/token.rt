@@ -6,7 +6,7 @@ ghost use Rattle.std.specs.List.{prefix_len};
 ghost use Rattle.std.specs.Str.{IsCharBoundary};
 ghost use Rattle.pep_marker.specs.Marker as syntax;
 ghost use Rattle.pep_marker.specs.Marker.{HasTokens, is_quote, is_word_byte};
-ghost use Rattle.pep_marker.specs.Runs.{without_leading_blanks};
+ghost use Rattle.texts.specs.Runs.{without_leading_blanks};
 ghost use Rattle.pep_marker.specs.Token.{AreSpans, IsTokenAt, found_of, lexeme_of, token_of};
 ghost use Rattle.pep_marker.specs.TokenReading.{in_behind, is_quoted_byte, next_token};
 ghost use Rattle.pep_marker.specs.TokenReading.{operator_token, text_token, word_of, word_token};
@@ -14,9 +14,9 @@ ghost use Rattle.pep_marker.specs.TokenReading.{operator_token, text_token, word
 use crate::environment::Variable;
 use crate::fault::MarkerFault;
 use crate::marker::Operator;
-use crate::runs::blank_run;
 use specifiers::Op;
 use std::alloc::Global;
+use texts::blank_run;
 
 // One side of a comparison: a variable, or what stands between two quotes.
 #[derive(Clone, Copy)]

@@ -5,9 +5,10 @@ use Rattle.std.proofs.lemmas.Bool.Decides.{nat_tests}
 use Rattle.std.specs.List.{list_all, prefix_len, take_while}
 use Rattle.std.proofs.lemmas.List.{take-append-drop}
 use Rattle.std.proofs.lemmas.List.Folds.{length-prefix_len}
-use Rattle.pep_marker.specs.Runs.{begins, is_blank_byte, without_leading_blanks}
-use Rattle.pep_marker.proofs.RunLemmas.{all-run, begins-rest, rest-span}
-use Rattle.pep_version.proofs.Connectives.{and_first, and_second}
+use Rattle.texts.specs.Runs.{begins, without_leading_blanks}
+use Rattle.texts.specs.Bytes.{is_blank_byte}
+use Rattle.texts.proofs.RunLemmas.{all-run, begins-rest, rest-span}
+use Rattle.texts.proofs.Connectives.{and_first, and_second}
 
 -- the white space at the front
 abbrev pub leading : List ℕ → List ℕ

@@ -4,8 +4,9 @@ use Rattle.std.proofs.Common.{◌≡◌, ℕ, ◌==◌, ◌≤◌, Bool, true, f
 use Rattle.std.proofs.Common.{arith, refl, sym, ap, subst, ◌∙◌, append_assoc}
 use Rattle.std.specs.List.{AllZip, join_with_byte}
 use Rattle.std.proofs.lemmas.Bool.Decides.{nat_tests}
-use Rattle.specifiers.specs.Clause.{Clause, is_clause_byte}
-use Rattle.pep_marker.specs.Runs.{begins, without_leading_blanks}
+use Rattle.specifiers.specs.Clause.{Clause}
+use Rattle.texts.specs.Bytes.{is_clause_byte}
+use Rattle.texts.specs.Runs.{begins, without_leading_blanks}
 use Rattle.pep_require.specs.LineParts.{BoundFrom, BoundsFrom, last_bound, last_comma, more_bounds}
 use Rattle.pep_require.specs.LineParts.{RefusesBounds, this_bound, later_bound}
 use Rattle.pep_require.specs.LineParts.{is_bare_byte, is_end}

@@ -9,12 +9,14 @@ use Rattle.std.proofs.Math.Seq.{take-append_seam}
 use Rattle.std.proofs.lemmas.Bool.Decides.{nat_tests}
 use Rattle.std.proofs.lemmas.List.Folds.{length-prefix_len}
 use Rattle.std.proofs.lemmas.Str.{IsCharBoundary-from_take}
-use Rattle.specifiers.specs.Clause.{Clause, ClauseOf, is_clause_byte, operator_of, operator_text}
+use Rattle.specifiers.specs.Clause.{Clause, ClauseOf, operator_of, operator_text}
+use Rattle.texts.specs.Bytes.{is_clause_byte}
 use Rattle.specifiers.specs.declared.fault.ClauseFault.{ClauseFault}
 use Rattle.specifiers.specs.declared.fault.ClauseFault.TheVariants as clause_fault
 use Rattle.specifiers.specs.declared.op.Op.{Op}
 use Rattle.specifiers.proofs.OperatorLemmas.{operator_shape}
-use Rattle.pep_marker.specs.Runs.{begins, is_blank_byte, without_leading_blanks}
+use Rattle.texts.specs.Runs.{begins, without_leading_blanks}
+use Rattle.texts.specs.Bytes.{is_blank_byte}
 use Rattle.pep_require.specs.LineParts.{BoundFrom, BoundsFrom, last_bound, last_comma, more_bounds}
 use Rattle.pep_require.specs.LineParts.{RefusesBound, RefusesBounds, RefusesFound, this_bound}
 use Rattle.pep_require.specs.LineParts.{later_bound, is_end, after_operator, after_run, clause_run}

@@ -5,7 +5,8 @@ use Rattle.std.specs.List.{list_all}
 use Rattle.std.proofs.Math.Seq.{drop-append_seam}
 use Rattle.std.proofs.lemmas.Bool.Decides.{nat_tests}
 use Rattle.std.proofs.lemmas.List.Folds.{list_all-append}
-use Rattle.specifiers.specs.Clause.{Clause, ClauseOf, ReadsClause, ReadsClauseAs, is_clause_byte}
+use Rattle.specifiers.specs.Clause.{Clause, ClauseOf, ReadsClause, ReadsClauseAs}
+use Rattle.texts.specs.Bytes.{is_clause_byte}
 use Rattle.specifiers.specs.Clause.{operator_of, operator_text}
 use Rattle.specifiers.specs.declared.fault.ClauseFault.{ClauseFault}
 use Rattle.specifiers.specs.declared.op.Op.{Op}
@@ -14,10 +15,11 @@ use Rattle.specifiers.proofs.OneAnswer.{no-clause-of-nothing, one-answer, one-cl
 use Rattle.specifiers.proofs.OperatorLemmas.{operator_shape}
 use Rattle.specifiers.proofs.Written.{clause-ink, ink-trimmed, is_ink, operator-found, operator-ink}
 use Rattle.specifiers.proofs.Written.{written-of}
-use Rattle.pep_version.proofs.Connectives.{and_first}
+use Rattle.texts.proofs.Connectives.{and_first}
 use Rattle.pep_version.proofs.NormalTexts.{list_all-weaker}
-use Rattle.pep_marker.specs.Runs.{begins, is_blank_byte, without_leading_blanks}
-use Rattle.pep_marker.proofs.RunLemmas.{all-run, rest-span, run-span}
+use Rattle.texts.specs.Runs.{begins, without_leading_blanks}
+use Rattle.texts.specs.Bytes.{is_blank_byte}
+use Rattle.texts.proofs.RunLemmas.{all-run, rest-span, run-span}
 use Rattle.pep_require.specs.LineParts.{BoundFrom, RefusesBound, RefusesFound, RefusesRun}
 use Rattle.pep_require.specs.LineParts.{after_operator, after_run, clause_run, is_bare_byte}
 use Rattle.pep_require.specs.Reads.{IsBound}

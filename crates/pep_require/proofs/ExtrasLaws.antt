@@ -3,9 +3,10 @@ use Rattle.std.proofs.Common.{◌≡◌, ℕ, ◌==◌, Bool, true, false, not, 
 use Rattle.std.proofs.Common.{ap, subst, ◌∙◌, append_assoc, take, drop}
 use Rattle.std.specs.Prelude.{Contains, ◌↔◌}
 use Rattle.std.specs.List.{AllZip, join_with_byte, list_all, prefix_len, slice_split}
-use Rattle.pep_version.proofs.Connectives.{by_answer}
-use Rattle.pep_marker.specs.Runs.{begins, is_blank_byte}
-use Rattle.pep_marker.proofs.RunLemmas.{rest-span, run-span}
+use Rattle.texts.proofs.Connectives.{by_answer}
+use Rattle.texts.specs.Runs.{begins}
+use Rattle.texts.specs.Bytes.{is_blank_byte}
+use Rattle.texts.proofs.RunLemmas.{rest-span, run-span}
 use Rattle.pep_require.specs.ExtrasParts.{NamesWithin, no_names, some_names}
 use Rattle.pep_require.specs.LineParts.{ExtrasFrom, is_bracket}
 use Rattle.pep_require.specs.Reads.{IsExtra, NamesExtras, none, empty, listed}

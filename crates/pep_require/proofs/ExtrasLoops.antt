@@ -17,9 +17,11 @@ use Rattle.std.proofs.lemmas.List.Sorted.{Contains-permutation, IsPermutation-sy
 use Rattle.std.proofs.lemmas.Slice.Eq.{bytes_eq-Decides}
 use Rattle.std.proofs.lemmas.Bool.Decides.{nat_tests}
 use Rattle.std.proofs.lemmas.List.Splits.{join_with_byte-slice_split, length-slice_split}
-use Rattle.pep_marker.specs.Name.{is_name_byte, name_of}
-use Rattle.pep_marker.specs.Runs.{begins, is_blank_byte, without_leading_blanks}
-use Rattle.pep_marker.proofs.RunLemmas.{all-rest, rest-all}
+use Rattle.texts.specs.Bytes.{is_name_byte}
+use Rattle.pep_marker.specs.Name.{name_of}
+use Rattle.texts.specs.Runs.{begins, without_leading_blanks}
+use Rattle.texts.specs.Bytes.{is_blank_byte}
+use Rattle.texts.proofs.RunLemmas.{all-rest, rest-all}
 use Rattle.pep_require.specs.ExtrasParts.{NamesWithin, NoExtra, NoneWithin, no_names, some_names}
 use Rattle.pep_require.specs.LineParts.{ExtrasFrom, NoExtras, is_bracket}
 use Rattle.pep_require.specs.Reads.{IsExtra, NamesExtras, none, empty, listed}

@@ -10,11 +10,13 @@ use Rattle.std.proofs.lemmas.List.Elements.{All-cons}
 use Rattle.std.proofs.lemmas.List.Folds.{list_all-append}
 use Rattle.std.proofs.lemmas.List.Splits.{slice_split_at, slice_split_none}
 use Rattle.std.proofs.lemmas.Option.{none-some, same_Some}
-use Rattle.pep_version.proofs.Connectives.{and_first, and_second, by_answer}
+use Rattle.texts.proofs.Connectives.{and_first, and_second, by_answer}
 use Rattle.pep_version.proofs.NormalTexts.{list_all-weaker}
-use Rattle.pep_marker.specs.Name.{is_letter_or_digit, is_name, is_name_byte, name_of, normalized}
-use Rattle.pep_marker.specs.Runs.{begins, is_blank_byte, without_leading_blanks}
-use Rattle.pep_marker.proofs.RunLemmas.{all-rest, rest-all, rest-span, run-span}
+use Rattle.texts.specs.Bytes.{is_letter_or_digit, is_name_byte}
+use Rattle.pep_marker.specs.Name.{is_name, name_of, normalized}
+use Rattle.texts.specs.Runs.{begins, without_leading_blanks}
+use Rattle.texts.specs.Bytes.{is_blank_byte}
+use Rattle.texts.proofs.RunLemmas.{all-rest, rest-all, rest-span, run-span}
 use Rattle.pep_require.specs.ExtrasParts.{NoExtra}
 use Rattle.pep_require.specs.Reads.{IsExtra}
 use Rattle.pep_require.proofs.BlankLemmas.{leading, leading_blank, leading_whole}

@@ -7,7 +7,7 @@ use Rattle.specifiers.proofs.OneAnswer.{one-answer}
 use Rattle.specifiers.specs.Clause.{Clause, operator_of}
 use Rattle.specifiers.specs.declared.fault.ClauseFault.{ClauseFault}
 use Rattle.specifiers.specs.declared.op.Op.{Op}
-use Rattle.pep_marker.specs.Runs.{without_leading_blanks}
+use Rattle.texts.specs.Runs.{without_leading_blanks}
 use Rattle.pep_require.proofs.BoundLaws.{refused_bounds, tail}
 use Rattle.pep_require.proofs.BoundPieces.{bound_refused, one_bound}
 use Rattle.pep_require.proofs.ExtrasLaws.{one_extras}

@@ -8,10 +8,11 @@ use Rattle.std.specs.Str.{IsCharBoundary, IsUtf8}
 use Rattle.std.proofs.lemmas.Bool.Decides.{nat_tests}
 use Rattle.std.proofs.lemmas.List.Sums.{prefix_len-le-length}
 use Rattle.std.proofs.lemmas.Str.{IsCharBoundary-from_take, IsUtf8-from_ascii}
-use Rattle.pep_marker.specs.Runs.{begins, is_blank_byte}
-use Rattle.pep_marker.specs.Name.{is_name_byte}
+use Rattle.texts.specs.Runs.{begins}
+use Rattle.texts.specs.Bytes.{is_blank_byte}
+use Rattle.texts.specs.Bytes.{is_name_byte}
 use Rattle.pep_marker.proofs.NormalNames.{name_byte_small}
-use Rattle.pep_marker.proofs.RunLemmas.{all-run, ascii-class, begins-rest}
+use Rattle.texts.proofs.RunLemmas.{all-run, ascii-class, begins-rest}
 
 -- a run of a class of ASCII bytes ends where a text may be cut
 pub boundary-run : (p : ℕ → Bool) → ((b : ℕ) → p b ≡ true → b < 128) → (x : List ℕ) → IsUtf8 x →

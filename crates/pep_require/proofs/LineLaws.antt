@@ -9,10 +9,12 @@ use Rattle.std.proofs.lemmas.Option.{none-some, same_Some}
 use Rattle.std.specs.Prelude.{if◌then◌else◌, nat_lt, take_while}
 use Rattle.std.specs.List.{list_all}
 use Rattle.pep_marker.proofs.MarkerLaws.{marker_with_space, one_marker}
-use Rattle.pep_marker.proofs.RunLemmas.{rest-all, run-span}
+use Rattle.texts.proofs.RunLemmas.{rest-all, run-span}
 use Rattle.pep_marker.specs.Marker.{IsMarker, MarkerParts}
-use Rattle.pep_marker.specs.Name.{is_letter_or_digit, is_name, is_name_byte, name_of}
-use Rattle.pep_marker.specs.Runs.{begins, is_blank_byte, without_leading_blanks}
+use Rattle.texts.specs.Bytes.{is_letter_or_digit, is_name_byte}
+use Rattle.pep_marker.specs.Name.{is_name, name_of}
+use Rattle.texts.specs.Runs.{begins, without_leading_blanks}
+use Rattle.texts.specs.Bytes.{is_blank_byte}
 use Rattle.pep_require.specs.Faults.{after_name, beginning_fault, name_run}
 use Rattle.pep_require.specs.LineParts.{ExtrasFrom, LineParts, RefusesLine, TargetFrom}
 use Rattle.pep_require.specs.LineParts.{is_bare_byte}
@@ -21,7 +23,8 @@ use Rattle.pep_require.specs.LineParts.{no_memory}
 use Rattle.pep_require.specs.LineParts.{is_bracket, is_end, RefusesEnding, RefusesExtras}
 use Rattle.pep_require.specs.LineParts.{RefusesTarget}
 use Rattle.pep_require.specs.Reads.{NamesExtras, Reads, ReadsExtras, ReadsMarker, ReadsTarget}
-use Rattle.pep_require.specs.Reads.{always, when, line_limit, none, empty, listed, anything, bare}
+use Rattle.pep_require.specs.Reads.{always, when, none, empty, listed, anything, bare}
+use Rattle.texts.specs.Limits.{line_limit}
 use Rattle.pep_require.specs.Reads.{parenthesized, at_url}
 use Rattle.pep_require.specs.Requirement.{RequirementParts, TargetParts}
 use Rattle.pep_require.specs.declared.fault.RequireFault.{RequireFault}
@@ -33,7 +36,7 @@ use Rattle.pep_require.proofs.BoundLaws.{bounds_begin}
 use Rattle.pep_require.proofs.ExtrasLaws.{one_extras}
 use Rattle.pep_require.proofs.TargetLaws.{Ends, one_target, read_target, refused_target}
 use Rattle.pep_require.proofs.TargetLaws.{target_read}
-use Rattle.pep_version.proofs.Connectives.{and_first, and_second, by_answer}
+use Rattle.texts.proofs.Connectives.{and_first, and_second, by_answer}
 
 -- ---- the beginning
 

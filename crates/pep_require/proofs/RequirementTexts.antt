@@ -11,12 +11,14 @@ use Rattle.specifiers.specs.Clause.{operator_text}
 use Rattle.pep_marker.specs.Marker.{MarkerParts}
 use Rattle.pep_marker.specs.MarkerText.{marker_text}
 use Rattle.pep_marker.specs.Name.{is_name, name_of}
-use Rattle.pep_marker.specs.Runs.{begins, is_blank_byte}
+use Rattle.texts.specs.Runs.{begins}
+use Rattle.texts.specs.Bytes.{is_blank_byte}
 use Rattle.pep_marker.proofs.MarkerLaws.{marker_behind_space, text_is_read}
 use Rattle.pep_marker.proofs.NormalNames.{IsNormalName-name_of}
 use Rattle.pep_require.specs.Reads.{IsBound, IsExtra, NamesExtras, Reads, ReadsBounds, ReadsExtras}
 use Rattle.pep_require.specs.Reads.{ReadsMarker, ReadsTarget, ReadsUrl, always, anything}
-use Rattle.pep_require.specs.Reads.{at_url, bare, empty, line_limit, listed, no_comma, none}
+use Rattle.pep_require.specs.Reads.{at_url, bare, empty, listed, no_comma, none}
+use Rattle.texts.specs.Limits.{line_limit}
 use Rattle.pep_require.specs.Reads.{parenthesized, when}
 use Rattle.pep_require.specs.Requirement.{RequirementParts, TargetParts}
 use Rattle.pep_require.specs.RequirementText.{ending_text, extras_text, requirement_text}

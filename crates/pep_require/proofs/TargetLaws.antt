@@ -9,7 +9,8 @@ use Rattle.std.proofs.Common.{take}
 use Rattle.std.proofs.lemmas.List.Folds.{length-prefix_len}
 use Rattle.std.specs.List.{list_all, prefix_len}
 use Rattle.specifiers.specs.Clause.{Clause}
-use Rattle.pep_marker.specs.Runs.{begins, is_blank_byte, without_leading_blanks}
+use Rattle.texts.specs.Runs.{begins, without_leading_blanks}
+use Rattle.texts.specs.Bytes.{is_blank_byte}
 use Rattle.pep_require.specs.LineParts.{BoundsFrom, UrlFrom, url_run}
 use Rattle.pep_require.specs.LineParts.{TargetFrom, no_target, url_target, closed_target}
 use Rattle.pep_require.specs.LineParts.{bare_target, RefusesTarget, bad_url, bad_closed, not_closed}
@@ -28,8 +29,8 @@ use Rattle.url.specs.Input.{trim_c0_control_and_space, strip_tabs_and_new_lines,
 use Rattle.url.specs.Scheme.{scheme_len}
 use Rattle.url.specs.Parts.{serialize}
 use Rattle.std.proofs.Math.Seq.{drop-append_seam}
-use Rattle.pep_marker.proofs.RunLemmas.{run-span}
-use Rattle.pep_version.proofs.Connectives.{and_first, and_second}
+use Rattle.texts.proofs.RunLemmas.{run-span}
+use Rattle.texts.proofs.Connectives.{and_first, and_second}
 
 -- ---- what is found is in the grammar
 

@@ -1,7 +1,7 @@
 -- What stands between the `[` and the `]` of the extras: the code's way.
 use Rattle.std.specs.Prelude.{ℕ, ◌==◌, List, []}
 use Rattle.std.specs.List.{AllZip, slice_split}
-use Rattle.pep_marker.specs.Runs.{IsBlank}
+use Rattle.texts.specs.Runs.{IsBlank}
 use Rattle.pep_require.specs.Reads.{IsExtra}
 
 -- the text is no name with white space round it

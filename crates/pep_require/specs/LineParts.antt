@@ -3,14 +3,16 @@
 -- "Dependency specifiers", "Grammar" (PEP 508).
 use Rattle.std.specs.Prelude.{◌≡◌, ◌≢◌, ℕ, ◌==◌, ◌⊎◌, Bool, true, false, not, ◌||◌, List, []}
 use Rattle.std.specs.Prelude.{◌∷◌, ◌++◌, drop, length, take_while, Option, Some, None, Err}
-use Rattle.specifiers.specs.Clause.{Clause, ClauseOf, IsClauseOf, is_clause_byte, operator_of}
+use Rattle.specifiers.specs.Clause.{Clause, ClauseOf, IsClauseOf, operator_of}
+use Rattle.texts.specs.Bytes.{is_clause_byte}
 use Rattle.specifiers.specs.Clause.{operator_text}
 use Rattle.specifiers.specs.declared.fault.ClauseFault.{ClauseFault}
 use Rattle.specifiers.specs.declared.fault.ClauseFault.TheVariants as clause_fault
 use Rattle.specifiers.specs.declared.op.Op.{Op}
 use Rattle.pep_marker.specs.Marker.{NoMarker}
 use Rattle.pep_marker.specs.Name.{name_of}
-use Rattle.pep_marker.specs.Runs.{begins, is_blank_byte, without_leading_blanks}
+use Rattle.texts.specs.Runs.{begins, without_leading_blanks}
+use Rattle.texts.specs.Bytes.{is_blank_byte}
 use Rattle.pep_marker.specs.declared.fault.MarkerFault.{MarkerFault}
 use Rattle.pep_marker.specs.declared.fault.MarkerFault.TheVariants as marker_fault
 use Rattle.pep_require.specs.Faults.{beginning_fault, after_name, name_run}

@@ -5,17 +5,16 @@ use Rattle.std.specs.List.{AllZip, join_with_byte, list_all}
 use Rattle.url.specs.Parser.{parse_url}
 use Rattle.url.specs.Parts.{serialize}
 use Rattle.url.specs.Parts as url
-use Rattle.specifiers.specs.Clause.{Clause, ReadsClause, is_clause_byte, operator_text}
+use Rattle.specifiers.specs.Clause.{Clause, ReadsClause, operator_text}
+use Rattle.texts.specs.Limits.{line_limit}
+use Rattle.texts.specs.Bytes.{is_clause_byte}
 use Rattle.specifiers.specs.declared.op.Op.{Op}
 use Rattle.pep_marker.specs.Marker.{MarkerParts, IsMarker}
-use Rattle.pep_marker.specs.Runs.{IsBlank, is_blank_byte, begins}
+use Rattle.texts.specs.Runs.{IsBlank, begins}
+use Rattle.texts.specs.Bytes.{is_blank_byte}
 use Rattle.pep_marker.specs.Name.{name_of}
 use Rattle.pep_require.specs.Requirement.{RequirementParts, TargetParts, bounds, direct, UrlParts}
 use Rattle.pep_require.specs.Requirement.{IsAscending}
-
--- the longest line that is read, in bytes
-abbrev pub line_limit : ℕ
-line_limit = 65536
 
 -- ---- extras
 

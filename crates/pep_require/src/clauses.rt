@@ -11,9 +11,9 @@ ghost use Rattle.pep_require.specs.LineParts.{
 
 use crate::fault::RequireFault;
 use crate::front::{behind, pieces, stripped};
-use pep_version::first_part;
-use specifiers::{Clause, ClauseFault, Op, clause_run};
+use specifiers::{Clause, ClauseFault, Op};
 use std::alloc::Global;
+use texts::{clause_run, first_part};
 
 // The clauses in front of a text, and what stands behind them.
 #[derive(Drop)]

@@ -8,8 +8,9 @@ ghost use Rattle.pep_require.specs.Requirement.{IsAscending};
 
 use crate::fault::RequireFault;
 use crate::front::{behind, pieces, stripped};
-use pep_marker::{MarkerFault, Name, name_run};
+use pep_marker::{MarkerFault, Name};
 use std::alloc::Global;
+use texts::name_run;
 
 // Extras at the front of a text, sorted and each once, and the text behind them.
 #[derive(Drop)]

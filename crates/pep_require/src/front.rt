@@ -10,9 +10,9 @@ ghost use Rattle.std.specs.Prelude.{
   false,
   count_by,
 };
-ghost use Rattle.pep_marker.specs.Runs.{begins, without_leading_blanks};
+ghost use Rattle.texts.specs.Runs.{begins, without_leading_blanks};
 
-use pep_marker::blank_run;
+use texts::blank_run;
 
 // The text without the white space in front.
 pub(crate) fn stripped(text: &str) -> &str

@@ -3,7 +3,8 @@
 ghost use Rattle.std.specs.Prelude.{◌≡◌, ◌≢◌, ◌≤◌, ℕ, List, length};
 ghost use Rattle.pep_require.specs.Code.{IsSameFault};
 ghost use Rattle.pep_require.specs.LineParts.{RefusesLine};
-ghost use Rattle.pep_require.specs.Reads.{Reads, line_limit};
+ghost use Rattle.pep_require.specs.Reads.{Reads};
+ghost use Rattle.texts.specs.Limits.{line_limit};
 ghost use Rattle.pep_require.specs.Requirement.{RequirementParts};
 ghost use Rattle.pep_require.specs.RequirementText.{requirement_text};
 

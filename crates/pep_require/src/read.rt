@@ -13,11 +13,9 @@ use crate::fault::RequireFault;
 use crate::front::{behind, stripped};
 use crate::requirement::Requirement;
 use crate::target::target_at;
-use pep_marker::{Marker, MarkerFault, Name, name_run};
+use pep_marker::{Marker, MarkerFault, Name};
 use std::alloc::Global;
-
-// The longest line, in bytes.
-const LINE_LIMIT: usize = 65536;
+use texts::{LINE_LIMIT, name_run};
 
 impl Requirement {
     ghost use Rattle.std.specs.Prelude.{IfErr, IfOk};

@@ -2,7 +2,8 @@
 
 ghost use Rattle.std.specs.Prelude.{◌≡◌, ◌≤◌, ◌⊎◌, ◌∷◌, IfErr, IfOk, length, not, true};
 ghost use Rattle.std.specs.List.{prefix_len};
-ghost use Rattle.pep_marker.specs.Runs.{begins, is_blank_byte};
+ghost use Rattle.texts.specs.Runs.{begins};
+ghost use Rattle.texts.specs.Bytes.{is_blank_byte};
 ghost use Rattle.pep_require.specs.LineParts.{
   RefusesTarget,
   RefusesUrl,
@@ -17,8 +18,8 @@ use crate::fault::RequireFault;
 use crate::front::{behind, stripped};
 use crate::requirement::Target;
 use crate::url_text::UrlText;
-use pep_marker::is_blank_byte;
 use std::alloc::Global;
+use texts::is_blank_byte;
 
 // The target at the front of a text, and the text behind it.
 #[derive(Drop)]

@@ -5,7 +5,7 @@ use Rattle.std.proofs.Common.{Option, Some, None}
 use Rattle.std.proofs.Math.Logic.{⊎_map}
 use Rattle.std.proofs.lemmas.Option.{IfSome_then}
 use Rattle.std.specs.Prelude.{◌↔◌, IfSome, IsSome}
-use Rattle.pep_version.proofs.Connectives.{and_from, and_parts}
+use Rattle.texts.proofs.Connectives.{and_from, and_parts}
 use Rattle.pep_version.proofs.PlaceLemmas.{place-of-place, place-version}
 use Rattle.pep_version.specs.Order.{place_of}
 use Rattle.pep_version.specs.Version.{IsVersion, Version}

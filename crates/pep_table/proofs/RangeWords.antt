@@ -66,28 +66,20 @@ end_last (after v) e = cc e
 end_last (past p) e = cc e
 end_last end e = cc e
 
+two_words : (kind : List ℕ) (v : Version) → IsVersion v → HasNoSpace kind →
+    TwoWords (kind ++ 32 ∷ normal_text v)
+two_words kind v is plain = record {
+  kind = kind;
+  version = normal_text v;
+  split = refl;
+  kind_plain = plain;
+  version_plain = plain_version v is;
+}
+
 low_words : (c d : Cut) → IsCut c → cut_cmp c d ≡ Less → TwoWords (cut_text c)
-low_words (before v) d is less = record {
-  kind = codes "before";
-  version = normal_text v;
-  split = refl;
-  kind_plain = refl;
-  version_plain = plain_version v is.0;
-}
-low_words (after v) d is less = record {
-  kind = codes "after";
-  version = normal_text v;
-  split = refl;
-  kind_plain = refl;
-  version_plain = plain_version v is.0;
-}
-low_words (past p) d is less = record {
-  kind = codes "past";
-  version = normal_text (final_version p);
-  split = refl;
-  kind_plain = refl;
-  version_plain = plain_version (final_version p) is.0;
-}
+low_words (before v) d is less = two_words (codes "before") v is.0 refl
+low_words (after v) d is less = two_words (codes "after") v is.0 refl
+low_words (past p) d is less = two_words (codes "past") (final_version p) is.0 refl
 low_words end d is less = absurd (end_last d less)
 
 -- ---- the text of a range

@@ -7,7 +7,7 @@ use Rattle.std.specs.List.{list_all}
 use Rattle.std.proofs.lemmas.List.{append_cancel_left}
 use Rattle.std.proofs.lemmas.List.Elements.{All-cons, All-head, All-nil, All-push, All-tail}
 use Rattle.std.proofs.lemmas.List.Elements.{All-weaker}
-use Rattle.pep_version.proofs.Connectives.{and_first, and_second}
+use Rattle.texts.proofs.Connectives.{and_first, and_second}
 use Rattle.pep_require.specs.Requirement.{IsAscending}
 use Rattle.pep_table.proofs.Runs.{run_one}
 use Rattle.pep_table.specs.TableReading.{AreItems, BeginsKind, Front, HasNoFeed, HasNoFront}

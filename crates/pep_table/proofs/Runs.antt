@@ -4,7 +4,7 @@ use Rattle.std.proofs.Common.{subst, ◌∙◌}
 use Rattle.std.specs.Prelude.{⊤}
 use Rattle.std.specs.List.{AllByRecursion, list_all}
 use Rattle.std.proofs.lemmas.List.Folds.{list_all-append}
-use Rattle.pep_version.proofs.Connectives.{and_first, and_from, and_second}
+use Rattle.texts.proofs.Connectives.{and_first, and_from, and_second}
 
 -- the list does not begin with an item that passes
 abbrev pub Stops : {X : Type 0} → (X → Bool) → List X → Type 0

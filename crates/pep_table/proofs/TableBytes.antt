@@ -12,7 +12,7 @@ use Rattle.specifiers.specs.Clause.{is_demanded_text}
 use Rattle.pep_clause.specs.Cut.{Cut, IsCut, before, after, past, end, cut_text, final_version}
 use Rattle.pep_clause.specs.VersionSet.{Range}
 use Rattle.pep_marker.specs.Name.{IsNormalName}
-use Rattle.pep_marker.proofs.RunLemmas.{ascii-class}
+use Rattle.texts.proofs.RunLemmas.{ascii-class}
 use Rattle.pep_table.proofs.CutTexts.{HasCuts, have_cuts, is_plain, normal_plain}
 use Rattle.pep_table.proofs.Runs.{all_append, each_map}
 use Rattle.pep_table.proofs.TableLines.{IsTextEntry, demanded_plain, name_plain, text_entries, url_plain}

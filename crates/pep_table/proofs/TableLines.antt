@@ -6,11 +6,13 @@ use Rattle.std.specs.Char.{is_ascii_uppercase}
 use Rattle.std.specs.List.{All, AllByRecursion, concat, list_all}
 use Rattle.std.proofs.lemmas.Bool.Decides.{nat_tests}
 use Rattle.std.proofs.lemmas.List.Elements.{All-head, All-tail}
-use Rattle.pep_version.proofs.Connectives.{and_first, and_second}
+use Rattle.texts.proofs.Connectives.{and_first, and_second}
 use Rattle.pep_version.proofs.NormalTexts.{list_all-weaker}
-use Rattle.pep_version.specs.Version.{is_empty}
-use Rattle.specifiers.specs.Clause.{is_clause_byte, is_demanded_text}
-use Rattle.pep_marker.specs.Name.{IsNormalName, is_letter_or_digit, is_name_byte}
+use Rattle.texts.specs.Lists.{is_empty}
+use Rattle.texts.specs.Bytes.{is_clause_byte}
+use Rattle.specifiers.specs.Clause.{is_demanded_text}
+use Rattle.pep_marker.specs.Name.{IsNormalName}
+use Rattle.texts.specs.Bytes.{is_letter_or_digit, is_name_byte}
 use Rattle.pep_require.specs.Reads.{is_url_byte}
 use Rattle.pep_table.proofs.CutTexts.{HasCuts, HasNoFeed, have_cuts, is_not_feed, is_not_space}
 use Rattle.pep_table.proofs.CutTexts.{is_plain, range_feed, without_feed, without_space}

@@ -5,7 +5,7 @@ use Rattle.std.specs.Prelude.{Contains, bytes_eq, slice_index_or, ◌↔◌, unw
 use Rattle.std.specs.List.{All, list_all}
 use Rattle.std.proofs.lemmas.List.Elements.{All-contains, All-nil}
 use Rattle.std.proofs.lemmas.Slice.Eq.{bytes_eq-Decides}
-use Rattle.pep_version.proofs.Connectives.{and_from, and_parts}
+use Rattle.texts.proofs.Connectives.{and_from, and_parts}
 use Rattle.pep_version.proofs.PlaceLemmas.{place-of-place, place-version}
 use Rattle.pep_version.specs.Order.{place_of}
 use Rattle.pep_version.specs.Version.{IsVersion, Version}
@@ -428,6 +428,16 @@ no_demands = (
   λ name. tt,
 )
 
+-- a table of nothing and of some demands is that of these
+pub of_nothing : (Q : Demands) (t : TableParts) → IsTable (Together (λ name d. ⊥) Q) t →
+    HasExactPoints (Together (λ name d. ⊥) Q) t → IsTable Q t × HasExactPoints Q t
+of_nothing Q t is exact =
+    same_demands (Together (λ name d. ⊥) Q) Q t (λ name d. (back name d, λ w. inr w)) is exact
+  where
+    back : (name : List ℕ) (d : Demand) → ⊥ ⊎ Q name d → Q name d
+    back name d (inl q) = absurd q
+    back name d (inr w) = w
+
 -- the table of the requirements that apply
 pub table_of_applying : (e : EnvironmentParts) (rs : List RequirementParts) (t : TableParts) →
     TakesApplying e [] rs t →
@@ -435,13 +445,7 @@ pub table_of_applying : (e : EnvironmentParts) (rs : List RequirementParts) (t :
 table_of_applying e rs t k =
     let all =
     applying_is_table e (λ name d. ⊥) [] rs t no_demands.0 no_demands.1 k in
-    same_demands (Together (λ name d. ⊥) (ApplyingDemands e rs)) (ApplyingDemands e rs) t
-    (λ name d. (back name d, λ w. inr w)) all.0 all.1
-  where
-    back : (name : List ℕ) (d : Demand) → ⊥ ⊎ ApplyingDemands e rs name d →
-        ApplyingDemands e rs name d
-    back name d (inl q) = absurd q
-    back name d (inr w) = w
+    of_nothing (ApplyingDemands e rs) t all.0 all.1
 
 -- ---- requirements one after another
 

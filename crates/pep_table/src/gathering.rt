@@ -11,7 +11,7 @@ ghost use Rattle.pep_table.specs.TableText.{IsTableText, Shows, entry_text};
 
 use crate::table::Table;
 use crate::text::push_entry;
-use demands::{Entry, Gathered, Kept, TableFault};
+use demands::{Entry, Kept, PackageDemands, TableFault};
 use pep_marker::{Environment, MarkerFault, Name};
 use pep_require::Requirement;
 use std::alloc::Global;
@@ -21,7 +21,7 @@ use std::marker::Model;
 /// What the requirements and tables so far demand. Clauses see the table of it.
 #[derive(Drop)]
 pub struct Gathering {
-    entries: BTreeMap<Name, Gathered>,
+    entries: BTreeMap<Name, PackageDemands>,
 }
 
 impl Model for Gathering {
@@ -39,7 +39,7 @@ fn push_gathered(
     alloc: Global,
     text: &mut String,
     name: &Name,
-    gathered: Gathered,
+    gathered: PackageDemands,
 ) -> Result<(), TableFault>
     requires { IsValidEntry gathered }
     ensures ok { OnOk result ((verdict : Verdict) × Shows gathered verdict
@@ -73,7 +73,7 @@ impl Gathering {
             entry.take(alloc, requirement)?;
             return Ok(self);
         }
-        let mut entry = Gathered::bare();
+        let mut entry = PackageDemands::bare();
         entry.take(alloc, requirement)?;
         self.entries.insert(name.kept(alloc)?, entry)?;
         Ok(self)
@@ -135,7 +135,7 @@ impl Gathering {
             kept.join(alloc, entry)?;
             return Ok(self);
         }
-        let mut kept = Gathered::bare();
+        let mut kept = PackageDemands::bare();
         kept.join(alloc, entry)?;
         self.entries.insert(name.kept(alloc)?, kept)?;
         Ok(self)

@@ -1,4 +1,4 @@
--- What answers and refusals of the program mean, and the line that tells one of them.
+-- What replies and refusals of the program mean, and the line that tells one of them.
 use Rattle.std.proofs.Common.{◌≡◌, ◌⊎◌, ◌∙◌, ℕ, ◌+◌, ◌≤◌, false, ap, List, [], ◌∷◌, ◌++◌}
 use Rattle.std.proofs.Common.{Option, Some, None, subst, Result, Ok, Err, IfOk, IfErr, codes, refl}
 use Rattle.std.proofs.Common.{inl, inr, length}
@@ -19,6 +19,7 @@ use Rattle.pep_version.specs.Spelling.{Reads}
 use Rattle.pep_version.specs.Version.{Version}
 use Rattle.pep_version.specs.declared.fault.VersionFault.{VersionFault}
 use Rattle.pep_version.specs.declared.fault.VersionFault.TheVariants as version_fault
+use Rattle.faults.specs.declared.fault.ArgumentFault.TheVariants as argument
 use Rattle.faults.specs.declared.fault.Fault.{Fault}
 use Rattle.faults.specs.declared.fault.Place.TheVariants as place
 use Rattle.inputs.specs.declared.input.Input.{Input}
@@ -28,20 +29,21 @@ use Rattle.devices.specs.Device.{Device}
 use Rattle.faults.specs.FaultLine.{fault_line}
 use Rattle.devices.specs.Folder.{KnownFile}
 use Rattle.inputs.specs.Gathered.{AcceptsBytes, Gathered, IsAccepted}
-use Rattle.faults.specs.InnerFault.{fault_of_name, fault_of_version}
+use Rattle.faults.specs.InnerFault.{fault_of_argument}
 use Rattle.inputs.specs.ListedText.{listed_text}
-use Rattle.inputs.specs.Lists.{Lists, input_limit}
+use Rattle.inputs.specs.Lists.{Lists}
+use Rattle.inputs.specs.Lists.{input_limit}
 use Rattle.inputs.specs.Merge.{IsMerge}
 use Rattle.inputs.specs.Refusal.{IsRefused, RefusesInputs, no_memory}
 use Rattle.command_line.specs.Plan.{Asks, CheckRequest, Request, check_version}
 use Rattle.pep_tool.specs.Run.{Refuses, Tells, TellsRefusal, by_memory, by_output, by_request}
 use Rattle.pep_tool.specs.Run.{write_fault}
-use Rattle.pep_tool.specs.RunAnswers.{Answers, ChecksFiles, ListsFile, MergesFiles, MergesInput}
-use Rattle.pep_tool.specs.RunAnswers.{RefusesCheck, RefusesFiles, answer_line, answer_status}
-use Rattle.pep_tool.specs.RunAnswers.{by_checked}
-use Rattle.pep_tool.specs.RunAnswers.{RefusesInput, RefusesName, RefusesRequest, RefusesVersion}
-use Rattle.pep_tool.specs.RunAnswers.{by_bytes}
-use Rattle.pep_tool.specs.RunAnswers.{by_inputs}
+use Rattle.pep_tool.specs.RunReplies.{IsReply, ChecksFiles, ListsFile, MergesFiles, MergesInput}
+use Rattle.pep_tool.specs.RunReplies.{RefusesCheck, RefusesFiles, answer_line, answer_status}
+use Rattle.pep_tool.specs.RunReplies.{by_checked}
+use Rattle.pep_tool.specs.RunReplies.{RefusesInput, RefusesName, RefusesRequest, RefusesVersion}
+use Rattle.pep_tool.specs.RunReplies.{by_bytes}
+use Rattle.pep_tool.specs.RunReplies.{by_inputs}
 use Rattle.pep_tool.specs.RunFiles.{ReadsEnvironment, ReadsFile, ReadsInputs, kind_of}
 use Rattle.pep_tool.specs.Standard.{standard_environment}
 
@@ -116,7 +118,8 @@ merge_refused i left after source f e reads whole ready (inr b) =
 
 -- the fault of a version that can't be read
 pub refused_version : (text : Text) (reason : VersionFault) → Reads text (Err reason) →
-    (fault_of_version reason ≡ no_memory) ⊎ RefusesVersion text (fault_of_version reason)
+    (fault_of_argument (argument.Version reason) ≡ no_memory)
+    ⊎ RefusesVersion text (fault_of_argument (argument.Version reason))
 refused_version text version_fault.NoMemory h = inl refl
 refused_version text version_fault.NotAVersion h =
     inr (record { reason = version_fault.NotAVersion; reads = h; known = λ e. cc e; is = refl })
@@ -127,10 +130,11 @@ refused_version text version_fault.NumberTooLarge h =
 pub refused_name : (text : Text) (reason : MarkerFault)
     → (reason ≡ marker_fault.BadName → name_of text ≡ None)
     → (reason ≡ marker_fault.BadName) ⊎ (reason ≡ marker_fault.NoMemory) →
-    (fault_of_name reason ≡ no_memory) ⊎ RefusesName text (fault_of_name reason)
+    (fault_of_argument (argument.Name reason) ≡ no_memory)
+    ⊎ RefusesName text (fault_of_argument (argument.Name reason))
 refused_name text reason none (inl bad) =
-    inr (record { is_none = none bad; is = ap fault_of_name bad })
-refused_name text reason none (inr memory) = inl (ap fault_of_name memory)
+    inr (record { is_none = none bad; is = ap (λ f. fault_of_argument (argument.Name f)) bad })
+refused_name text reason none (inr memory) = inl (ap (λ f. fault_of_argument (argument.Name f)) memory)
 
 -- ---- files that were read
 
@@ -208,7 +212,7 @@ checks_files (Ok a) files left_of device_of c v name e inputs given is named has
       inputs = inputs;
       reads = reads;
       accepted = subst (All (IsAccepted e)) same all;
-      answers = subst (λ (is : List Input). IsAnswer (Gathered e is name) v c.pre a) same h;
+      is_answer = subst (λ (is : List Input). IsAnswer (Gathered e is name) v c.pre a) same h;
     }
 checks_files (Err f) files left_of device_of c v name e inputs given is named has reads same all h =
     tt
@@ -227,17 +231,17 @@ Keeps-itself None = tt
 Keeps-itself (Some a) = refl
 
 -- what is printed of it
-pub answers_check : {A File : Type 0} (text_of : A → List ℕ) (status_of : A → ℕ)
+pub check_replies : {A File : Type 0} (text_of : A → List ℕ) (status_of : A → ℕ)
     (r : Result A Fault) (files : Text → KnownFile) (left_of : File → Option (List ℕ))
     (device_of : File → Device) (c : CheckRequest) (left : Option (List ℕ)) (answer : Answer) →
     ChecksFiles files left_of device_of c answer
     → IfOk r (λ a. text_of a ≡ answer_line answer)
     → IfOk r (λ a. status_of a ≡ answer_status answer)
-    → IfOk r (λ a. Answers files left_of device_of (check_version c) left left (text_of a)
+    → IfOk r (λ a. IsReply files left_of device_of (check_version c) left left (text_of a)
     (status_of a))
-answers_check text_of status_of (Ok a) files left_of device_of c left answer h line status =
+check_replies text_of status_of (Ok a) files left_of device_of c left answer h line status =
     ((answer, h, line, status), Keeps-itself left)
-answers_check text_of status_of (Err f) files left_of device_of c left answer h line status = tt
+check_replies text_of status_of (Err f) files left_of device_of c left answer h line status = tt
 
 -- ---- the program
 
@@ -258,12 +262,12 @@ pub refuses_write : {File : Type 0} (files : Text → KnownFile)
     (left_of : File → Option (List ℕ)) (device_of : File → Device) (words : List Text)
     (left after : Option (List ℕ)) (input output : Device) (r : Request) (text : List ℕ)
     (status : ℕ) (f : Fault) → Asks words r →
-    Answers files left_of device_of r left after text status
+    IsReply files left_of device_of r left after text status
     → input.failed ≡ false → IsTrue output.failed → f ≡ write_fault →
     Refuses files left_of device_of words left after input output f
-refuses_write files left_of device_of words left after input output r text status f asked answers
+refuses_write files left_of device_of words left after input output r text status f asked reply
     ready failed is =
-    by_output r text status asked answers ready failed is
+    by_output r text status asked reply ready failed is
 
 -- what was told of a fault with which the program refuses
 pub TellsRefusal-from_tells : {File : Type 0} (files : Text → KnownFile)

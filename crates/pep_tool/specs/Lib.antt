@@ -1,6 +1,6 @@
 pub mod Standard
 pub mod RunFiles
-pub mod RunAnswers
+pub mod RunReplies
 pub mod Run
 pub use Rattle.devices.specs.Device
 pub use Rattle.devices.specs.Folder
@@ -8,7 +8,6 @@ pub use Rattle.faults.specs.Code
 pub use Rattle.faults.specs.FaultLine
 pub use Rattle.faults.specs.InnerFault
 pub use Rattle.command_line.specs.Plan
-pub use Rattle.inputs.specs.Limits
 pub use Rattle.inputs.specs.Document
 pub use Rattle.inputs.specs.Project
 pub use Rattle.inputs.specs.EnvironmentFile

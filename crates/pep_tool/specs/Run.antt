@@ -10,7 +10,7 @@ use Rattle.faults.specs.FaultLine.{fault_line}
 use Rattle.devices.specs.Folder.{KnownFile}
 use Rattle.command_line.specs.Plan.{AskNothing, Asks, IsBadWords, Request}
 use Rattle.inputs.specs.Refusal.{no_memory}
-use Rattle.pep_tool.specs.RunAnswers.{Answers, RefusesRequest}
+use Rattle.pep_tool.specs.RunReplies.{IsReply, RefusesRequest}
 
 -- writing the answer failed
 abbrev pub write_fault : Fault
@@ -30,12 +30,12 @@ module _ {File : Type 0} (files : Text → KnownFile) (left_of : File → Option
     (device_of : File → Device) where
   -- The words ask for something, which has this text as its answer, with this exit status; and the
   -- text was written to a sink that tells its bytes.
-  pub record PrintsAnswer (words : List Text) (left after written printed : Option (List ℕ))
+  pub record PrintsReply (words : List Text) (left after written printed : Option (List ℕ))
       (status : ℕ) : Type 0 where
     pub request : Request
     pub asked : Asks words request
     pub text : List ℕ
-    pub answers : Answers files left_of device_of request left after text status
+    pub is_reply : IsReply files left_of device_of request left after text status
     pub writes : Appends written printed text
 
   -- Why the program refuses with this fault: the words ask for nothing, what they ask for is
@@ -48,7 +48,7 @@ module _ {File : Type 0} (files : Text → KnownFile) (left_of : File → Option
         RefusesRequest files left_of device_of r left after input fault
         → Refuses words left after input output fault
     by_output : (r : Request) (text : List ℕ) (status : ℕ) → Asks words r →
-        Answers files left_of device_of r left after text status
+        IsReply files left_of device_of r left after text status
         → input.failed ≡ false → IsTrue output.failed → fault ≡ write_fault →
         Refuses words left after input output fault
 

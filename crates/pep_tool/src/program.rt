@@ -18,16 +18,16 @@ ghost use Rattle.devices.specs.Device.{Device, IsFresh};
 ghost use Rattle.devices.specs.Folder.{unknown_files};
 ghost use Rattle.inputs.specs.Lists.{input_limit};
 ghost use Rattle.command_line.specs.Plan.{Asks, standard};
-ghost use Rattle.pep_tool.specs.Run.{PrintsAnswer, Refuses, Tells, TellsRefusal, WritesLine};
+ghost use Rattle.pep_tool.specs.Run.{PrintsReply, Refuses, Tells, TellsRefusal, WritesLine};
 
-mod answers;
 mod reading;
+mod reply;
 
 use crate::write::write_text;
-use answers::reply_to;
 use command_line::plan_of;
 use devices::{Counted, Disk, Folder, Sink, Source};
 use faults::Fault;
+use reply::reply_to;
 use std::alloc::Global;
 use std::rt::Files;
 
@@ -85,7 +85,7 @@ pub fn run<R: Files + AllocGlobal, I: Source, O: Sink, F: Sink>(
     ensures status { result ≤ 2 }
 
     // At status 0 and 1 what the words ask for was printed, and nothing was told.
-    ensures printed { result ≢ 2 → PrintsAnswer unknown_files
+    ensures printed { result ≢ 2 → PrintsReply unknown_files
         ⟦<Counted<R::File> as Source>⟧.left ⟦<Counted<R::File> as Source>⟧.device
         (map string_bytes words.now) (I.left input.old) (I.left input.new) (O.written output.old)
         (O.written output.new) result }
@@ -93,8 +93,8 @@ pub fn run<R: Files + AllocGlobal, I: Source, O: Sink, F: Sink>(
         → ((I.device input.new).failed ≡ false) × ((O.device output.new).failed ≡ false) }
     ensures quiet { result ≢ 2 → Keeps (F.written faults.old) (F.written faults.new) }
 
-    // Where the words don't ask for the table of the input, the input is as it was; no more of it
-    // is read than the largest list and a byte.
+    // Where the words don't ask for the table of the input, the input is as it was; it is read at
+    // most once for each byte of the largest list, and once more.
     ensures unread { ¬ Asks (map string_bytes words.now) standard → input.new ≡ input.old }
     ensures calls { (I.device input.new).calls ≤ input_limit + 1 }
 
@@ -126,15 +126,15 @@ pub fn run_in<D: Folder, I: Source, O: Sink, F: Sink>(
     ensures status { result ≤ 2 }
 
     // At status 0 and 1 what the words ask for was printed, and nothing was told.
-    ensures printed { result ≢ 2 → PrintsAnswer (D.file_at folder.now) D.File.left D.File.device
+    ensures printed { result ≢ 2 → PrintsReply (D.file_at folder.now) D.File.left D.File.device
         (map string_bytes words.now) (I.left input.old) (I.left input.new) (O.written output.old)
         (O.written output.new) result }
     ensures no_failure { result ≢ 2
         → ((I.device input.new).failed ≡ false) × ((O.device output.new).failed ≡ false) }
     ensures quiet { result ≢ 2 → Keeps (F.written faults.old) (F.written faults.new) }
 
-    // Where the words don't ask for the table of the input, the input is as it was; no more of it
-    // is read than the largest list and a byte.
+    // Where the words don't ask for the table of the input, the input is as it was; it is read at
+    // most once for each byte of the largest list, and once more.
     ensures unread { ¬ Asks (map string_bytes words.now) standard → input.new ≡ input.old }
     ensures calls { (I.device input.new).calls ≤ input_limit + 1 }
 
@@ -167,7 +167,7 @@ fn print_reply<D: Folder, I: Source, O: Sink>(
     ensures status { IfOk result (λ status. status ≤ 1) }
     ensures no_failure { OnOk result
         (((I.device input.new).failed ≡ false) × ((O.device output.new).failed ≡ false)) }
-    ensures printed { IfOk result (PrintsAnswer (D.file_at folder.now) D.File.left D.File.device
+    ensures printed { IfOk result (PrintsReply (D.file_at folder.now) D.File.left D.File.device
         (map string_bytes words.now) (I.left input.old) (I.left input.new) (O.written output.old)
         (O.written output.new)) }
     ensures refused { IfErr result (Refuses (D.file_at folder.now) D.File.left D.File.device

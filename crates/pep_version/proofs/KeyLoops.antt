@@ -7,7 +7,7 @@ use Rattle.std.proofs.lemmas.Str.{IsUtf8-from_ascii}
 use Rattle.std.specs.List.{AllByRecursion, list_all}
 use Rattle.std.specs.Prelude.{IsUtf8, if◌then◌else◌}
 use Rattle.std.specs.Str.{IsAscii}
-use Rattle.pep_version.proofs.Connectives.{and_first, and_second}
+use Rattle.texts.proofs.Connectives.{and_first, and_second}
 use Rattle.pep_version.proofs.SliceLemmas.{word-ascii}
 use Rattle.pep_version.specs.Version.{IsSegment, is_word_byte, number, word}
 use Rattle.pep_version.specs.KeyReading.{read_map, read_segment, read_word, word_count, Reader, put_first, read_ended, read_number, read_release_number}

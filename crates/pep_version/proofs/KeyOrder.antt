@@ -17,7 +17,9 @@ use Rattle.pep_version.proofs.PlaceLemmas.{Same-place_of}
 use Rattle.pep_version.specs.Order.{Same, dev_cmp, phase_rank, place_cmp, pre_number, pre_number_of, release_cmp, segment_cmp, stage, stage_of, suffix_cmp, version_cmp, without_end_zeros}
 use Rattle.pep_version.specs.KeyBytes.{KeysKeepOrder, PartsKeepOrder, dev_bytes, epoch_bytes, key_bytes, label_bytes, phase_byte, place_bytes, post_bytes, release_bytes, release_number_bytes, segment_bytes, stage_bytes, stage_bytes_of, suffix_bytes}
 use Rattle.pep_version.proofs.NumberBytes.{number_bytes-leads}
-use Rattle.pep_version.specs.Version.{Fits, IsSegment, IsVersion, Segment, SegmentFits, Version, is_empty, is_word_byte, number, word}
+use Rattle.pep_version.specs.Version.{Fits, IsSegment, IsVersion, Segment, SegmentFits, Version}
+use Rattle.pep_version.specs.Version.{is_word_byte, number, word}
+use Rattle.texts.specs.Lists.{is_empty}
 use Rattle.pep_version.specs.declared.parts.Phase.{Phase}
 use Rattle.pep_version.specs.declared.parts.Phase.TheVariants.{Alpha, Beta, Rc}
 

@@ -13,7 +13,8 @@ use Rattle.pep_version.specs.Order.{place_of, short_release, without_end_zeros}
 use Rattle.pep_version.specs.KeyBytes.{place_bytes, stage_bytes, dev_bytes, epoch_bytes, number_bytes, key_bytes, label_bytes, phase_byte, post_bytes, release_bytes, release_number_bytes, segment_bytes, stage_bytes_of, suffix_bytes}
 use Rattle.pep_version.proofs.KeyOrder.{IsSome_byte, WholeSegment, segment_starts, shortened_fits, whole, word_bytes}
 use Rattle.pep_version.specs.View.{version_with}
-use Rattle.pep_version.specs.Version.{Fits, IsVersion, Segment, Version, is_empty, number, word}
+use Rattle.pep_version.specs.Version.{Fits, IsVersion, Segment, Version, number, word}
+use Rattle.texts.specs.Lists.{is_empty}
 use Rattle.pep_version.specs.declared.parts.Phase.{Phase}
 use Rattle.pep_version.specs.declared.parts.Phase.TheVariants.{Alpha, Beta, Rc}
 use Rattle.pep_version.specs.KeyReading.{Reader, behind_place, read_version, from_dev, from_epoch, from_label, from_post, from_release, from_stage, put_first, read_dev, read_ended, read_label, read_map, read_number, read_numbers, read_post, read_release, read_release_number, read_segment, read_stage, version_at, whole_release, read_word, word_count}

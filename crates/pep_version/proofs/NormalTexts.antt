@@ -20,13 +20,14 @@ use Rattle.pep_version.specs.Spelling.{LabelSpelling, NumberSpelling, OptionalNu
 use Rattle.pep_version.specs.Spelling.{PostSpelling, PreSpelling, ReleaseSpelling, Spells}
 use Rattle.pep_version.specs.Spelling.{WordAndNumber, dev_words, dotted_parts, is_number, is_run}
 use Rattle.pep_version.specs.Spelling.{post_words, pre_words, segment_of_run, separated_parts}
-use Rattle.pep_version.specs.Spelling.{trimmed, without_leading_space, without_trailing_space}
-use Rattle.pep_version.specs.Bytes.{is_separator, is_white_space}
+use Rattle.texts.specs.Space.{trimmed, without_leading_space, without_trailing_space}
+use Rattle.texts.specs.Bytes.{is_separator, is_white_space}
 use Rattle.pep_version.specs.Text.{dev_text, epoch_text, is_text_byte, label_text, normal_text}
 use Rattle.pep_version.specs.Text.{phase_text, post_text, pre_text, release_text, segment_text}
 use Rattle.pep_version.specs.Version.{Fits, IsSegment, IsVersion, Segment, SegmentFits, number}
-use Rattle.pep_version.specs.Version.{Version, is_empty, is_word_byte, word}
-use Rattle.pep_version.proofs.Connectives.{and-false, and_first, and_second}
+use Rattle.pep_version.specs.Version.{Version, is_word_byte, word}
+use Rattle.texts.specs.Lists.{is_empty}
+use Rattle.texts.proofs.Connectives.{and-false, and_first, and_second}
 
 -- ---- numbers
 

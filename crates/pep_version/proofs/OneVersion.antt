@@ -13,10 +13,11 @@ use Rattle.pep_version.specs.declared.parts.Phase.TheVariants.{Alpha, Beta, Rc}
 use Rattle.pep_version.specs.Version.{Segment, Version}
 use Rattle.pep_version.specs.Spelling.{DevSpelling, EpochSpelling, IsOneOf, IsOptionalSeparator}
 use Rattle.pep_version.specs.Spelling.{LabelSpelling, PostSpelling, PreSpelling, PrecedingVSpelling}
-use Rattle.pep_version.specs.Spelling.{SpellsAny, dotted_parts, is_number, pre_words, trimmed}
-use Rattle.pep_version.specs.Bytes.{is_separator}
-use Rattle.pep_version.proofs.Connectives.{and-true, and_first, and_parts, and_second, or-true}
-use Rattle.pep_version.proofs.Connectives.{or_second}
+use Rattle.pep_version.specs.Spelling.{SpellsAny, dotted_parts, is_number, pre_words}
+use Rattle.texts.specs.Space.{trimmed}
+use Rattle.texts.specs.Bytes.{is_separator}
+use Rattle.texts.proofs.Connectives.{and-true, and_first, and_parts, and_second, or-true}
+use Rattle.texts.proofs.Connectives.{or_second}
 use Rattle.pep_version.proofs.Readers.{behind-append, front-append, may_follow}
 use Rattle.pep_version.proofs.Suffixes.{suffix-read, tail-worded}
 use Rattle.pep_version.proofs.Tails.{Tail, digits-all, digits-start, whole-of}

@@ -14,7 +14,8 @@ use Rattle.pep_version.specs.Laws.{positive, release_cmp-lists, same-parts, then
 use Rattle.pep_version.specs.Laws.{version_total, with_first}
 use Rattle.pep_version.specs.Order.{Same, place_cmp, place_of, release_cmp, short_release}
 use Rattle.pep_version.specs.Order.{suffix_cmp, version_cmp, with_suffixes, without_end_zeros}
-use Rattle.pep_version.specs.Version.{Fits, IsVersion, Version, is_empty}
+use Rattle.pep_version.specs.Version.{Fits, IsVersion, Version}
+use Rattle.texts.specs.Lists.{is_empty}
 
 -- taking the zeros away twice is as taking them away once
 pub without_end_zeros-twice : (xs : List ℕ) → without_end_zeros (without_end_zeros xs)

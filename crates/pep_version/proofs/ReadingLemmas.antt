@@ -8,7 +8,8 @@ use Rattle.pep_version.specs.declared.slices.Slices.{Slices}
 use Rattle.pep_version.specs.Slices.{AreReadable, left_runs, version_of_slices}
 use Rattle.pep_version.specs.Reading.{passes, read_version}
 use Rattle.pep_version.specs.Segments.{VersionOf}
-use Rattle.pep_version.specs.Spelling.{Reads, SpellsAny, trimmed}
+use Rattle.pep_version.specs.Spelling.{Reads, SpellsAny}
+use Rattle.texts.specs.Space.{trimmed}
 use Rattle.pep_version.specs.Version.{IsVersion, NumbersFit, Version}
 use Rattle.pep_version.proofs.OneVersion.{one-version, spelled-passes}
 use Rattle.pep_version.proofs.SpelledLaws.{runs-segments, some-part}

@@ -13,10 +13,11 @@ use Rattle.pep_version.specs.Slices.{lower}
 use Rattle.pep_version.specs.Reading.{behind, front, goes_on, release_behind, release_front}
 use Rattle.pep_version.specs.Reading.{starts_digit, stripped}
 use Rattle.pep_version.specs.Spelling.{is_run, segment_of_run, separated_parts}
-use Rattle.pep_version.specs.Bytes.{is_separator}
-use Rattle.pep_version.specs.Version.{Segment, SegmentFits, number, is_empty, is_word_byte, word}
-use Rattle.pep_version.proofs.Connectives.{and_first, and_second}
-use Rattle.pep_version.proofs.SplitLemmas.{split-at, split-whole}
+use Rattle.texts.specs.Bytes.{is_separator}
+use Rattle.pep_version.specs.Version.{Segment, SegmentFits, number, is_word_byte, word}
+use Rattle.texts.specs.Lists.{is_empty}
+use Rattle.texts.proofs.Connectives.{and_first, and_second}
+use Rattle.texts.proofs.SplitLemmas.{split-at, split-whole}
 use Rattle.pep_version.proofs.Readers.{behind-append, front-append}
 
 -- a text has no byte where it has none in lower case

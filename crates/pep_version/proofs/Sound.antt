@@ -20,10 +20,11 @@ use Rattle.pep_version.specs.Spelling.{DevSpelling, EpochSpelling, IsOneOf, IsOp
 use Rattle.pep_version.specs.Spelling.{LabelSpelling, OptionalNumberSpelling, PostSpelling}
 use Rattle.pep_version.specs.Spelling.{PreSpelling, PrecedingVSpelling, SpellsAny, WordAndNumber}
 use Rattle.pep_version.specs.Spelling.{dev_words, dotted_parts, ends_in_letter, is_number, is_run}
-use Rattle.pep_version.specs.Spelling.{post_words, pre_words, separated_parts, trimmed}
-use Rattle.pep_version.specs.Bytes.{is_separator}
+use Rattle.pep_version.specs.Spelling.{post_words, pre_words, separated_parts}
+use Rattle.texts.specs.Space.{trimmed}
+use Rattle.texts.specs.Bytes.{is_separator}
 use Rattle.pep_version.proofs.OneVersion.{first_ok, numbers-first}
-use Rattle.pep_version.proofs.Connectives.{and_first, and_second, not-true}
+use Rattle.texts.proofs.Connectives.{and_first, and_second, not-true}
 use Rattle.pep_version.proofs.Tails.{whole-of}
 
 -- ---- digits and separators

@@ -5,7 +5,7 @@ use Rattle.std.proofs.lemmas.Bool.{cases_Bool}
 use Rattle.std.specs.Char.{is_ascii_digit, is_ascii_lowercase}
 use Rattle.std.specs.List.{AllByRecursion, list_all, list_any}
 use Rattle.std.specs.Str.Parse.{digits_value}
-use Rattle.pep_version.proofs.Connectives.{and_first, and_second, or-true}
+use Rattle.texts.proofs.Connectives.{and_first, and_second, or-true}
 use Rattle.pep_version.specs.Spelling.{LabelSpelling, Spells, dotted_parts, is_run, segment_of_run}
 use Rattle.pep_version.specs.Spelling.{separated_parts}
 use Rattle.pep_version.specs.Version.{IsSegment, IsVersion, Segment, Version, is_word, is_word_byte}

@@ -15,7 +15,8 @@ use Rattle.pep_version.specs.declared.parts.Phase.TheVariants.{Alpha, Beta, Rc}
 use Rattle.pep_version.specs.Order.{Same, is_same, dev_cmp, phase_rank, place_cmp, pre_number}
 use Rattle.pep_version.specs.Order.{pre_number_of, release_cmp, segment_cmp, stage, stage_of}
 use Rattle.pep_version.specs.Order.{suffix_cmp, version_cmp, without_end_zeros}
-use Rattle.pep_version.specs.Version.{Segment, number, Version, is_empty, word}
+use Rattle.pep_version.specs.Version.{Segment, number, Version, word}
+use Rattle.texts.specs.Lists.{is_empty}
 
 -- what a chain of two comparisons that ties says of each
 pub then_first : (r s : Ordering) → ordering_then r s ≡ Equal → r ≡ Equal

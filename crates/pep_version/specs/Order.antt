@@ -8,7 +8,8 @@ use Rattle.std.specs.declared.cmp.Ordering.{Ordering}
 use Rattle.std.specs.declared.cmp.Ordering.TheVariants.{Less, Equal, Greater}
 use Rattle.pep_version.specs.declared.parts.Phase.{Phase}
 use Rattle.pep_version.specs.declared.parts.Phase.TheVariants.{Alpha, Beta, Rc}
-use Rattle.pep_version.specs.Version.{Segment, number, Version, is_empty, word}
+use Rattle.pep_version.specs.Version.{Segment, number, Version, word}
+use Rattle.texts.specs.Lists.{is_empty}
 
 -- releases are compared number by number, the shorter one padded with zeros ("Final releases")
 abbrev pub release_cmp : List ℕ → List ℕ → Ordering

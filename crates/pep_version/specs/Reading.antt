@@ -10,7 +10,7 @@ use Rattle.pep_version.specs.declared.parts.Phase.{Phase}
 use Rattle.pep_version.specs.declared.parts.Phase.TheVariants.{Alpha, Beta, Rc}
 use Rattle.pep_version.specs.Spelling.{dev_words, dotted_parts, is_run, post_words, segment_of_run}
 use Rattle.pep_version.specs.Spelling.{separated_parts}
-use Rattle.pep_version.specs.Bytes.{is_separator}
+use Rattle.texts.specs.Bytes.{is_separator}
 use Rattle.pep_version.specs.Version.{Segment, Version}
 
 -- ---- digits and separators

@@ -12,25 +12,11 @@ use Rattle.pep_version.specs.declared.parts.Phase.TheVariants.{Alpha, Beta, Rc}
 use Rattle.pep_version.specs.declared.fault.VersionFault.{VersionFault}
 use Rattle.pep_version.specs.declared.fault.VersionFault.TheVariants.{NotAVersion, NumberTooLarge}
 use Rattle.pep_version.specs.declared.fault.VersionFault.TheVariants.{NoMemory}
-use Rattle.pep_version.specs.Bytes.{is_separator, is_white_space}
-use Rattle.pep_version.specs.Version.{NumbersFit, Segment, number, Version, is_empty, is_word_byte}
+use Rattle.texts.specs.Bytes.{is_separator}
+use Rattle.texts.specs.Space.{trimmed}
+use Rattle.pep_version.specs.Version.{NumbersFit, Segment, number, Version, is_word_byte}
+use Rattle.texts.specs.Lists.{is_empty}
 use Rattle.pep_version.specs.Version.{word}
-
--- a text without the white space at its front
-abbrev pub without_leading_space : List ℕ → List ℕ
-without_leading_space [] = []
-without_leading_space (b ∷ rest) = if is_white_space b then without_leading_space rest else b ∷ rest
-
--- a text without the white space at its end
-abbrev pub without_trailing_space : List ℕ → List ℕ
-without_trailing_space [] = []
-without_trailing_space (b ∷ rest) =
-    if is_white_space b && is_empty (without_trailing_space rest) then []
-    else b ∷ without_trailing_space rest
-
--- a text without the white space at both ends
-abbrev pub trimmed : List ℕ → List ℕ
-trimmed text = without_trailing_space (without_leading_space text)
 
 -- nothing, or one separator
 abbrev pub IsOptionalSeparator : List ℕ → Type 0

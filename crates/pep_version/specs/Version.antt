@@ -1,6 +1,6 @@
 -- What a version is, apart from how it is written and stored. The sections named here are those of
 -- the specification "Version specifiers" (PEP 440).
-use Rattle.std.specs.Prelude.{ℕ, ◌<◌, ◌^◌, ◌&&◌, ◌||◌, Bool, true, false, List, [], ◌∷◌, length}
+use Rattle.std.specs.Prelude.{ℕ, ◌<◌, ◌^◌, ◌&&◌, ◌||◌, Bool, List, length}
 use Rattle.std.specs.Prelude.{Option, IsTrue, is_some}
 use Rattle.std.specs.Char.{is_ascii_digit, is_ascii_lowercase}
 use Rattle.std.specs.List.{AllByRecursion, list_all, list_any}
@@ -22,11 +22,6 @@ pub record Version : Type 0 where
   pub post : Option ℕ
   pub dev : Option ℕ
   pub label : List Segment
-
--- the list has no element
-abbrev pub is_empty : {A : Type 0} → List A → Bool
-is_empty [] = true
-is_empty (x ∷ xs) = false
 
 -- a byte of a word of a label: a letter in lower case or a digit ("Local version segments")
 abbrev pub is_word_byte : ℕ → Bool

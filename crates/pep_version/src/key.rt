@@ -111,7 +111,7 @@ impl Key {
     }
 
     /// The place of the version with these suffixes in place of its own, and with its label. The
-    /// only fault is `NoMemory`.
+    /// only fault is `NoMemory`. Public for the crate of cuts.
     pub fn with_suffixes(
         alloc: Global,
         version: &Version,
@@ -161,7 +161,7 @@ impl Key {
 
     /// The place of a final release, which has a number at least, or of its developmental release
     /// of this number (PEP 440, "Final releases", "Developmental releases"). The only fault is
-    /// `NoMemory`.
+    /// `NoMemory`. Public for the crate of cuts.
     pub fn of_release(
         alloc: Global,
         epoch: u64,

@@ -8,8 +8,8 @@ ghost use Rattle.pep_version.specs.Spelling.{dotted_parts, is_number};
 
 use crate::fault::VersionFault;
 use crate::number::number;
-use crate::split::first_part;
 use std::alloc::Global;
+use texts::first_part;
 
 /// The numbers of a release.
 pub(crate) fn release_numbers(alloc: Global, text: &[u8]) -> Result<Vec<u64>, VersionFault>

@@ -24,11 +24,11 @@ ghost use Rattle.pep_version.specs.Slices.{
 ghost use Rattle.pep_version.specs.Segments.{NumberOf, OptionalOf, PreOf, SegmentOf, SegmentsOf};
 ghost use Rattle.pep_version.specs.Spelling.{is_run, segment_of_run, separated_parts};
 
-use crate::bytes::is_separator;
 use crate::fault::VersionFault;
 use crate::number::{all_digits, number};
 use crate::parts::{Label, Phase};
 use std::alloc::Global;
+use texts::is_separator;
 
 /// The number that the digits write.
 pub(crate) fn written_number(digits: &[u8]) -> Result<u64, VersionFault>

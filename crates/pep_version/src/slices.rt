@@ -59,8 +59,8 @@ ghost use Rattle.pep_version.specs.Spelling.{
   separated_parts,
 };
 
-use crate::bytes::is_separator;
 use crate::parts::Phase;
+use texts::is_separator;
 
 /// The slices of a text that write a version: digits where a number stands, and the label behind
 /// its `+`. A number that is not written is no digits.

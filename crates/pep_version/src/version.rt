@@ -34,10 +34,10 @@ use crate::parts::{Label, Phase};
 use crate::release::release_numbers;
 use crate::segments::{optional_number, pre_number, read_segments, written_number};
 use crate::slices::{Slices, slices_of};
-use crate::space::trimmed;
 use crate::text::{push_epoch, push_label, push_part, push_pre, push_release};
 use std::alloc::Global;
 use std::marker::Model;
+use texts::trimmed;
 
 /// A Python version (PEP 440): an epoch, a release, and the parts that may follow the release. Each
 /// number is at most 18446744073709551615.

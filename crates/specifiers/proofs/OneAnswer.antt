@@ -3,8 +3,10 @@ use Rattle.std.proofs.Common.{◌≡◌, ◌≢◌, ℕ, Bool, true, false, List
 use Rattle.std.proofs.Common.{length, refl, sym, ap, ◌∙◌, Option, None, Result, Ok, Err}
 use Rattle.std.specs.Prelude.{MatchBool, codes, if◌then◌else◌, nat_eq, nat_lt}
 use Rattle.std.specs.List.{ends_with, list_all}
-use Rattle.pep_version.specs.Spelling.{Reads, SpellsAny, dotted_parts, is_number, trimmed}
-use Rattle.pep_version.specs.Version.{Version, is_empty}
+use Rattle.pep_version.specs.Spelling.{Reads, SpellsAny, dotted_parts, is_number}
+use Rattle.texts.specs.Space.{trimmed}
+use Rattle.pep_version.specs.Version.{Version}
+use Rattle.texts.specs.Lists.{is_empty}
 use Rattle.pep_version.specs.declared.fault.VersionFault.{VersionFault}
 use Rattle.pep_version.specs.declared.fault.VersionFault.TheVariants as version_fault
 use Rattle.specifiers.specs.Clause.{Clause, ClauseOf, Prefix, TargetAnswers, PrefixAnswers}

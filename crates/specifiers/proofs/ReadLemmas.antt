@@ -15,17 +15,19 @@ use Rattle.std.specs.Str.{IsCharBoundary, IsUtf8, str_to_ascii_lowercase}
 use Rattle.std.specs.Str.Pattern.{FindsTextSuffix, StripsSuffix}
 use Rattle.pep_version.specs.declared.fault.VersionFault.{VersionFault}
 use Rattle.pep_version.specs.Spelling.{Reads}
-use Rattle.pep_version.specs.Version.{Version, is_empty}
+use Rattle.pep_version.specs.Version.{Version}
+use Rattle.texts.specs.Lists.{is_empty}
 use Rattle.specifiers.specs.contracts.op.Op.{the_type}
 use Rattle.specifiers.specs.declared.fault.ClauseFault.{ClauseFault}
 use Rattle.specifiers.specs.declared.fault.ClauseFault.TheVariants as fault
 use Rattle.specifiers.specs.declared.op.Op.{Op}
 use Rattle.specifiers.specs.declared.op.Op.TheVariants as op
 use Rattle.specifiers.specs.Clause.{Clause, TargetAnswers, VersionAnswers, ends_in_space}
-use Rattle.specifiers.specs.Clause.{is_clause_byte, is_demanded_text, operator_of, operator_text}
+use Rattle.texts.specs.Bytes.{is_clause_byte}
+use Rattle.specifiers.specs.Clause.{is_demanded_text, operator_of, operator_text}
 use Rattle.specifiers.specs.Clause.{prefix_answer, version_answer}
 use Rattle.specifiers.proofs.OperatorLemmas.{operator_shape}
-use Rattle.pep_version.proofs.Connectives.{and_first, and_second, or-true}
+use Rattle.texts.proofs.Connectives.{and_first, and_second, or-true}
 
 lowercase : (b : ℕ) → is_ascii_uppercase b ≡ true → is_in_range 97 122 (b + 32) ≡ true
 lowercase b upper = grind arith

@@ -6,13 +6,14 @@ use Rattle.std.proofs.Math.Seq.{drop-append_seam}
 use Rattle.std.proofs.lemmas.Bool.Decides.{nat_tests}
 use Rattle.std.proofs.lemmas.List.Folds.{list_all-append}
 use Rattle.std.specs.List.{list_all}
-use Rattle.pep_version.proofs.Connectives.{and_first, and_second, not-true}
-use Rattle.pep_version.specs.Spelling.{trimmed, without_leading_space, without_trailing_space}
-use Rattle.pep_version.specs.Bytes.{is_white_space}
+use Rattle.texts.proofs.Connectives.{and_first, and_second, not-true}
+use Rattle.texts.specs.Space.{trimmed, without_leading_space, without_trailing_space}
+use Rattle.texts.specs.Bytes.{is_white_space}
 use Rattle.specifiers.specs.declared.op.Op.{Op}
 use Rattle.specifiers.specs.declared.op.Op.TheVariants as op
 use Rattle.specifiers.specs.Clause.{Clause, ClauseOf, IsClause, IsClauseOf, ReadsClauseAs}
-use Rattle.specifiers.specs.Clause.{TargetAnswers, is_clause_byte, operator_of, operator_text}
+use Rattle.specifiers.specs.Clause.{TargetAnswers, operator_of, operator_text}
+use Rattle.texts.specs.Bytes.{is_clause_byte}
 use Rattle.pep_version.proofs.NormalTexts.{list_all-weaker}
 
 abbrev pub is_ink : ℕ → Bool

@@ -13,10 +13,12 @@ use Rattle.std.specs.List.{ends_with, list_all}
 use Rattle.std.specs.Prelude.{if◌then◌else◌, nat_eq, nat_lt}
 use Rattle.std.specs.Str.{str_to_ascii_lowercase}
 use Rattle.pep_version.proofs.SpelledLaws.{spelled-version}
-use Rattle.pep_version.proofs.Connectives.{and_first, and_second, not-true, and-false}
-use Rattle.pep_version.specs.Spelling.{Reads, trimmed}
+use Rattle.texts.proofs.Connectives.{and_first, and_second, not-true, and-false}
+use Rattle.pep_version.specs.Spelling.{Reads}
+use Rattle.texts.specs.Space.{trimmed}
 use Rattle.pep_version.specs.Text.{is_text_byte, normal_text}
-use Rattle.pep_version.specs.Version.{IsVersion, Segment, Version, is_empty}
+use Rattle.pep_version.specs.Version.{IsVersion, Segment, Version}
+use Rattle.texts.specs.Lists.{is_empty}
 use Rattle.specifiers.specs.declared.fault.ClauseFault.{ClauseFault}
 use Rattle.specifiers.specs.declared.fault.ClauseFault.TheVariants as fault
 use Rattle.specifiers.specs.declared.op.Op.{Op}
@@ -26,7 +28,8 @@ use Rattle.specifiers.specs.Clause.{ReadsClauseAs}
 use Rattle.specifiers.specs.Clause.{ReadsThen, TargetAnswers, VersionAnswers, compatible, matching}
 use Rattle.specifiers.specs.Clause.{matching_prefix, excluding, excluding_prefix, at_most, at_least}
 use Rattle.specifiers.specs.Clause.{less_than, greater_than, demanded, demanded_of, clause_text}
-use Rattle.specifiers.specs.Clause.{ends_in_space, fault_of, is_clause_byte, is_demanded_text}
+use Rattle.specifiers.specs.Clause.{ends_in_space, fault_of, is_demanded_text}
+use Rattle.texts.specs.Bytes.{is_clause_byte}
 use Rattle.specifiers.specs.Clause.{is_final, operator_of, operator_text, prefix_answer}
 use Rattle.specifiers.specs.Clause.{prefix_clause, prefix_of, prefix_text, version_answer}
 use Rattle.specifiers.specs.Clause.{version_clause}

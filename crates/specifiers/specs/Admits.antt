@@ -6,7 +6,8 @@ use Rattle.std.specs.Cmp.Lexicographic.{pointwise}
 use Rattle.pep_version.specs.Order.{is_below, is_same, public_version, without_dev, without_post}
 use Rattle.pep_version.specs.Order.{without_pre}
 use Rattle.pep_version.specs.Text.{normal_text}
-use Rattle.pep_version.specs.Version.{Version, is_empty, is_pre_release}
+use Rattle.pep_version.specs.Version.{Version, is_pre_release}
+use Rattle.texts.specs.Lists.{is_empty}
 use Rattle.specifiers.specs.Clause.{Clause, Prefix, compatible, matching, matching_prefix}
 use Rattle.specifiers.specs.Clause.{excluding, excluding_prefix, at_most, at_least, less_than}
 use Rattle.specifiers.specs.Clause.{greater_than, demanded}

@@ -1,14 +1,17 @@
 -- Version specifier clauses and how they are written. The sections named here are those of the
 -- specification "Version specifiers" (PEP 440). A text is a list of bytes.
-use Rattle.std.specs.Prelude.{◌≡◌, ℕ, ◌==◌, ◌-◌, ◌&&◌, ◌||◌, Bool, not, List, ◌++◌, length, take}
+use Rattle.std.specs.Prelude.{◌≡◌, ℕ, ◌==◌, ◌-◌, ◌&&◌, Bool, not, List, ◌++◌, length, take}
 use Rattle.std.specs.Prelude.{drop, Option, Some, None, Result, Ok, Err, is_none, nat_eq, nat_lt}
 use Rattle.std.specs.Prelude.{codes, if◌then◌else◌, IsTrue, MatchBool, ⊤, []}
-use Rattle.std.specs.Char.{is_ascii_alphanumeric, is_ascii_uppercase}
+use Rattle.std.specs.Char.{is_ascii_uppercase}
 use Rattle.std.specs.List.{ends_with, list_all, starts_with}
 use Rattle.std.specs.Str.{str_to_ascii_lowercase}
-use Rattle.pep_version.specs.Spelling.{Reads, trimmed, without_trailing_space}
+use Rattle.pep_version.specs.Spelling.{Reads}
+use Rattle.texts.specs.Bytes.{is_clause_byte}
+use Rattle.texts.specs.Space.{trimmed, without_trailing_space}
 use Rattle.pep_version.specs.Text.{epoch_text, normal_text, release_text}
-use Rattle.pep_version.specs.Version.{Version, is_empty}
+use Rattle.pep_version.specs.Version.{Version}
+use Rattle.texts.specs.Lists.{is_empty}
 use Rattle.pep_version.specs.declared.fault.VersionFault.{VersionFault}
 use Rattle.pep_version.specs.declared.fault.VersionFault.TheVariants as version_fault
 use Rattle.specifiers.specs.declared.fault.ClauseFault.{ClauseFault}
@@ -73,12 +76,6 @@ operator_of text =
     else if begins_with op.Less text then Some op.Less
     else if begins_with op.More text then Some op.More
     else None
-
--- a byte that a clause may have behind its operator: a letter, a digit, or one of `-` `_` `.` `*`
--- `+` `!`
-abbrev pub is_clause_byte : ℕ → Bool
-is_clause_byte b =
-    is_ascii_alphanumeric b || b == 45 || b == 95 || b == 46 || b == 42 || b == 43 || b == 33
 
 -- one or more such bytes, in lower case, as a clause with `===` keeps its text
 abbrev pub is_demanded_text : List ℕ → Bool

@@ -1,27 +1,21 @@
 //! The public calls over inputs, and what no words ask for: no input, and the extra of a project file.
 
-use crate::environments::MACHINE;
 use crate::lines::{expect_line, expect_row};
-use pep_marker::{Environment, MarkerFault, Name};
+use pep_marker::{Environment, Name};
 use pep_require::{RequireFault, Requirement};
 use pep_table::Answer;
-use pep_tool::{Cause, Fault, Input, Kind, Place, check_bytes, list_of, merge_bytes, project_of};
+use pep_tool::{ArgumentFault, Fault, Input, Kind, check_bytes, list_of, merge_bytes, project_of};
 use pep_version::Version;
 use std::alloc::{AllocError, Global};
 use std::test::Fail;
+use tests_kit::MACHINE;
 
 /// An input's kind and its text.
 pub(crate) type Part<'a> = (Kind, &'a str);
 
-/// Want of memory.
-pub(crate) const NO_MEMORY: Fault = Fault {
-    place: Place::Nowhere,
-    cause: Cause::NoMemory,
-};
-
 /// The environment of the machine.
-pub(crate) fn machine(alloc: Global) -> Result<Environment, MarkerFault> {
-    Environment::of(alloc, &MACHINE)
+pub(crate) fn machine(alloc: Global) -> Result<Environment, Fault> {
+    Environment::of(alloc, &MACHINE).map_err(|_| Fault::no_memory())
 }
 
 // The input of a kind and a text.
@@ -94,18 +88,18 @@ fn flask_meets(
     version: &Version,
     want_pre: bool,
 ) -> Result<Answer, Fault> {
-    let name = Name::read(alloc, "Flask")?;
+    let Ok(name) = Name::read(alloc, "Flask") else {
+        return Err(Fault::no_memory());
+    };
     check_bytes(alloc, inputs, &machine(alloc)?, &name, version, want_pre)
 }
 
 fn answer(alloc: Global, parts: &[Part], version: &str, want_pre: bool) -> Result<Answer, Fault> {
     let inputs = inputs_of(alloc, parts)?;
-    flask_meets(
-        alloc,
-        inputs.as_slice(),
-        &Version::read(alloc, version)?,
-        want_pre,
-    )
+    match Version::read(alloc, version) {
+        Ok(version) => flask_meets(alloc, inputs.as_slice(), &version, want_pre),
+        Err(fault) => Err(Fault::of_argument(ArgumentFault::Version(fault))),
+    }
 }
 
 // The same as it is written, or the line of the fault.
@@ -158,7 +152,7 @@ fn lines(alloc: Global, requirements: &[Requirement]) -> Result<String, RequireF
 // The same, or the line of the fault.
 fn texts(alloc: Global, requirements: Result<Vec<Requirement>, Fault>) -> Result<String, Fault> {
     match requirements {
-        Ok(requirements) => lines(alloc, requirements.as_slice()).map_err(|_| NO_MEMORY),
+        Ok(requirements) => lines(alloc, requirements.as_slice()).map_err(|_| Fault::no_memory()),
         Err(fault) => fault.text(alloc),
     }
 }

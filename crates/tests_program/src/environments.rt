@@ -5,21 +5,7 @@ use pep_marker::Environment;
 use pep_tool::environment_of;
 use std::alloc::{AllocError, Global};
 use std::test::Fail;
-
-/// CPython 3.9.18 on Linux and x86-64.
-pub(crate) const MACHINE: [(&str, &str); 11] = [
-    ("os_name", "posix"),
-    ("sys_platform", "linux"),
-    ("platform_machine", "x86_64"),
-    ("platform_python_implementation", "CPython"),
-    ("platform_release", "6.1.0-18-amd64"),
-    ("platform_system", "Linux"),
-    ("platform_version", "#1 SMP"),
-    ("python_version", "3.9"),
-    ("python_full_version", "3.9.18"),
-    ("implementation_name", "cpython"),
-    ("implementation_version", "3.9.18"),
-];
+use tests_kit::MACHINE;
 
 // What a variable is read as.
 fn value_of(

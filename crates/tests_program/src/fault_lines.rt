@@ -9,6 +9,7 @@ use pep_version::VersionFault;
 use std::alloc::{AllocError, Global};
 use std::fmt::Display;
 use std::test::Fail;
+use tests_kit::REQUIRE_FAULTS;
 
 // A fault of a line: its code, the code inside it and its text.
 fn line_fault_line(alloc: Global, fault: LineFault) -> Result<String, AllocError> {
@@ -19,27 +20,7 @@ fn line_fault_line(alloc: Global, fault: LineFault) -> Result<String, AllocError
     }
 }
 
-// Faults of requirements, and what they are told as in a line.
-const OF_REQUIREMENTS: [(RequireFault, &str); 10] = [
-    (RequireFault::BadName, "31 not a name"),
-    (RequireFault::BadExtras, "32 not a list of extras"),
-    (
-        RequireFault::BadClause(ClauseFault::OneNumber),
-        "33 15 a faulty clause: `~=` wants two release numbers or more",
-    ),
-    (RequireFault::BadUrl, "34 not a URL"),
-    (
-        RequireFault::BadMarker(MarkerFault::TooDeep),
-        "35 27 a faulty marker: a marker that is too deep or too long",
-    ),
-    (RequireFault::Trailing, "36 something else follows"),
-    (RequireFault::OptionLine, "37 an option"),
-    (RequireFault::LineTooLong, "38 a line that is too long"),
-    (RequireFault::UrlOverflow, "39 a URL that is too long"),
-    (RequireFault::NoMemory, "40 out of memory"),
-];
-
-// The other faults of lines.
+// Faults of lines that are not those of requirements.
 const OF_LINES: [(LineFault, &str); 3] = [
     (LineFault::NotUtf8, "51 not UTF-8"),
     (
@@ -51,7 +32,7 @@ const OF_LINES: [(LineFault, &str); 3] = [
 
 #[test]
 fn faults_of_lines(rt: HostRuntime) -> Result<(), Fail> {
-    for &(fault, want) in &OF_REQUIREMENTS {
+    for &(fault, want) in &REQUIRE_FAULTS {
         let found = line_fault_line(rt.alloc(), LineFault::from(fault))?;
         expect_line(&rt, found.as_str(), want);
     }
@@ -169,7 +150,10 @@ fn faults(rt: HostRuntime) -> Result<(), Fail> {
 #[test]
 fn faults_of_versions(rt: HostRuntime) -> Result<(), Fail> {
     for &(fault, want) in &OF_VERSIONS {
-        let found = fault_line(rt.alloc(), &Fault::from(fault))?;
+        let found = fault_line(
+            rt.alloc(),
+            &Fault::of_argument(ArgumentFault::Version(fault)),
+        )?;
         expect_line(&rt, found.as_str(), want);
     }
     Ok(())

@@ -116,57 +116,59 @@ impl Folder for Failing {
     }
 }
 
+// A run over such a folder, with words apart by blanks.
+fn failing_line(alloc: Global, words: &str, fails_at: u64) -> Result<String, Fault> {
+    let words: Vec<&str> = words.split(' ').collect(alloc)?;
+    run_line(alloc, &Failing { fails_at }, words.as_slice())
+}
+
 // Words, the number of the call of `r` that fails, and what the run is.
-const FAILING: [(&[&str], u64, &str); 14] = [
+const FAILING: [(&str, u64, &str); 14] = [
     // The first line is faulty, and the list comes in two pieces; the third call finds its end.
-    (&["lines", "r"], 1, "2 0 [] [refused input 1 code 58\n]"),
-    (&["lines", "r"], 2, "2 0 [] [refused input 1 code 58\n]"),
-    (&["lines", "r"], 3, "2 0 [] [refused input 1 code 58\n]"),
-    (
-        &["lines", "r"],
-        4,
-        "2 0 [] [refused input 1 line 1 code 57 37\n]",
-    ),
-    (&["lines", "q"], NEVER, "2 0 [] [refused input 1 code 58\n]"),
-    (&["lines", "memory"], NEVER, "2 0 [] [refused code 60\n]"),
+    ("lines r", 1, "2 0 [] [refused input 1 code 58\n]"),
+    ("lines r", 2, "2 0 [] [refused input 1 code 58\n]"),
+    ("lines r", 3, "2 0 [] [refused input 1 code 58\n]"),
+    ("lines r", 4, "2 0 [] [refused input 1 line 1 code 57 37\n]"),
+    ("lines q", NEVER, "2 0 [] [refused input 1 code 58\n]"),
+    ("lines memory", NEVER, "2 0 [] [refused code 60\n]"),
     // All files are read before the first is judged.
     (
-        &["merge", "--env", "machine.toml", "r", "bad"],
+        "merge --env machine.toml r bad",
         1,
         "2 0 [] [refused input 1 code 58\n]",
     ),
     (
-        &["merge", "--env", "machine.toml", "r", "bad"],
+        "merge --env machine.toml r bad",
         2,
         "2 0 [] [refused input 1 code 58\n]",
     ),
     (
-        &["merge", "--env", "machine.toml", "r", "q"],
+        "merge --env machine.toml r q",
         2,
         "2 0 [] [refused input 1 code 58\n]",
     ),
     (
-        &["merge", "--env", "machine.toml", "bad", "r"],
+        "merge --env machine.toml bad r",
         2,
         "2 0 [] [refused input 2 code 58\n]",
     ),
     (
-        &["merge", "--env", "machine.toml", "bad", "r"],
+        "merge --env machine.toml bad r",
         3,
         "2 0 [] [refused input 2 code 58\n]",
     ),
     (
-        &["merge", "--env", "machine.toml", "bad", "r"],
+        "merge --env machine.toml bad r",
         4,
         "2 0 [] [refused input 1 line 1 code 57 33 12\n]",
     ),
     (
-        &["merge", "--env", "machine.toml", "bad", "memory"],
+        "merge --env machine.toml bad memory",
         NEVER,
         "2 0 [] [refused code 60\n]",
     ),
     (
-        &["merge", "--env", "r", "q"],
+        "merge --env r q",
         2,
         "2 0 [] [refused environment code 58\n]",
     ),
@@ -175,7 +177,7 @@ const FAILING: [(&[&str], u64, &str); 14] = [
 #[test]
 fn files_that_fail(rt: HostRuntime) -> Result<(), Fail> {
     for &(words, fails_at, want) in &FAILING {
-        let found = run_line(rt.alloc(), &Failing { fails_at }, words)?;
+        let found = failing_line(rt.alloc(), words, fails_at)?;
         expect_line(&rt, found.as_str(), want);
     }
     Ok(())

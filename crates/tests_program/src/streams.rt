@@ -186,10 +186,6 @@ impl Write for Full {
     }
 }
 
-// The words and the list of a run, the numbers of the calls of its reader and its two writers that
-// fail, and what the run is.
-type Row<'a> = (&'a [&'a str], &'a [u8], [u64; 3], &'a str);
-
 // What stands behind the calls of a device that failed.
 fn mark(failed: bool) -> &'static str {
     if failed { "!" } else { "" }
@@ -214,7 +210,8 @@ fn devices_line(
     format!(in alloc; "{reads}{read} {writes}{written} [{printed}] [{told}]")
 }
 
-// A run: its status, and what its devices are behind it.
+// A run over a reader and two writers whose calls of these numbers fail: its status, and what the
+// devices are behind it.
 fn run_line(
     rt: &HostRuntime,
     words: &[&str],
@@ -230,158 +227,86 @@ fn run_line(
     format!(in rt.alloc(); "{status} {devices}")
 }
 
-const READS: [Row; 7] = [
-    // The list comes in three pieces, and the fourth call finds its end.
+// A list, the number of the call of its reader that fails, and what the run is. The list comes in
+// three pieces, and the fourth call finds its end.
+const READS: [(&[u8], u64, &str); 7] = [
+    (LIST, 1, "2 1! 0 [] [refused input 1 code 58\n]"),
+    (LIST, 2, "2 2! 0 [] [refused input 1 code 58\n]"),
+    (LIST, 3, "2 3! 0 [] [refused input 1 code 58\n]"),
+    (LIST, 4, "2 4! 0 [] [refused input 1 code 58\n]"),
     (
-        &[],
         LIST,
-        [1, NEVER, NEVER],
-        "2 1! 0 [] [refused input 1 code 58\n]",
-    ),
-    (
-        &[],
-        LIST,
-        [2, NEVER, NEVER],
-        "2 2! 0 [] [refused input 1 code 58\n]",
-    ),
-    (
-        &[],
-        LIST,
-        [3, NEVER, NEVER],
-        "2 3! 0 [] [refused input 1 code 58\n]",
-    ),
-    (
-        &[],
-        LIST,
-        [4, NEVER, NEVER],
-        "2 4! 0 [] [refused input 1 code 58\n]",
-    ),
-    (
-        &[],
-        LIST,
-        [5, NEVER, NEVER],
+        5,
         "0 4 7 [flask open\n  range before 2 to before 3.dev0\n] []",
     ),
     // The first line is faulty, and the read behind it fails.
+    (b"-e .\na>=1\n", 2, "2 2! 0 [] [refused input 1 code 58\n]"),
     (
-        &[],
-        b"-e .\na>=1\n",
-        [2, NEVER, NEVER],
-        "2 2! 0 [] [refused input 1 code 58\n]",
-    ),
-    (
-        &[],
         b"a>=",
-        [NEVER, NEVER, NEVER],
+        NEVER,
         "2 2 0 [] [refused input 1 line 1 code 57 33 12\n]",
     ),
 ];
 
 #[test]
 fn reads_that_fail(rt: HostRuntime) -> Result<(), Fail> {
-    for &(words, list, fails_at, want) in &READS {
-        let found = run_line(&rt, words, list, fails_at)?;
+    for &(list, fails_at, want) in &READS {
+        let found = run_line(&rt, &[], list, [fails_at, NEVER, NEVER])?;
         expect_line(&rt, found.as_str(), want);
     }
     Ok(())
 }
 
-// The table goes in seven pieces.
-const WRITES: [Row; 8] = [
+// The number of the call of the writer of the output that fails, and what the run is. The table goes
+// in seven pieces.
+const WRITES: [(u64, &str); 8] = [
+    (1, "2 4 1! [] [refused code 63\n]"),
+    (2, "2 4 2! [flask o] [refused code 63\n]"),
+    (3, "2 4 3! [flask open\n  r] [refused code 63\n]"),
+    (4, "2 4 4! [flask open\n  range be] [refused code 63\n]"),
     (
-        &[],
-        LIST,
-        [NEVER, 1, NEVER],
-        "2 4 1! [] [refused code 63\n]",
-    ),
-    (
-        &[],
-        LIST,
-        [NEVER, 2, NEVER],
-        "2 4 2! [flask o] [refused code 63\n]",
-    ),
-    (
-        &[],
-        LIST,
-        [NEVER, 3, NEVER],
-        "2 4 3! [flask open\n  r] [refused code 63\n]",
-    ),
-    (
-        &[],
-        LIST,
-        [NEVER, 4, NEVER],
-        "2 4 4! [flask open\n  range be] [refused code 63\n]",
-    ),
-    (
-        &[],
-        LIST,
-        [NEVER, 5, NEVER],
+        5,
         "2 4 5! [flask open\n  range before 2 ] [refused code 63\n]",
     ),
     (
-        &[],
-        LIST,
-        [NEVER, 6, NEVER],
+        6,
         "2 4 6! [flask open\n  range before 2 to befo] [refused code 63\n]",
     ),
     (
-        &[],
-        LIST,
-        [NEVER, 7, NEVER],
+        7,
         "2 4 7! [flask open\n  range before 2 to before 3.de] [refused code 63\n]",
     ),
     (
-        &[],
-        LIST,
-        [NEVER, 8, NEVER],
+        8,
         "0 4 7 [flask open\n  range before 2 to before 3.dev0\n] []",
     ),
 ];
 
 #[test]
 fn writes_that_fail(rt: HostRuntime) -> Result<(), Fail> {
-    for &(words, list, fails_at, want) in &WRITES {
-        let found = run_line(&rt, words, list, fails_at)?;
+    for &(fails_at, want) in &WRITES {
+        let found = run_line(&rt, &[], LIST, [NEVER, fails_at, NEVER])?;
         expect_line(&rt, found.as_str(), want);
     }
     Ok(())
 }
 
-// The line goes in three pieces, and the text of clap behind it.
-const TELLS: [Row; 7] = [
-    (&["table"], LIST, [1, NEVER, 1], "2 0 0 [] []"),
-    (&["table"], LIST, [1, NEVER, 2], "2 0 0 [] [refused]"),
-    (&["table"], LIST, [1, NEVER, 3], "2 0 0 [] [refused code 6]"),
-    (
-        &["table"],
-        LIST,
-        [1, NEVER, 4],
-        "2 0 0 [] [refused code 61\nerror]",
-    ),
-    (
-        &["table"],
-        LIST,
-        [1, NEVER, 5],
-        "2 0 0 [] [refused code 61\nerror: unrec]",
-    ),
-    (
-        &["table"],
-        LIST,
-        [1, NEVER, 6],
-        "2 0 0 [] [refused code 61\nerror: unrecognized]",
-    ),
-    (
-        &["table"],
-        LIST,
-        [1, NEVER, 7],
-        "2 0 0 [] [refused code 61\nerror: unrecognized subcom]",
-    ),
+// The number of the call of the writer of faults that fails, and what the run is. The line goes in
+// three pieces, and the text of clap behind it.
+const TELLS: [(u64, &str); 7] = [
+    (1, "2 0 0 [] []"),
+    (2, "2 0 0 [] [refused]"),
+    (3, "2 0 0 [] [refused code 6]"),
+    (4, "2 0 0 [] [refused code 61\nerror]"),
+    (5, "2 0 0 [] [refused code 61\nerror: unrec]"),
+    (6, "2 0 0 [] [refused code 61\nerror: unrecognized]"),
+    (7, "2 0 0 [] [refused code 61\nerror: unrecognized subcom]"),
 ];
 
 #[test]
 fn faults_that_cannot_be_told(rt: HostRuntime) -> Result<(), Fail> {
-    for &(words, list, fails_at, want) in &TELLS {
-        let found = run_line(&rt, words, list, fails_at)?;
+    for &(fails_at, want) in &TELLS {
+        let found = run_line(&rt, &["table"], LIST, [1, NEVER, fails_at])?;
         expect_line(&rt, found.as_str(), want);
     }
     Ok(())

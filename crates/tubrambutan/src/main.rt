@@ -32,7 +32,7 @@ fn refuse_words(rt: &impl Eprint, error: &io::Error) -> ExitCode {
     let line = if error.kind() == io::ErrorKind::OutOfMemory {
         "refused code 60"
     } else {
-        "refused code 61"
+        "refused code 61\nerror: a word of the command line is not UTF-8"
     };
     let _ = rt.eprintln(line);
     ExitCode::from(2)

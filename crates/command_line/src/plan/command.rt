@@ -19,6 +19,20 @@ ghost use Rattle.command_line.specs.Plan.{
 use clap::{Arg, ArgAction, Command};
 use std::alloc::{AllocError, Global};
 
+// What the help of the program tells beside its commands.
+const PROGRAM_HELP: &str =
+    "Without a command, standard input is one list: its table is printed, in the environment of\n\
+    CPython 3.9.18 on Linux and x86-64.\n\
+    \n\
+    A file whose name ends in .toml is a project file (PEP 621), one whose name ends in .table a\n\
+    printed table. Every other file is a list.\n\
+    \n\
+    The status is 0, or 1 of a check that isn't `yes`, or 2 of whatever is refused.";
+
+// .. and that of `check`.
+const CHECK_HELP: &str =
+    "The status is 0 of `yes`, 1 of `no` and `conflict`, and 2 of whatever is refused.";
+
 // A text that has to be there.
 fn text_argument<'a>(alloc: Global, name: &'a str, help: &'a str) -> Arg<'a>
     ensures rule { rule_of result ≡ text_argument name.now }
@@ -31,7 +45,7 @@ fn text_argument<'a>(alloc: Global, name: &'a str, help: &'a str) -> Arg<'a>
 }
 
 // The paths of one file or more.
-fn files_argument<'a>(alloc: Global, help: &'a str) -> Arg<'a>
+fn files_argument<'a>(alloc: Global) -> Arg<'a>
     ensures rule { rule_of result ≡ files_argument }
     ensures local { result.global ≡ false }
 {
@@ -39,7 +53,9 @@ fn files_argument<'a>(alloc: Global, help: &'a str) -> Arg<'a>
         .required(true)
         .num_args(1..)
         .action(ArgAction::Append)
-        .help(help)
+        .help(
+            "The path of a project file (.toml), of a printed table (.table) or of a list (any other)",
+        )
 }
 
 // The option `--env E`, which has to be there.
@@ -80,7 +96,11 @@ fn lines_command<'a>(alloc: Global) -> Result<Command<'a>, AllocError>
     ensures shape { IfOk result (λ c. app_of c ≡ lines_command) }
     ensures local { IfOk result (λ c. (out-Command c).has_globals ≡ false) }
 {
-    let file = text_argument(alloc, "FILE", "The path of a list or of a project file");
+    let file = text_argument(
+        alloc,
+        "FILE",
+        "The path of a project file (.toml) or of a list",
+    );
     Command::new(alloc, "lines")
         .about("Prints the requirements of a file, one on each line")
         .arg(file)
@@ -91,10 +111,7 @@ fn merge_command<'a>(alloc: Global) -> Result<Command<'a>, AllocError>
     ensures local { IfOk result (λ c. (out-Command c).has_globals ≡ false) }
 {
     let environment = environment_option(alloc);
-    let files = files_argument(
-        alloc,
-        "The paths of the files whose requirements are merged",
-    );
+    let files = files_argument(alloc);
     Command::new(alloc, "merge")
         .about("Merges the requirements of files, and prints their table")
         .arg(environment)?
@@ -109,12 +126,10 @@ fn check_command<'a>(alloc: Global) -> Result<Command<'a>, AllocError>
     let pre = pre_flag(alloc);
     let name = text_argument(alloc, "NAME", "The name of a package");
     let version = text_argument(alloc, "VERSION", "A version of it");
-    let files = files_argument(
-        alloc,
-        "The paths of the files whose requirements it has to meet",
-    );
+    let files = files_argument(alloc);
     Command::new(alloc, "check")
         .about("Prints whether a version meets the requirements of files: yes, no or conflict")
+        .after_help(CHECK_HELP)
         .arg(environment)?
         .arg(pre)?
         .arg(name)?
@@ -128,6 +143,7 @@ pub(crate) fn program<'a>(alloc: Global) -> Result<Command<'a>, AllocError>
 {
     Command::new(alloc, "tubrambutan")
         .about("Merges Python requirements; without words, the list on standard input")
+        .after_help(PROGRAM_HELP)
         .bin_name("tubrambutan")?
         .no_binary_name(true)
         .subcommand_required(true)

@@ -1,12 +1,12 @@
 // How a marker is read.
 
 ghost use Rattle.std.specs.Prelude.{◌≡◌, ◌<◌, ◌≤◌, [], IfErr, IfOk, map};
-ghost use Rattle.pep_marker.specs.Chains.{OrFrom, Refuses};
+ghost use Rattle.pep_marker.specs.Chains.{ChainFrom, Refuses};
 ghost use Rattle.pep_marker.specs.Marker.{MarkerParts, comparisons};
 ghost use Rattle.pep_marker.specs.Token.{token_of};
 ghost use Rattle.pep_marker.specs.View.{tree_parts};
 
-use crate::chains::or_chain;
+use crate::chains::{Link, chain};
 use crate::fault::MarkerFault;
 use crate::marker::{Marker, Tree};
 use crate::token::{Token, tokens_of};
@@ -45,12 +45,12 @@ impl Marker {
 
 // The marker that the tokens are, to their end.
 fn tree_of(alloc: Global, tokens: &[Token]) -> Result<Tree, MarkerFault>
-    ensures read { IfOk result (λ t. OrFrom 64 (map token_of tokens.now) (tree_parts t) []) }
+    ensures read { IfOk result (λ t. ChainFrom Link.Or 64 (map token_of tokens.now) (tree_parts t) []) }
     ensures few { IfOk result (λ t. comparisons (tree_parts t) ≤ 1024) }
     ensures refused { IfErr result (Refuses ((m : MarkerParts)
-        → OrFrom 64 (map token_of tokens.now) m [] → 1024 < comparisons m)) }
+        → ChainFrom Link.Or 64 (map token_of tokens.now) m [] → 1024 < comparisons m)) }
 {
-    let front = or_chain(alloc, tokens, DEPTH, COMPARISONS)?;
+    let front = chain(alloc, Link::Or, tokens, DEPTH, COMPARISONS)?;
     if !front.rest.is_empty() {
         return Err(MarkerFault::BadMarker);
     }

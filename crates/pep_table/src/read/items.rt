@@ -22,7 +22,8 @@ ghost use Rattle.std.specs.Prelude.{
 };
 ghost use Rattle.std.specs.Char.{is_ascii_uppercase};
 ghost use Rattle.std.specs.List.{list_all};
-ghost use Rattle.specifiers.specs.Clause.{is_clause_byte, is_demanded_text};
+ghost use Rattle.texts.specs.Bytes.{is_clause_byte};
+ghost use Rattle.specifiers.specs.Clause.{is_demanded_text};
 ghost use Rattle.pep_require.specs.Reads.{is_url_byte};
 ghost use Rattle.pep_marker.specs.Name.{IsNormalName};
 ghost use Rattle.pep_require.specs.Requirement.{IsAscending};
@@ -31,12 +32,12 @@ ghost use Rattle.pep_table.specs.TableReading.{AreItems, Front, HasNoFront, kind
 
 use crate::read::Halt;
 use demands::{Kept, Sorted, TableFault};
-use pep_clause::is_clause_byte;
 use pep_marker::{MarkerFault, Name};
 use std::alloc::Global;
+use texts::is_clause_byte;
 
 /// A kind of lines.
-pub(crate) trait Kind {
+pub(crate) trait LineKind {
     ghost use Rattle.std.specs.Prelude.{List, ℕ};
 
     /// What stands on them.
@@ -82,7 +83,7 @@ pub(crate) fn listed_name(alloc: Global, text: &str) -> Result<Option<Name>, Tab
     }
 }
 
-impl Kind for Extras {
+impl LineKind for Extras {
     ghost use Rattle.std.specs.Prelude.{codes};
     ghost use Rattle.pep_marker.specs.Name.{IsNormalName};
 
@@ -127,7 +128,7 @@ fn is_demanded_text(text: &str) -> bool
     !text.is_empty() && has_demanded_bytes(text)
 }
 
-impl Kind for Urls {
+impl LineKind for Urls {
     ghost use Rattle.std.specs.Prelude.{IsTrue, codes};
     ghost use Rattle.demands.specs.Table.{is_url_text};
 
@@ -150,7 +151,7 @@ impl Kind for Urls {
     }
 }
 
-impl Kind for Texts {
+impl LineKind for Texts {
     ghost use Rattle.std.specs.Prelude.{IsTrue, codes};
     ghost use Rattle.specifiers.specs.Clause.{is_demanded_text};
 
@@ -186,7 +187,7 @@ fn is_behind<T: Kept>(items: &[T], item: &T) -> bool
 
 /// The items of all lines of the kind in front, each of which stands behind the one before, and the
 /// text behind them.
-pub(crate) fn read_items<K: Kind>(
+pub(crate) fn read_items<K: LineKind>(
     alloc: Global,
     text: &str,
 ) -> Result<(Sorted<K::Item>, &str), Halt<'_>>

@@ -23,7 +23,8 @@ use smallvec::SmallVec;
 // As many bytes as the keys of most versions have.
 pub(crate) const INLINE: usize = 64;
 
-/// The bytes of a key; those of most versions' keys lie in the value itself.
+/// The bytes of a key; those of most versions' keys lie in the value itself. Public for the crate of
+/// cuts, which are such bytes too.
 pub type KeyBytes = SmallVec<u8, INLINE>;
 
 fn push_number(bytes: &mut KeyBytes, n: u64) -> Result<(), VersionFault>

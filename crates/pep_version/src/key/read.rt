@@ -233,7 +233,7 @@ impl Version {
 
     /// The version whose place has its key at the front of these bytes (see [`Key::bytes`]), and the
     /// bytes behind the key; of bytes that begin with no key some version, or `None`. The only
-    /// fault is `NoMemory`.
+    /// fault is `NoMemory`. Public for the crate of cuts, whose bytes begin with keys.
     pub fn at_front(alloc: Global, bytes: &[u8]) -> Result<Option<(Version, &[u8])>, VersionFault>
         ensures exactly { IfOk result (λ found. IsSome found
             ↔ IsVersion (read_version bytes.now).0) }
@@ -258,7 +258,8 @@ impl Version {
     }
 }
 
-/// What stands behind the epoch and the release of a key's bytes (see [`Key::bytes`]).
+/// What stands behind the epoch and the release of a key's bytes (see [`Key::bytes`]). Public for the
+/// crate of cuts, which tells their forms by it.
 pub fn behind_release(bytes: &[u8]) -> &[u8]
     ensures { result.now ≡ behind_place bytes.now }
 {

@@ -2,22 +2,18 @@
 
 ghost use Rattle.std.specs.Prelude.{◌≡◌, ◌&&◌, not, Ok};
 ghost use Rattle.std.specs.List.{list_all};
-ghost use Rattle.pep_version.specs.Version.{IsVersion, is_empty};
-ghost use Rattle.specifiers.specs.Clause.{
-  TargetAnswers,
-  ends_in_space,
-  is_clause_byte,
-  is_final,
-  prefix_answer,
-  version_answer,
-};
+ghost use Rattle.pep_version.specs.Version.{IsVersion};
+ghost use Rattle.texts.specs.Lists.{is_empty};
+ghost use Rattle.specifiers.specs.Clause.{TargetAnswers, ends_in_space, is_final, prefix_answer};
+ghost use Rattle.specifiers.specs.Clause.{version_answer};
+ghost use Rattle.texts.specs.Bytes.{is_clause_byte};
 
-use crate::bytes::has_clause_bytes;
 use crate::clause::{Clause, ClauseForm};
 use crate::fault::ClauseFault;
 use crate::op::Op;
-use pep_version::{Version, trimmed, without_trailing_space};
+use pep_version::Version;
 use std::alloc::Global;
+use texts::{has_clause_bytes, trimmed, without_trailing_space};
 
 // Whether the text may stand behind `===`.
 fn is_clause_text(text: &[u8]) -> bool

@@ -1,22 +1,15 @@
-use Rattle.std.proofs.Common.{◌++◌, ◌∙◌, sym, refl, arith}
-use Rattle.std.proofs.lemmas.List.{take-append-drop}
-use Rattle.std.proofs.lemmas.Result.{IfErr-weaker}
+use Rattle.std.proofs.lemmas.Result.{IfErr-weaker, IfOk-weaker}
+use Rattle.inputs.proofs.TakenTexts.{list_gathered, list_refused_in}
 use Rattle.inputs.proofs.gathering.take_list.Goals as goal
 
-pub returns-then-bytes-le-INPUT_LIMIT-clause-refused :
-    goal.returns-then-bytes-le-INPUT_LIMIT-clause-refused
-returns-then-bytes-le-INPUT_LIMIT-clause-refused c =
-    IfErr-weaker c.take_lines.result _ _ (λ cause refuses.
-    refuses c.args.bytes.now refl) c.take_lines.ensures.refused
+pub returns-clause-ok : goal.returns-clause-ok
+returns-clause-ok c =
+    IfOk-weaker c.take_lines.result _ _
+    (λ new h. list_gathered c.args.environment.now c.args.bytes.now c.args.gathering new h)
+    c.take_lines.ensures.ok
 
-pub returns-else-bytes-le-INPUT_LIMIT-clause-refused :
-    goal.returns-else-bytes-le-INPUT_LIMIT-clause-refused
-returns-else-bytes-le-INPUT_LIMIT-clause-refused c =
-    let goes = sym (take-append-drop 16777216 c.args.bytes.now)
-    ∙ (λ i. sym c.split_at.ensures.front i ++ sym c.split_at.ensures.back i) in
-    IfErr-weaker c.take_lines-else-bytes-le-INPUT_LIMIT.result _ _
-    (λ cause refuses. refuses c.args.bytes.now (
-      omega (arith, c.if-bytes-le-INPUT_LIMIT.false),
-      (c.split_at.result.1.now, goes),
-    ))
-    c.take_lines-else-bytes-le-INPUT_LIMIT.ensures.refused
+pub returns-clause-refused : goal.returns-clause-refused
+returns-clause-refused c =
+    IfErr-weaker c.take_lines.result _ _
+    (λ cause h. list_refused_in c.args.environment.now c.args.bytes.now cause h)
+    c.take_lines.ensures.refused

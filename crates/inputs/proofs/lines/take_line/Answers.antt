@@ -1,25 +1,27 @@
-use Rattle.std.proofs.Common.{◌∷◌, ◌∙◌, [], ap, map, sym, subst, Option}
-use Rattle.std.proofs.lemmas.List.{map-append}
-use Rattle.pep_require.specs.View.{requirement_parts}
-use Rattle.pep_require.specs.declared.requirement.Requirement.{Requirement}
-use Rattle.inputs.specs.LineReading.{TakesLine, some_parts}
-use Rattle.inputs.proofs.RequirementLists.{taken_behind}
+use Rattle.std.proofs.Common.{Some, inl, inr, option_map, subst}
+use Rattle.std.proofs.lemmas.Result.{IfErr-weaker, IfOk-weaker}
+use Rattle.inputs.specs.LineReading.{HasText}
 use Rattle.inputs.proofs.lines.take_line.Goals as goal
-use Rattle.inputs.proofs.lines.take_line.Goals.{in-Err-push, in-Ok}
+use Rattle.inputs.proofs.lines.take_line.Goals.{In-Ok-Some}
+use Rattle.inputs.proofs.lines.take_line.Given as given
 
-pub returns-clause-ok : goal.returns-clause-ok
-returns-clause-ok c =
-    let old = map requirement_parts c.args.requirements.now.items in
-    let one = requirement_parts c.in-Ok-Some.requirement ∷ [] in
-    let own : TakesLine c.args.line.now [] one =
-    subst (λ (o : Option Requirement). TakesLine c.args.line.now [] (some_parts o))
-    c.in-Ok-Some.field-0-is c.in-Ok-Some.ensures.ok in
-    elim c.match-push.branch [
-      | in-Ok w ↦ rw w.result-is
-          (subst (TakesLine c.args.line.now old)
-          (sym (ap (map requirement_parts) w.in-Ok.ensures.items
-          ∙ map-append requirement_parts c.args.requirements.now.items
-          (c.in-Ok-Some.requirement ∷ [])))
-          (taken_behind c.args.line.now old one own))
-      | in-Err-push w ↦ rw w.result-is tt
-    ]
+has_text : (g : given.Over) (c : In-Ok-Some g) →
+    HasText c.args.line.now (Some c.in-Ok-Some.text.now)
+has_text g c =
+    subst (HasText c.args.line.now)
+    (λ i. option_map (λ text. text.now) (c.in-Ok-Some.field-0-is i)) c.in-Ok-Some.ensures.ok
+
+pub returns-in-Ok-Some-clause-ok : goal.returns-in-Ok-Some-clause-ok
+returns-in-Ok-Some-clause-ok g c =
+    let has = has_text g (goal.at.returns-in-Ok-Some-clause-ok g c).In-Ok-Some in
+    IfOk-weaker c.take.result _ _ (λ new t. (Some c.in-Ok-Some.text.now, has, t))
+    c.take.ensures.ok
+
+pub returns-in-Ok-Some-clause-refused : goal.returns-in-Ok-Some-clause-refused
+returns-in-Ok-Some-clause-refused g c =
+    let has = has_text g (goal.at.returns-in-Ok-Some-clause-refused g c).In-Ok-Some in
+    IfErr-weaker c.take.result _ _ (λ fault r. inr (c.in-Ok-Some.text.now, has, r))
+    c.take.ensures.refused
+
+pub returns-in-Err-clause-refused : goal.returns-in-Err-clause-refused
+returns-in-Err-clause-refused g c = inl c.in-Err.ensures.refused

@@ -1,5 +1,5 @@
 use Rattle.std.proofs.Common.{◌∙◌, sym}
-use Rattle.inputs.proofs.RequirementLists.{kept_text, no_text, skipped_text}
+use Rattle.inputs.proofs.TakenLines.{kept_text, no_text, skipped_text}
 use Rattle.inputs.proofs.lines.text_on.Goals as goal
 
 pub returns-in_default-clause-refused : goal.returns-in_default-clause-refused

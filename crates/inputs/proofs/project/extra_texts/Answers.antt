@@ -1,11 +1,24 @@
 use Rattle.std.proofs.Common.{◌≡◌, None, Some, codes, inr, rules}
 use Rattle.toml.proofs.Views.{table_get}
-use Rattle.toml.specs.Data.{as_table}
+use Rattle.toml.specs.Data.{as_table, get_member}
 use Rattle.toml.specs.View.{table_view, view}
 use Rattle.pep_marker.specs.Name.{normalized}
 use Rattle.inputs.proofs.Documents.{at_key, at_no_key}
 use Rattle.inputs.proofs.ProjectTexts.{extras_missing, extras_no_table, extras_ok, extras_refused}
 use Rattle.inputs.proofs.project.extra_texts.Goals as goal
+use Rattle.inputs.proofs.project.extra_texts.Goals.{In-Some, In-Some-as_table}
+
+extras_found : (c : In-Some) →
+    get_member (codes "optional-dependencies") (table_view c.args.project.now)
+    ≡ Some (view c.in-Some.found.now)
+extras_found c =
+    let key = codes "optional-dependencies" in
+    at_key key (table_view c.args.project.now) c.get.result c.in-Some.found c.in-Some.is
+    (table_get c.get.result key c.args.project.now.entries c.get.ensures.value)
+
+extras_table : (c : In-Some-as_table) →
+    as_table (view c.in-Some.found.now) ≡ Some (table_view c.in-Some-as_table.extras.now)
+extras_table c = search rules
 
 pub returns-in_default-clause-ok : goal.returns-in_default-clause-ok
 returns-in_default-clause-ok c =
@@ -17,31 +30,20 @@ returns-in_default-clause-ok c =
 
 pub returns-in_default-as_table-clause-refused : goal.returns-in_default-as_table-clause-refused
 returns-in_default-as_table-clause-refused c =
-    let key = codes "optional-dependencies" in
-    let found = table_get c.get.result key c.args.project.now.entries c.get.ensures.value in
+    let at = goal.at.returns-in_default-as_table-clause-refused c in
     let none : as_table (view c.in-Some.found.now) ≡ None = search rules in
-    let ms = table_view c.args.project.now in
-    inr (extras_no_table key ms _ (at_key key ms c.get.result c.in-Some.found c.in-Some.is found)
-    none)
+    inr (extras_no_table (codes "optional-dependencies") (table_view c.args.project.now) _
+    (extras_found at.In-Some) none)
 
 pub returns-clause-ok : goal.returns-clause-ok
 returns-clause-ok c =
-    let key = codes "optional-dependencies" in
-    let found = table_get c.get.result key c.args.project.now.entries c.get.ensures.value in
-    let table : as_table (view c.in-Some.found.now) ≡ Some (table_view
-    c.in-Some-as_table.extras.now) = search rules in
-    let ms = table_view c.args.project.now in
-    extras_ok key ms _ _ (normalized c.args.extra.now) c.as_str.result.now c.wanted_texts.result
-    (at_key key ms c.get.result c.in-Some.found c.in-Some.is found) table (search rules)
-    c.wanted_texts.ensures.ok
+    let at = goal.at.returns-clause-ok c in
+    extras_ok (codes "optional-dependencies") (table_view c.args.project.now) _ _
+    (normalized c.args.extra.now) c.as_str.result.now c.wanted_texts.result (extras_found at.In-Some)
+    (extras_table at.In-Some-as_table) (search rules) c.wanted_texts.ensures.ok
 
 pub returns-clause-refused : goal.returns-clause-refused
 returns-clause-refused c =
-    let key = codes "optional-dependencies" in
-    let found = table_get c.get.result key c.args.project.now.entries c.get.ensures.value in
-    let table : as_table (view c.in-Some.found.now) ≡ Some (table_view
-    c.in-Some-as_table.extras.now) = search rules in
-    let ms = table_view c.args.project.now in
-    extras_refused key ms _ _ c.wanted_texts.result
-    (at_key key ms c.get.result c.in-Some.found c.in-Some.is found) table
-    c.wanted_texts.ensures.refused
+    let at = goal.at.returns-clause-refused c in
+    extras_refused (codes "optional-dependencies") (table_view c.args.project.now) _ _
+    c.wanted_texts.result (extras_found at.In-Some) (extras_table at.In-Some-as_table) c.wanted_texts.ensures.refused

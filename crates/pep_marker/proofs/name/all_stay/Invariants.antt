@@ -1,6 +1,7 @@
 use Rattle.std.proofs.Common.{◌≡◌, length, true}
 use Rattle.std.specs.List.{list_all}
-use Rattle.pep_marker.specs.Name.{is_name_byte, normalized}
+use Rattle.texts.specs.Bytes.{is_name_byte}
+use Rattle.pep_marker.specs.Name.{normalized}
 use Rattle.pep_marker.proofs.name.all_stay.Given as goal
 
 -- what holds of the bytes that are left holds of all

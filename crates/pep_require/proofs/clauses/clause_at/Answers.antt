@@ -1,7 +1,8 @@
 use Rattle.std.proofs.Common.{◌≡◌, Some, ap, sym, ◌∙◌}
 use Rattle.std.specs.List.{prefix_len}
 use Rattle.std.proofs.lemmas.Result.{err_from_is_err_and}
-use Rattle.specifiers.specs.Clause.{is_clause_byte, operator_of}
+use Rattle.texts.specs.Bytes.{is_clause_byte}
+use Rattle.specifiers.specs.Clause.{operator_of}
 use Rattle.pep_require.proofs.BoundLoops.{boundary-clause, boundary-operator, clause_here}
 use Rattle.pep_require.proofs.BoundLoops.{clause_refused, cut_here}
 use Rattle.pep_require.proofs.clauses.clause_at.Goals as goal

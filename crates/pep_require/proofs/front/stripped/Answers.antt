@@ -1,6 +1,6 @@
 use Rattle.std.proofs.Common.{◌≡◌, rules}
 use Rattle.std.specs.List.{prefix_len}
-use Rattle.pep_marker.specs.Runs.{is_blank_byte}
+use Rattle.texts.specs.Bytes.{is_blank_byte}
 use Rattle.pep_require.proofs.FrontLemmas.{boundary-blanks}
 use Rattle.pep_require.proofs.front.stripped.Goals as goal
 

@@ -17,6 +17,6 @@ returns-in_err-write_text-clause-refused g c =
     let p = err_from_is_err_and exit.result exit.ensures.1 in
     rw (p.1, p.2) (refuses_write _ _ _ (map string_bytes c.args.words.now) _ _ _ _
     (request c.in_ok-plan.plan) (string_bytes c.in_ok-reply.reply.text)
-    c.in_ok-reply.reply.status _ c.in_ok-plan.ensures.plan c.in_ok-reply.ensures.answers
+    c.in_ok-reply.reply.status _ c.in_ok-plan.ensures.plan c.in_ok-reply.ensures.reply
     c.in_ok-reply.ensures.no_failure c.in_err-write_text.ensures.failed
     c.in_err-write_text.ensures.faults)

@@ -2,7 +2,7 @@ use Rattle.std.proofs.Common.{◌≡◌, ◌∷◌, [], ◌++◌, ◌-◌, ◌�
 use Rattle.std.proofs.Common.{arith, sym, ap, ◌∙◌}
 use Rattle.std.proofs.lemmas.List.{length-take-le}
 use Rattle.pep_version.specs.Order.{short_release}
-use Rattle.pep_version.proofs.ListLemmas.{last-shape}
+use Rattle.texts.proofs.ListLemmas.{last-shape}
 use Rattle.pep_version.proofs.TextLemmas.{short-one, short-other, short-zero}
 use Rattle.pep_version.proofs.key.short_release.Goals as goal
 use Rattle.pep_version.proofs.key.short_release.Goals.{then-last-ne0-via-then-last-ne0}

@@ -4,7 +4,7 @@ use Rattle.std.proofs.lemmas.List.{take_all}
 use Rattle.std.proofs.lemmas.List.Elements.{All-more}
 use Rattle.pep_version.specs.Slices.{lower}
 use Rattle.pep_version.specs.Spelling.{separated_parts}
-use Rattle.pep_version.specs.Bytes.{is_separator}
+use Rattle.texts.specs.Bytes.{is_separator}
 use Rattle.pep_version.proofs.SliceLemmas.{run-at, run-whole}
 use Rattle.pep_version.proofs.segments.first_run.Goals as goal
 

@@ -1,6 +1,6 @@
 use Rattle.std.proofs.Common.{◌≡◌, false, take}
 use Rattle.std.specs.List.{All}
-use Rattle.pep_version.specs.Bytes.{is_separator}
+use Rattle.texts.specs.Bytes.{is_separator}
 use Rattle.pep_version.proofs.segments.first_run.Given as goal
 
 abbrev pub invariant-bytes : goal.invariant-bytes

@@ -14,7 +14,7 @@ before_files c =
     let pre = c.pre_flag-pre in
     let name = c.text_argument-name in
     let version = c.text_argument-version in
-    let named : IsLocal c.about.result (command_with (codes "check") []) =
+    let named : IsLocal c.after_help.result (command_with (codes "check") []) =
     (search rules, search rules) in
     more_arguments _ _ version.result _ _ c.in_ok-arg-4.ensures
     (more_arguments _ _ name.result _ _ c.in_ok-arg-3.ensures

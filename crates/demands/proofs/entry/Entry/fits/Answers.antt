@@ -1,10 +1,9 @@
 use Rattle.std.proofs.Common.{◌≡◌, ◌∙◌, ◌≤◌, [], ◌∷◌, ap, length, map, subst, sym}
-use Rattle.std.proofs.lemmas.List.{length-map}
 use Rattle.std.specs.Prelude.{◌↔◌, string_bytes}
 use Rattle.pep_clause.specs.VersionSet.{In}
 use Rattle.pep_version.specs.Text.{normal_text}
 use Rattle.demands.specs.Verdict.{FitsEntry}
-use Rattle.demands.proofs.EntryTexts.{fits_more, fits_one, same_answer, single}
+use Rattle.demands.proofs.EntryTexts.{fits_more, fits_one, more_texts, same_answer, single}
 use Rattle.demands.proofs.entry.Entry.fits.Goals as goal
 
 pub returns-in-len1-clause-fits : goal.returns-in-len1-clause-fits
@@ -28,11 +27,8 @@ returns-in-len1-clause-fits c =
 pub returns-in_default-clause-fits : goal.returns-in_default-clause-fits
 returns-in_default-clause-fits c =
     let e = c.args.self.now in
-    let same : map (λ x. string_bytes x) c.items.result.now ≡ e.texts =
-    c.items.ensures.texts ∙ c.texts.ensures.texts in
-    let more : 2 ≤ length e.texts = subst (λ n. 2 ≤ n)
-    (sym (length-map c.items.result.now (λ x. string_bytes x)) ∙ ap length same)
-    c.in_default.len_at_least in (
+    let more : 2 ≤ length e.texts = more_texts (λ x. string_bytes x) c.items.result.now e.texts
+    (c.items.ensures.texts ∙ c.texts.ensures.texts) c.in_default.len_at_least in (
       (λ t. cc t),
       λ fits. absurd (fits_more e c.args.version.now c.texts.ensures.valid.texts.0 more
           fits),

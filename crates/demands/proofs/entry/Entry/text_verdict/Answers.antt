@@ -1,17 +1,13 @@
 use Rattle.std.proofs.Common.{◌≡◌, ◌∙◌, ◌≤◌, ap, arith, inr, length, map, subst, sym}
-use Rattle.std.proofs.lemmas.List.{length-map}
 use Rattle.std.specs.Prelude.{string_bytes}
-use Rattle.demands.proofs.EntryTexts.{fits_more}
+use Rattle.demands.proofs.EntryTexts.{fits_more, more_texts}
 use Rattle.demands.proofs.entry.Entry.text_verdict.Goals as goal
 
 pub returns-in_default-clause-entry : goal.returns-in_default-clause-entry
 returns-in_default-clause-entry c =
     let e = c.args.self.now in
-    let same : map (λ x. string_bytes x) c.items.result.now ≡ e.texts =
-    c.items.ensures.texts ∙ c.texts.ensures.texts in
-    let more : 2 ≤ length e.texts = subst (λ n. 2 ≤ n)
-    (sym (length-map c.items.result.now (λ x. string_bytes x)) ∙ ap length same)
-    c.in_default.len_at_least in (
+    let more : 2 ≤ length e.texts = more_texts (λ x. string_bytes x) c.items.result.now e.texts
+    (c.items.ensures.texts ∙ c.texts.ensures.texts) c.in_default.len_at_least in (
       c.requires.few,
       inr (
         omega (arith, more),

@@ -1,18 +1,6 @@
-use Rattle.std.proofs.Common.{◌∙◌, ap, refl}
+use Rattle.std.proofs.Common.{◌∙◌, ap}
 use Rattle.pep_clause.specs.Cut.{before}
-use Rattle.pep_clause.proofs.CutsRead.{cut_at-is, reads_back}
 use Rattle.pep_clause.proofs.cut.Cut.before_suffixed.Goals as goal
 
-pub invariant_of-result : goal.invariant_of-result
-invariant_of-result c =
-    reads_back c.into_bytes.result.items (before c.in_ok-key.key)
-    (c.in_ok-key.ensures.version, c.in_ok-key.ensures.own_place) refl c.into_bytes.ensures.bytes
-
 pub returns-clause-place : goal.returns-clause-place
-returns-clause-place c =
-    cut_at-is c.into_bytes.result.items (before c.in_ok-key.key)
-    (c.in_ok-key.ensures.version, c.in_ok-key.ensures.own_place) refl c.into_bytes.ensures.bytes
-    ∙ ap before c.in_ok-key.ensures.place
-
-pub returns-clause-spelled : goal.returns-clause-spelled
-returns-clause-spelled c = (invariant_of-result c).cut
+returns-clause-place c = c.before_key.ensures.place ∙ ap before c.in_ok-key.ensures.place

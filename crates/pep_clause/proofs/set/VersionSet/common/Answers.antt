@@ -1,10 +1,10 @@
-use Rattle.std.proofs.Common.{◌≡◌, ◌∙◌, rules, subst, true}
+use Rattle.std.proofs.Common.{◌≡◌, rules, subst, true}
 use Rattle.pep_clause.proofs.Density.{normal-has_version}
-use Rattle.pep_clause.specs.Joined.{are_within, joined}
-use Rattle.pep_clause.specs.VersionSet.{IsNormal, is_in, is_point}
-use Rattle.pep_clause.proofs.JoinedPoints.{is_in-joined, is_in-within, is_point-joined}
-use Rattle.pep_clause.proofs.JoinedPoints.{is_point-within}
-use Rattle.pep_clause.proofs.NormalJoined.{IsNormal-joined}
+use Rattle.pep_clause.specs.Joined.{are_within}
+use Rattle.pep_clause.specs.VersionSet.{IsNormal}
+use Rattle.pep_clause.proofs.JoinedPoints.{is_in-within, is_point-within, joined_points}
+use Rattle.pep_clause.proofs.JoinedPoints.{joined_versions}
+use Rattle.pep_clause.proofs.NormalJoined.{joined_normal}
 use Rattle.pep_clause.proofs.set.VersionSet.common.Goals as goal
 
 pub returns-then-are_within-clause-points : goal.returns-then-are_within-clause-points
@@ -23,11 +23,9 @@ returns-then-are_within-clause-inhabited c =
 
 pub invariant_of-result : goal.invariant_of-result
 invariant_of-result c =
-    let list : c.in_ok-ranges.ranges.items ≡ joined c.args.self c.args.other =
-    cc (c.in_ok-ranges.ensures.ok) in
-    let self_normal : IsNormal c.args.self = subst IsNormal c.self.view_is c.self.invariant in
-    let other_normal : IsNormal c.args.other = subst IsNormal c.other.view_is c.other.invariant in
-    rw list (IsNormal-joined c.args.self c.args.other self_normal other_normal)
+    joined_normal c.args.self c.args.other c.in_ok-ranges.ranges.items
+    (cc (c.in_ok-ranges.ensures.ok)) (subst IsNormal c.self.view_is c.self.invariant)
+    (subst IsNormal c.other.view_is c.other.invariant)
 
 pub returns-clause-normal : goal.returns-clause-normal
 returns-clause-normal c = invariant_of-result c
@@ -37,12 +35,10 @@ returns-clause-inhabited c = normal-has_version c.in_ok-ranges.ranges.items (inv
 
 pub returns-clause-points : goal.returns-clause-points
 returns-clause-points c =
-    let list : c.in_ok-ranges.ranges.items ≡ joined c.args.self c.args.other =
-    cc (c.in_ok-ranges.ensures.ok) in
-    λ cut. (λ i. is_point (list i) cut) ∙ is_point-joined c.args.self c.args.other cut
+    joined_points c.args.self c.args.other c.in_ok-ranges.ranges.items
+    (cc (c.in_ok-ranges.ensures.ok))
 
 pub returns-clause-versions : goal.returns-clause-versions
 returns-clause-versions c =
-    let list : c.in_ok-ranges.ranges.items ≡ joined c.args.self c.args.other =
-    cc (c.in_ok-ranges.ensures.ok) in
-    λ v. (λ i. is_in (list i) v) ∙ is_in-joined c.args.self c.args.other v
+    joined_versions c.args.self c.args.other c.in_ok-ranges.ranges.items
+    (cc (c.in_ok-ranges.ensures.ok))

@@ -1,13 +1,13 @@
 use Rattle.std.proofs.Common.{rules, ◌≡◌, ◌∙◌, ◌+◌, ◌<◌, arith, sym, None, Some, inl, ap, subst}
-use Rattle.std.proofs.Common.{length, get_or, refl, take}
+use Rattle.std.proofs.Common.{length, get_or, refl, take, List, ℕ}
 use Rattle.std.proofs.lemmas.List.{take_all}
 use Rattle.std.specs.Option.{option_map, option_or}
 use Rattle.pep_marker.specs.declared.fault.MarkerFault.TheVariants.{MissingVariable}
-use Rattle.pep_marker.specs.Environment.{pairs_fault}
+use Rattle.pep_marker.specs.Environment.{EnvironmentParts, pairs_fault}
 use Rattle.pep_marker.specs.Pairs.{pair_texts}
 use Rattle.pep_marker.specs.Slots.{HoldsPairs}
 use Rattle.pep_marker.proofs.SlotLemmas.{HoldsPairs-put, HoldsValues-put, no_pair}
-use Rattle.pep_marker.proofs.SlotLemmas.{environment_of_slots-pairs, pair_text, take-pair}
+use Rattle.pep_marker.proofs.SlotLemmas.{environment_of-slots, pair_text, take-pair}
 use Rattle.pep_marker.proofs.SlotLemmas.{fault_from, fault_from-end, fault_from-step}
 use Rattle.pep_marker.proofs.SlotLemmas.{missing_fault-slots, slot_fault-none, slot_fault-pair}
 use Rattle.pep_marker.proofs.environment.Environment.of.Goals as goal
@@ -80,5 +80,6 @@ returns-clause-value c =
     let pairs = c.args.pairs.now in
     let all = subst (λ done. HoldsPairs c.loop-name.slots (pair_texts done))
     (take_all c.loop-name.name-index pairs c.loop-name-test.false) c.loop-name.invariant.holds in
-    c.in_ok-environment.ensures
-    ∙ environment_of_slots-pairs c.loop-name.slots (pair_texts pairs) all
+    let of : List (List ℕ) → EnvironmentParts = λ texts. record { texts = texts } in
+    ap of (c.in_ok-environment.ensures
+    ∙ environment_of-slots c.loop-name.slots (pair_texts pairs) c.loop-name.invariant.twelve all)

@@ -1,6 +1,7 @@
 use Rattle.std.proofs.Common.{map, inl, inr, sym, subst, ◌∙◌, refl}
 use Rattle.std.proofs.lemmas.Result.{err_from_is_err_and}
-use Rattle.pep_marker.specs.Chains.{OrFrom}
+use Rattle.pep_marker.specs.Chains.{ChainFrom}
+use Rattle.pep_marker.specs.declared.chains.Link.TheVariants.{Or}
 use Rattle.pep_marker.specs.Token.{token_of}
 use Rattle.pep_marker.specs.View.{tree_parts}
 use Rattle.pep_marker.proofs.ChainLoops.{refuses_by}
@@ -23,7 +24,7 @@ returns-then-not-is_empty-clause-refused c =
 
 pub returns-clause-read : goal.returns-clause-read
 returns-clause-read c =
-    subst (OrFrom 64 (map token_of c.args.tokens.now) (tree_parts c.in_ok-front.front.tree))
+    subst (ChainFrom Or 64 (map token_of c.args.tokens.now) (tree_parts c.in_ok-front.front.tree))
     (none_left _ (sym c.is_empty.ensures ∙ c.if-not-is_empty.false)) c.in_ok-front.ensures.read
 
 pub returns-clause-few : goal.returns-clause-few

@@ -10,13 +10,16 @@ use Rattle.pep_table.proofs.EntryPlaces.{entry_at-place, none_found}
 use Rattle.demands.proofs.KeptSets.{text_cmp, same_text}
 use Rattle.pep_table.proofs.table.Table.get.Goals as goal
 
+-- where an entry's name stands against this one
+abbrev against : List ℕ → List ℕ × EntryParts → Ordering
+against n p = text_cmp p.0 n
+
 pub returns-in-Ok : goal.returns-in-Ok
 returns-in-Ok c =
     let t : TableParts = c.self.inside.entries.items in
     let n = c.args.name.now in
-    let order : List ℕ × EntryParts → Ordering = λ p. text_cmp p.0 n in
-    let found = c.in-Ok.ensures.position order
-    (always_returns_same _ (λ a r. r ≡ order a.0.now) _ (λ a r f k. search rules))
+    let found = c.in-Ok.ensures.position (against n)
+    (always_returns_same _ (λ a r. r ≡ against n a.0.now) _ (λ a r f k. search rules))
     c.index.result.now in
     let p = c.index.result.now in
     let at : text_cmp (slice_index_or t c.in-Ok.i p).0 n ≡ Equal =
@@ -33,12 +36,11 @@ pub returns-in-Err : goal.returns-in-Err
 returns-in-Err c =
     let t : TableParts = c.self.inside.entries.items in
     let n = c.args.name.now in
-    let order : List ℕ × EntryParts → Ordering = λ p. text_cmp p.0 n in
-    let place = c.in-Err.ensures.position order
-    (always_returns_same _ (λ a r. r ≡ order a.0.now) _ (λ a r f k. search rules)) in
+    let place = c.in-Err.ensures.position (against n)
+    (always_returns_same _ (λ a r. r ≡ against n a.0.now) _ (λ a r f k. search rules)) in
     sym (none_found t n c.in-Err.field-0 c.self.invariant.names.0
     (subst (λ (l : TableParts). IsNonDecreasingBy (λ (p : List ℕ × EntryParts).
-    ordering_index (text_cmp p.0 n)) l → IsPartitionPoint (λ (p : List ℕ × EntryParts).
-    text_cmp p.0 n ≡ Less) (λ p. text_cmp p.0 n ≡ Greater) l c.in-Err.field-0)
+    ordering_index (against n p)) l → IsPartitionPoint (λ (p : List ℕ × EntryParts).
+    against n p ≡ Less) (λ p. against n p ≡ Greater) l c.in-Err.field-0)
     c.deref.ensures.value place))
     ∙ ap (λ (l : TableParts). entry_at l n) c.self.view_is

@@ -2,7 +2,7 @@ use Rattle.std.proofs.Common.{◌≡◌, ◌∙◌, ap, subst, sym}
 use Rattle.pep_version.specs.Slices.{lower, version_of_slices}
 use Rattle.pep_version.specs.Reading.{passes, read_version}
 use Rattle.pep_version.specs.Segments.{VersionOf}
-use Rattle.pep_version.specs.Spelling.{trimmed}
+use Rattle.texts.specs.Space.{trimmed}
 use Rattle.pep_version.proofs.ReadingLemmas.{reads-passed, reads-refused}
 use Rattle.pep_version.proofs.version.Version.read.Goals as goal
 

@@ -1,5 +1,5 @@
 use Rattle.std.proofs.Common.{rules}
-use Rattle.pep_version.proofs.ListLemmas.{is_empty-length}
+use Rattle.texts.proofs.ListLemmas.{is_empty-length}
 use Rattle.specifiers.proofs.clause.read.is_clause_text.Goals as goal
 
 pub returns-then-not-is_empty : goal.returns-then-not-is_empty

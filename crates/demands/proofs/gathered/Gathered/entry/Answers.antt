@@ -1,5 +1,0 @@
-use Rattle.std.proofs.Common.{rules}
-use Rattle.demands.proofs.gathered.Gathered.entry.Goals as goal
-
-pub returns-in-Some-others-clause-same : goal.returns-in-Some-others-clause-same
-returns-in-Some-others-clause-same c = search rules

@@ -1,0 +1,32 @@
+use Rattle.std.proofs.Common.{map, string_bytes}
+use Rattle.std.proofs.lemmas.Result.{err_from_is_err_and}
+use Rattle.pep_tool.specs.RunReplies.{by_environment, by_files}
+use Rattle.pep_tool.proofs.Refusals.{files_refuse, memory_or, merges_files}
+use Rattle.pep_tool.proofs.program.reply.merge_files.Goals as goal
+
+pub returns-in_err-environment-clause-refused : goal.returns-in_err-environment-clause-refused
+returns-in_err-environment-clause-refused g c =
+    let exit = c.from_residual in
+    let p = err_from_is_err_and exit.result exit.ensures.1 in
+    rw (p.1, p.2) (memory_or by_environment c.in_err-environment.ensures.refused)
+
+pub returns-in_err-inputs-clause-refused : goal.returns-in_err-inputs-clause-refused
+returns-in_err-inputs-clause-refused g c =
+    let exit = c.from_residual-in_err-inputs in
+    let p = err_from_is_err_and exit.result exit.ensures.1 in
+    rw (p.1, p.2) (memory_or (by_files _ c.in_ok-environment.ensures.environment)
+    c.in_err-inputs.ensures.refused)
+
+pub returns-clause-merged : goal.returns-clause-merged
+returns-clause-merged g c =
+    merges_files string_bytes c.merge_bytes.result _ _ _ c.args.env.now
+    (map string_bytes c.args.files.now) c.in_ok-environment.environment
+    c.in_ok-inputs.inputs.items c.as_slice.result.now c.in_ok-environment.ensures.environment
+    c.in_ok-inputs.ensures.inputs c.as_slice.ensures.value c.merge_bytes.ensures.merged
+
+pub returns-clause-refused : goal.returns-clause-refused
+returns-clause-refused g c =
+    files_refuse c.merge_bytes.result _ _ _ c.args.env.now
+    (map string_bytes c.args.files.now) c.in_ok-environment.environment
+    c.in_ok-inputs.inputs.items c.as_slice.result.now c.in_ok-environment.ensures.environment
+    c.in_ok-inputs.ensures.inputs c.as_slice.ensures.value c.merge_bytes.ensures.refused

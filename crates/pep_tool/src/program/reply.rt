@@ -1,0 +1,314 @@
+//! What the program replies to what it is asked.
+
+ghost use Rattle.std.specs.Prelude.{
+  ◌≡◌,
+  ◌≢◌,
+  ◌⊎◌,
+  ◌≤◌,
+  ◌+◌,
+  ◌∷◌,
+  [],
+  All,
+  IfOk,
+  IfErr,
+  OnOk,
+  Ok,
+  Some,
+  false,
+  map,
+  string_bytes,
+};
+ghost use Rattle.pep_marker.specs.Name.{name_of};
+ghost use Rattle.pep_require.specs.View.{requirement_parts};
+ghost use Rattle.pep_version.specs.Spelling.{Reads};
+ghost use Rattle.demands.specs.Table.{HasExactPoints, IsTable};
+ghost use Rattle.devices.specs.Device.{Device, IsFresh};
+ghost use Rattle.inputs.specs.Gathered.{Gathered, IsAccepted};
+ghost use Rattle.inputs.specs.Lists.{Lists};
+ghost use Rattle.inputs.specs.Lists.{input_limit};
+ghost use Rattle.command_line.specs.Plan.{request, standard};
+ghost use Rattle.inputs.specs.Refusal.{RefusesInputs, no_memory};
+ghost use Rattle.pep_tool.specs.RunReplies.{
+  IsReply,
+  ChecksFiles,
+  IsUnlisted,
+  IsVersionLine,
+  ListsFile,
+  MergesFiles,
+  MergesInput,
+  RefusesCheck,
+  RefusesFiles,
+  RefusesInput,
+  RefusesLines,
+  RefusesName,
+  RefusesRequest,
+  RefusesVersion,
+  answer_line,
+  answer_status,
+};
+ghost use Rattle.pep_tool.specs.Standard.{standard_environment};
+
+use crate::program::reading::{kind_of, read_all, read_environment, read_file, read_inputs};
+use crate::standard::standard_environment;
+use command_line::Plan;
+use devices::{Folder, Source};
+use faults::{ArgumentFault, Cause, Fault, Place};
+use inputs::{
+    Input, Kind, check_bytes, gather, lines_text, list_of, merge_bytes, project_of, text_of,
+};
+use pep_marker::Name;
+use pep_require::Requirement;
+use pep_table::{Answer, Gathering};
+use pep_version::Version;
+use std::alloc::Global;
+
+/// What is printed, and the exit status.
+#[derive(Debug, Drop)]
+pub(crate) struct Reply {
+    pub(crate) text: String,
+    pub(crate) status: u8,
+}
+
+impl Reply {
+    // A text, at status 0.
+    fn of_text(text: String) -> Reply
+        ensures { result ≡ record { text = text; status = 0 } }
+    {
+        Reply { text, status: 0 }
+    }
+}
+
+/// What is printed for a plan, and the exit status.
+pub(crate) fn reply_to<D: Folder, I: Source>(
+    alloc: Global,
+    folder: &D,
+    plan: &Plan,
+    input: &mut I,
+) -> Result<Reply, Fault>
+    requires { IsFresh (I.device input.old) }
+    ensures no_failure { OnOk result ((I.device input.new).failed ≡ false) }
+    ensures reply { IfOk result (λ reply. IsReply (D.file_at folder.now) D.File.left
+        D.File.device (request plan.now) (I.left input.old) (I.left input.new)
+        (string_bytes reply.text) reply.status) }
+    ensures refused { IfErr result (λ fault. (fault ≡ no_memory)
+        ⊎ RefusesRequest (D.file_at folder.now) D.File.left D.File.device (request plan.now)
+        (I.left input.old) (I.left input.new) (I.device input.new) fault) }
+    ensures status { IfOk result (λ reply. reply.status ≤ 1) }
+    ensures unread { request plan.now ≢ standard → input.new ≡ input.old }
+    ensures calls { (I.device input.new).calls ≤ input_limit + 1 }
+{
+    match plan {
+        Plan::Standard => Ok(Reply::of_text(merge_input(alloc, input)?)),
+        Plan::ShowVersion { text } => Ok(Reply::of_text(version_line(alloc, text.as_str())?)),
+        Plan::ShowLines { file } => Ok(Reply::of_text(file_lines(alloc, folder, file.as_str())?)),
+        Plan::Merge { env, files } => {
+            let text = merge_files(alloc, folder, env.as_str(), files.as_slice())?;
+            Ok(Reply::of_text(text))
+        }
+        Plan::Check {
+            env,
+            pre,
+            name,
+            version,
+            files,
+        } => {
+            let (env, name, version) = (env.as_str(), name.as_str(), version.as_str());
+            let answer = check_files(alloc, folder, env, *pre, name, version, files.as_slice())?;
+            answer_reply(alloc, answer)
+        }
+    }
+}
+
+// The version that a word spells.
+fn read_version(alloc: Global, text: &str) -> Result<Version, Fault>
+    ensures version { IfOk result (λ version. Reads text.now (Ok version)) }
+    ensures refused { IfErr result
+        (λ fault. (fault ≡ no_memory) ⊎ RefusesVersion text.now fault) }
+{
+    match Version::read(alloc, text) {
+        Ok(version) => Ok(version),
+        Err(fault) => Err(Fault::of_argument(ArgumentFault::Version(fault))),
+    }
+}
+
+// The name that a word is.
+fn read_name(alloc: Global, text: &str) -> Result<Name, Fault>
+    ensures name { IfOk result (λ name. name_of text.now ≡ Some name) }
+    ensures refused { IfErr result (λ fault. (fault ≡ no_memory) ⊎ RefusesName text.now fault) }
+{
+    match Name::read(alloc, text) {
+        Ok(name) => Ok(name),
+        Err(fault) => Err(Fault::of_argument(ArgumentFault::Name(fault))),
+    }
+}
+
+// The line of the version that a text spells.
+fn version_line(alloc: Global, text: &str) -> Result<String, Fault>
+    ensures line { IfOk result (λ line. IsVersionLine text.now (string_bytes line)) }
+    ensures refused { IfErr result
+        (λ fault. (fault ≡ no_memory) ⊎ RefusesVersion text.now fault) }
+{
+    let version = read_version(alloc, text)?;
+    let Ok(mut line) = version.text(alloc) else {
+        return Err(Fault::no_memory());
+    };
+    line.push_str("\n")?;
+    Ok(line)
+}
+
+// What the bytes demand as one list, in the standard environment. They are dropped: the text of
+// the table needs no more of them than what is gathered.
+fn gather_list(alloc: Global, bytes: Vec<u8>) -> Result<Gathering, Fault>
+    ensures accepted { IfOk result (λ gathering. All (IsAccepted standard_environment)
+        (record { kind = Kind.List; bytes = bytes } ∷ [])) }
+    ensures table { IfOk result (IsTable
+        (Gathered standard_environment (record { kind = Kind.List; bytes = bytes } ∷ []))) }
+    ensures points { IfOk result (HasExactPoints
+        (Gathered standard_environment (record { kind = Kind.List; bytes = bytes } ∷ []))) }
+    ensures refused { IfErr result (RefusesInputs standard_environment
+        (record { kind = Kind.List; bytes = bytes } ∷ [])) }
+{
+    let environment = standard_environment(alloc)?;
+    let inputs = [Input {
+        kind: Kind::List,
+        bytes,
+    }];
+    gather(alloc, &inputs, &environment)
+}
+
+// The text of the table of the input, in the standard environment.
+fn merge_input<S: Source>(alloc: Global, source: &mut S) -> Result<String, Fault>
+    requires { IsFresh (S.device source.old) }
+    ensures merged { IfOk result
+        (λ text. MergesInput (S.left source.old) (S.left source.new) (string_bytes text)) }
+    ensures no_failure { OnOk result ((S.device source.new).failed ≡ false) }
+    ensures calls { (S.device source.new).calls ≤ input_limit + 1 }
+    ensures refused { IfErr result (λ fault. (fault ≡ no_memory)
+        ⊎ RefusesInput (S.left source.old) (S.left source.new) (S.device source.new) fault) }
+{
+    let bytes = read_all(alloc, source, Place::Input(1))?;
+    let gathering = gather_list(alloc, bytes)?;
+    text_of(alloc, gathering)
+}
+
+// The requirements that a list or a project file has, without an extra.
+fn requirements_to_show(alloc: Global, kind: Kind, bytes: &[u8]) -> Result<Vec<Requirement>, Fault>
+    requires { kind ≢ Kind.Table }
+    ensures ok { IfOk result (λ requirements.
+        Lists [] kind bytes.now (map requirement_parts requirements.items)) }
+    ensures refused { IfErr result (λ fault. (fault ≡ no_memory)
+        ⊎ ((fault.place ≡ Place.Input 1) × IsUnlisted kind bytes.now fault.cause)) }
+{
+    match kind {
+        Kind::List => list_of(alloc, bytes),
+        Kind::Project => project_of(alloc, bytes, ""),
+        Kind::Table => unreachable!(),
+    }
+}
+
+// The lines of the requirements of the file with this path.
+fn file_lines<D: Folder>(alloc: Global, folder: &D, path: &str) -> Result<String, Fault>
+    ensures lists { IfOk result (λ text. ListsFile (D.file_at folder.now) D.File.left
+        D.File.device path.now (string_bytes text)) }
+    ensures refused { IfErr result (λ fault. (fault ≡ no_memory)
+        ⊎ RefusesLines (D.file_at folder.now) D.File.left D.File.device path.now fault) }
+{
+    let kind = kind_of(path);
+    if kind == Kind::Table {
+        return Err(Fault {
+            place: Place::Input(1),
+            cause: Cause::NoRequirements,
+        });
+    }
+    let bytes = read_file(alloc, folder, path, Place::Input(1))?;
+    let requirements = requirements_to_show(alloc, kind, bytes.as_slice())?;
+    lines_text(alloc, requirements.as_slice())
+}
+
+// The text of the table of the files, in the environment of a file.
+fn merge_files<D: Folder>(
+    alloc: Global,
+    folder: &D,
+    env: &str,
+    files: &[String],
+) -> Result<String, Fault>
+    ensures merged { IfOk result (λ text. MergesFiles (D.file_at folder.now) D.File.left
+        D.File.device env.now (map string_bytes files.now) (string_bytes text)) }
+    ensures refused { IfErr result (λ fault. (fault ≡ no_memory)
+        ⊎ RefusesFiles (D.file_at folder.now) D.File.left D.File.device env.now
+        (map string_bytes files.now) fault) }
+{
+    let environment = read_environment(alloc, folder, env)?;
+    let inputs = read_inputs(alloc, folder, files)?;
+    merge_bytes(alloc, inputs.as_slice(), &environment)
+}
+
+// Whether the version of the package meets the requirements of the files, in the environment of a
+// file.
+fn check_files<D: Folder>(
+    alloc: Global,
+    folder: &D,
+    env: &str,
+    pre: bool,
+    name: &str,
+    version: &str,
+    files: &[String],
+) -> Result<Answer, Fault>
+    ensures checked { IfOk result (ChecksFiles (D.file_at folder.now) D.File.left D.File.device
+        (record {
+          env = env.now;
+          pre = pre;
+          name = name.now;
+          version = version.now;
+          files = map string_bytes files.now;
+        })) }
+    ensures refused { IfErr result (λ fault. (fault ≡ no_memory)
+        ⊎ RefusesCheck (D.file_at folder.now) D.File.left D.File.device (record {
+          env = env.now;
+          pre = pre;
+          name = name.now;
+          version = version.now;
+          files = map string_bytes files.now;
+        }) fault) }
+{
+    let version = read_version(alloc, version)?;
+    let name = read_name(alloc, name)?;
+    let environment = read_environment(alloc, folder, env)?;
+    let inputs = read_inputs(alloc, folder, files)?;
+    check_bytes(alloc, inputs.as_slice(), &environment, &name, &version, pre)
+}
+
+// How an answer is printed.
+fn answer_line(answer: Answer) -> &'static str
+    ensures { result.now ≡ answer_line answer }
+{
+    match answer {
+        Answer::Yes => "yes\n",
+        Answer::No => "no\n",
+        Answer::Conflict => "conflict\n",
+    }
+}
+
+// The exit status at an answer.
+fn answer_status(answer: Answer) -> u8
+    ensures status { result ≡ answer_status answer }
+    ensures bound { result ≤ 1 }
+{
+    match answer {
+        Answer::Yes => 0,
+        Answer::No | Answer::Conflict => 1,
+    }
+}
+
+// What is printed of an answer, and its exit status.
+fn answer_reply(alloc: Global, answer: Answer) -> Result<Reply, Fault>
+    ensures text { IfOk result (λ reply. string_bytes reply.text ≡ answer_line answer) }
+    ensures status { IfOk result (λ reply. reply.status ≡ answer_status answer) }
+    ensures bound { IfOk result (λ reply. reply.status ≤ 1) }
+    ensures faults { IfErr result (λ fault. fault ≡ no_memory) }
+{
+    Ok(Reply {
+        text: String::from_str(alloc, answer_line(answer))?,
+        status: answer_status(answer),
+    })
+}

@@ -1,5 +1,0 @@
-use Rattle.std.proofs.Common.{rules}
-use Rattle.pep_version.proofs.bytes.is_separator.Goals as goal
-
-pub returns-in_default : goal.returns-in_default
-returns-in_default c = search rules

@@ -1,5 +1,0 @@
-use Rattle.std.proofs.Common.{rules}
-use Rattle.pep_version.proofs.space.trimmed.Goals as goal
-
-pub returns : goal.returns
-returns c = search rules

@@ -1,0 +1,5 @@
+pub mod Connectives
+pub mod SplitLemmas
+pub mod ListLemmas
+pub mod SpaceLemmas
+pub mod RunLemmas

@@ -1,0 +1,6 @@
+pub mod Lists
+pub mod Bytes
+pub mod Space
+pub mod Split
+pub mod Runs
+pub mod Limits

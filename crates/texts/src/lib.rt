@@ -1,0 +1,22 @@
+//! What several crates of this repository share of texts: classes of bytes, runs of one class,
+//! white space at the ends, a text split at a byte, and the longest line and input. It is public
+//! for them alone.
+
+#![tactic(auto)]
+
+mod bytes;
+mod limits;
+mod runs;
+mod space;
+mod split;
+
+pub use crate::bytes::{
+    is_blank_byte, is_clause_byte, is_letter_or_digit, is_name_byte, is_separator, is_white_space,
+};
+pub use crate::limits::{INPUT_LIMIT, LINE_LIMIT};
+pub use crate::runs::{
+    blank_end, blank_run, clause_run, has_clause_bytes, name_run, without_leading_blanks,
+    without_outer_blanks,
+};
+pub use crate::space::{trimmed, without_trailing_space};
+pub use crate::split::first_part;
