@@ -1,6 +1,7 @@
 pub mod KeptSets
 pub mod ValidEntries
 pub mod TakenClauses
+pub mod PartialJoins
 pub mod JoinedItems
 pub mod Answers
 pub mod Verdicts

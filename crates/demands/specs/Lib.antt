@@ -8,5 +8,6 @@ pub mod JoinLaws
 pub mod Code
 pub mod Gathering
 pub mod Others
+pub mod PartialJoins
 pub mod IntersectionLaws
 pub mod EntryLaws

@@ -1,7 +1,7 @@
 -- What is demanded of a package besides its versions, as the code keeps it: no meaning rests on
 -- this.
 use Rattle.std.specs.Prelude.{◌≡◌, ℕ, List, [], All, IsTrue, Option, unwrap_or}
-use Rattle.pep_clause.specs.VersionSet.{Range, all_versions}
+use Rattle.pep_clause.specs.VersionSet.{Range}
 use Rattle.pep_marker.specs.Name.{IsNormalName}
 use Rattle.pep_require.specs.Requirement.{RequirementParts}
 use Rattle.demands.specs.Gathering.{target_clauses, target_urls, texts_of}
@@ -29,10 +29,6 @@ entry_with o versions = record {
 -- what is kept of these: nothing, where there are none
 abbrev pub kept_others : Option OtherParts → OtherParts
 kept_others o = unwrap_or o no_others
-
--- the versions that are kept: all, where there are none
-abbrev pub kept_versions : Option (List Range) → List Range
-kept_versions o = unwrap_or o all_versions
 
 -- a requirement that demands no extra, no URL and no text
 pub record DemandsNothingElse (r : RequirementParts) : Type 0 where

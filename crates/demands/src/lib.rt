@@ -7,6 +7,7 @@ mod fault;
 mod join;
 mod others;
 mod package_demands;
+mod partial_joins;
 mod same;
 mod sorted;
 mod verdict;

@@ -2,7 +2,6 @@
 
 ghost use Rattle.std.specs.Prelude.{◌≡◌, ◌∷◌, [], All, IfErr, IfOk, OnOk, option_map};
 ghost use Rattle.specifiers.specs.Valid.{IsValidClause};
-ghost use Rattle.pep_clause.specs.VersionSet.{IsNormal, all_versions};
 ghost use Rattle.pep_require.specs.View.{requirement_parts, target_parts};
 ghost use Rattle.demands.specs.Gathering.{
   HasValidParts,
@@ -11,13 +10,15 @@ ghost use Rattle.demands.specs.Gathering.{
   bare_entry,
   target_clauses,
 };
-ghost use Rattle.demands.specs.Join.{IsIntersection, JoinsEntries};
-ghost use Rattle.demands.specs.Others.{JoinsOthers, TakesOthers, kept_others, kept_versions};
+ghost use Rattle.demands.specs.Join.{JoinsEntries};
+ghost use Rattle.demands.specs.Others.{JoinsOthers, TakesOthers, kept_others};
+ghost use Rattle.demands.specs.PartialJoins.{AreNormal, joined_sets};
 ghost use Rattle.demands.specs.Table.{IsValidEntry};
 
-use crate::entry::{Entry, versions_copied};
+use crate::entry::Entry;
 use crate::fault::TableFault;
 use crate::others::{Others, demands_others};
+use crate::partial_joins::{joined_of, narrow, narrow_by};
 use crate::sorted::Sorted;
 use pep_clause::{Clause, VersionSet};
 use pep_require::{Requirement, Target};
@@ -27,109 +28,32 @@ use std::marker::Model;
 /// What requirements and entries so far demand of one package. Clauses see the entry of it.
 #[derive(Drop)]
 pub struct PackageDemands {
-    // All versions, where it is `None`: for this no memory is asked.
-    versions: Option<VersionSet>,
+    // Sets of which the join counts: of all versions, where there is none.
+    versions: Vec<VersionSet>,
     // No extras, URLs and texts, where it is `None`.
     others: Option<Box<Others>>,
 }
 
 impl Model for PackageDemands {
     ghost use Rattle.std.specs.Prelude.{option_map};
-    ghost use Rattle.demands.specs.Others.{entry_with, kept_others, kept_versions};
+    ghost use Rattle.demands.specs.Others.{entry_with, kept_others};
+    ghost use Rattle.demands.specs.PartialJoins.{AreNormal, joined_sets};
     ghost use Rattle.demands.specs.Table.{EntryParts};
 
     ghost Value = { EntryParts };
 
     ghost view = { λ g. entry_with (kept_others (option_map (λ b. b.value) g.others))
-        (kept_versions g.versions) };
-}
+        (joined_sets g.versions.items) };
 
-// The set of all versions.
-fn all_versions(alloc: Global) -> Result<VersionSet, TableFault>
-    ensures all { IfOk result (λ s. s ≡ all_versions) }
-    ensures faults { IfErr result (λ e. e ≡ TableFault.NoMemory) }
-{
-    match VersionSet::all(alloc) {
-        Ok(versions) => Ok(versions),
-        Err(_) => Err(TableFault::NoMemory),
-    }
-}
-
-// Tells that what is kept is a normal list.
-fn tell_normal(versions: &Option<VersionSet>)
-    ensures { IsNormal (kept_versions versions.now) }
-{
-    if let Some(kept) = versions {
-        let _ = kept.ranges();
-    }
-}
-
-// Keeps the versions of the set that are in the other too.
-fn keep_common(alloc: Global, kept: &mut VersionSet, others: &VersionSet) -> Result<(), TableFault>
-    ensures ok { OnOk result (IsIntersection kept.old others.now kept.new) }
-    ensures faults { IfErr result (λ e. e ≡ TableFault.NoMemory) }
-{
-    match kept.join(alloc, others) {
-        Ok(()) => Ok(()),
-        Err(_) => Err(TableFault::NoMemory),
-    }
-}
-
-// The same of sets that are used up.
-fn common(alloc: Global, kept: VersionSet, others: VersionSet) -> Result<VersionSet, TableFault>
-    ensures ok { IfOk result (IsIntersection kept others) }
-    ensures faults { IfErr result (λ e. e ≡ TableFault.NoMemory) }
-{
-    match kept.common(alloc, others) {
-        Ok(both) => Ok(both),
-        Err(_) => Err(TableFault::NoMemory),
-    }
-}
-
-// Keeps the versions that are in the other set too.
-fn narrow(
-    alloc: Global,
-    versions: &mut Option<VersionSet>,
-    others: VersionSet,
-) -> Result<(), TableFault>
-    ensures ok { OnOk result (IsIntersection (kept_versions versions.old) others
-        (kept_versions versions.new)) }
-    ensures faults { IfErr result (λ e. e ≡ TableFault.NoMemory) }
-{
-    // Its clause tells that the ranges are a normal list.
-    let _ = others.ranges();
-    match versions.take() {
-        Some(kept) => {
-            *versions = Some(common(alloc, kept, others)?);
-            Ok(())
-        }
-        None => {
-            *versions = Some(others);
-            Ok(())
-        }
-    }
-}
-
-// The same with a set that is lent, and copied only where there is none to narrow.
-fn narrow_by(
-    alloc: Global,
-    versions: &mut Option<VersionSet>,
-    others: &VersionSet,
-) -> Result<(), TableFault>
-    ensures ok { OnOk result (IsIntersection (kept_versions versions.old) others.now
-        (kept_versions versions.new)) }
-    ensures faults { IfErr result (λ e. e ≡ TableFault.NoMemory) }
-{
-    match versions {
-        Some(kept) => keep_common(alloc, kept, others),
-        None => narrow(alloc, versions, versions_copied(alloc, others)?),
-    }
+    ghost invariant = { λ g. AreNormal g.versions.items };
 }
 
 // Keeps the versions that the clause admits. A clause that demands a text admits all of them here.
-fn meet(alloc: Global, versions: &mut Option<VersionSet>, clause: &Clause) -> Result<(), TableFault>
-    ensures ok { OnOk result (MeetsClauses (kept_versions versions.old) (clause.now ∷ [])
-        (kept_versions versions.new)) }
+fn meet(alloc: Global, versions: &mut Vec<VersionSet>, clause: &Clause) -> Result<(), TableFault>
+    requires { AreNormal versions.old.items }
+    ensures ok { OnOk result (MeetsClauses (joined_sets versions.old.items) (clause.now ∷ [])
+        (joined_sets versions.new.items)) }
+    ensures normal { AreNormal versions.new.items }
     ensures valid { IsValidClause clause.now }
     ensures faults { IfErr result (λ e. e ≡ TableFault.NoMemory) }
 {
@@ -144,15 +68,16 @@ fn meet(alloc: Global, versions: &mut Option<VersionSet>, clause: &Clause) -> Re
 // Keeps the versions that all clauses admit.
 fn meet_all(
     alloc: Global,
-    versions: &mut Option<VersionSet>,
+    versions: &mut Vec<VersionSet>,
     clauses: &[Clause],
 ) -> Result<(), TableFault>
-    ensures ok { OnOk result (MeetsClauses (kept_versions versions.old) clauses.now
-        (kept_versions versions.new)) }
+    requires { AreNormal versions.old.items }
+    ensures ok { OnOk result (MeetsClauses (joined_sets versions.old.items) clauses.now
+        (joined_sets versions.new.items)) }
+    ensures normal { AreNormal versions.new.items }
     ensures valid { OnOk result (All IsValidClause clauses.now) }
     ensures faults { IfErr result (λ e. e ≡ TableFault.NoMemory) }
 {
-    tell_normal(versions);
     for clause in clauses {
         meet(alloc, versions, clause)?;
     }
@@ -162,15 +87,16 @@ fn meet_all(
 // Keeps the versions that the target admits.
 fn meet_target(
     alloc: Global,
-    versions: &mut Option<VersionSet>,
+    versions: &mut Vec<VersionSet>,
     target: &Target,
 ) -> Result<(), TableFault>
-    ensures ok { OnOk result (MeetsClauses (kept_versions versions.old)
-        (target_clauses (target_parts target.now)) (kept_versions versions.new)) }
+    requires { AreNormal versions.old.items }
+    ensures ok { OnOk result (MeetsClauses (joined_sets versions.old.items)
+        (target_clauses (target_parts target.now)) (joined_sets versions.new.items)) }
+    ensures normal { AreNormal versions.new.items }
     ensures valid { OnOk result (All IsValidClause (target_clauses (target_parts target.now))) }
     ensures faults { IfErr result (λ e. e ≡ TableFault.NoMemory) }
 {
-    tell_normal(versions);
     match target {
         Target::Bounds(clauses) => meet_all(alloc, versions, clauses.as_slice()),
         Target::Direct(_) => Ok(()),
@@ -220,11 +146,11 @@ fn join_others(
 
 impl PackageDemands {
     /// What is demanded of a package by its name alone: nothing.
-    pub fn bare() -> PackageDemands
+    pub fn bare(alloc: Global) -> PackageDemands
         ensures { result ≡ bare_entry }
     {
         PackageDemands {
-            versions: None,
+            versions: Vec::new(alloc),
             others: None,
         }
     }
@@ -263,10 +189,7 @@ impl PackageDemands {
         ensures faults { IfErr result (λ e. e ≡ TableFault.NoMemory) }
     {
         let PackageDemands { versions, others } = self;
-        let versions = match versions {
-            Some(versions) => versions,
-            None => all_versions(alloc)?,
-        };
+        let versions = joined_of(alloc, versions)?;
         match others {
             Some(others) => Box::into_inner(others).entry(alloc, versions),
             None => Ok(Entry::of(

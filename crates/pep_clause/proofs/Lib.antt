@@ -9,6 +9,7 @@ pub mod SameVersions
 pub mod CutOrderLemmas
 pub mod JoinedPoints
 pub mod NormalJoined
+pub mod Sweeping
 pub mod Rows
 pub mod OrderRows
 pub mod NextPlace

@@ -90,7 +90,7 @@ Spelled-append [] ys h g = g
 Spelled-append (r ∷ xs) ys h g = (h.0, h.1, Spelled-append xs ys h.2 g)
 
 -- what is above a cut is above each cut that is not above that
-AllAbove-not_above : (c d : Cut) (ranges : List Range) → is_lt (cut_cmp c d) ≡ false →
+pub AllAbove-not_above : (c d : Cut) (ranges : List Range) → is_lt (cut_cmp c d) ≡ false →
     AllAbove c ranges → AllAbove d ranges
 AllAbove-not_above c d [] e h = tt
 AllAbove-not_above c d (r ∷ rest) e h =

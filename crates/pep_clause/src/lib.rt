@@ -6,8 +6,11 @@ pub mod laws;
 mod range;
 mod range_ends;
 mod set;
+mod sweep;
+mod turns;
 
 pub use crate::cut::Cut;
 pub use crate::range::Range;
 pub use crate::set::VersionSet;
+pub use crate::turns::Turns;
 pub use specifiers::{Clause, ClauseFault, Op};

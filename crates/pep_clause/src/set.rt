@@ -4,8 +4,10 @@ ghost use Rattle.std.specs.Prelude.{
   ◌≡◌,
   ◌&&◌,
   ◌↔◌,
+  ◌+◌,
   ◌++◌,
   ◌-◌,
+  ◌≤◌,
   ◌∷◌,
   [],
   IfErr,
@@ -14,6 +16,7 @@ ghost use Rattle.std.specs.Prelude.{
   IsSome,
   IsTrue,
   None,
+  length,
   OnErr,
   OnOk,
   option_map,
@@ -30,7 +33,7 @@ ghost use Rattle.specifiers.specs.Clause.{matching_prefix, prefix_of};
 ghost use Rattle.specifiers.specs.ClauseView.{IsStored, clause_of};
 ghost use Rattle.pep_clause.specs.Cut.{Cut, IsCut, cut_cmp};
 ghost use Rattle.pep_clause.specs.Inhabited.{HasVersionUnlessEmpty};
-ghost use Rattle.pep_clause.specs.Joined.{all_within, are_within, joined, row_joined};
+ghost use Rattle.pep_clause.specs.Joined.{HasFewRanges, all_within, are_within, joined};
 ghost use Rattle.pep_clause.specs.OperatorTable.{outside, range, set_of};
 ghost use Rattle.pep_clause.specs.SetEquality.{SameVersions, same_ranges, same_ranges-equiv};
 ghost use Rattle.pep_clause.specs.VersionSet.{In, IsIncreasing, IsNormal, all_versions, cuts, is_in};
@@ -39,6 +42,8 @@ ghost use Rattle.pep_clause.specs.VersionSet.{is_point};
 use crate::cut::Cut;
 use crate::range::Range;
 use crate::range_ends::{greater_from, less_to, matching_to, next, prefix_end};
+use crate::sweep::swept_ranges;
+use crate::turns::Turns;
 use pep_version::{Key, Version};
 use specifiers::{Clause, ClauseFault, ClauseForm};
 use std::alloc::Global;
@@ -99,51 +104,24 @@ fn push_range(done: &mut Vec<Range>, low: Cut, high: Cut) -> Result<(), ClauseFa
     Ok(())
 }
 
-fn push_joined(
-    alloc: Global,
-    done: &mut Vec<Range>,
-    range: &Range,
-    others: &[Range],
-) -> Result<(), ClauseFault>
-    ensures ok { OnOk result (done.new.items ≡ done.old.items ++ row_joined range.now others.now) }
-    ensures faults { IfErr result (λ e. e ≡ ClauseFault.NoMemory) }
-{
-    for other in others {
-        if let Some(both) = range.joined(alloc, other)? {
-            done.push(both)?;
-        }
-    }
-    Ok(())
-}
-
-fn joined_ranges(
-    alloc: Global,
-    ranges: &[Range],
-    others: &[Range],
-) -> Result<Vec<Range>, ClauseFault>
-    ensures ok { IfOk result (λ done. done.items ≡ joined ranges.now others.now) }
-    ensures faults { IfErr result (λ e. e ≡ ClauseFault.NoMemory) }
-{
-    // Between two ranges in common one of the lists goes on to its next.
-    let most = ranges.len().saturating_add(others.len().saturating_sub(1));
-    let mut done = Vec::with_capacity(alloc, most)?;
-    for range in ranges {
-        push_joined(alloc, &mut done, range, others)?;
-    }
-    Ok(done)
-}
-
-// The same of ranges that are used up: where each list has one, nothing is copied.
+// What two lists of ranges have in common, which are used up: where each has one, nothing is copied.
 fn common_ranges(
     alloc: Global,
     ranges: Vec<Range>,
     others: Vec<Range>,
 ) -> Result<Vec<Range>, ClauseFault>
+    requires ranges { IsNormal ranges.items }
+    requires others { IsNormal others.items }
     ensures ok { IfOk result (λ done. done.items ≡ joined ranges.items others.items) }
     ensures faults { IfErr result (λ e. e ≡ ClauseFault.NoMemory) }
 {
     if ranges.len() != 1 || others.len() != 1 {
-        return joined_ranges(alloc, ranges.as_slice(), others.as_slice());
+        return swept_ranges(
+            alloc,
+            ranges.as_slice(),
+            others.as_slice(),
+            &mut Turns::none(),
+        );
     }
     let (mut ranges, mut others) = (ranges, others);
     if let (Some(range), Some(other)) = (ranges.pop(), others.pop()) {
@@ -365,6 +343,31 @@ impl VersionSet {
         VersionSet::of_form(alloc, clause.form())
     }
 
+    /// The versions that are in both sets, by one sweep over the ranges of both: each turn passes
+    /// one of them, and is counted. The only fault is `NoMemory`.
+    pub fn swept(
+        &self,
+        alloc: Global,
+        other: &VersionSet,
+        turns: &mut Turns,
+    ) -> Result<VersionSet, ClauseFault>
+        ensures points { IfOk result (λ s. (c : Cut) → is_point s c
+            ≡ (is_point self.now c && is_point other.now c)) }
+        ensures versions { IfOk result (λ s. (v : Version) →
+            is_in s v ≡ (is_in self.now v && is_in other.now v)) }
+        ensures normal { IfOk result (λ s. IsNormal s) }
+        ensures few { IfOk result (λ s. HasFewRanges self.now other.now s) }
+        ensures inhabited { IfOk result (λ s. HasVersionUnlessEmpty s) }
+        ensures turns { turns.new.passed
+            ≤ turns.old.passed + (length self.now + length other.now) }
+        ensures counted { turns.old.passed ≤ turns.new.passed }
+        ensures faults { IfErr result (λ e. e ≡ ClauseFault.NoMemory) }
+    {
+        let (ranges, others) = (self.ranges.as_slice(), other.ranges.as_slice());
+        let ranges = swept_ranges(alloc, ranges, others, turns)?;
+        Ok(VersionSet { ranges })
+    }
+
     /// The versions that are in both sets. The only fault is `NoMemory`.
     pub fn joined(&self, alloc: Global, other: &VersionSet) -> Result<VersionSet, ClauseFault>
         ensures points { IfOk result (λ s. (c : Cut) → is_point s c
@@ -372,11 +375,11 @@ impl VersionSet {
         ensures versions { IfOk result (λ s. (v : Version) →
             is_in s v ≡ (is_in self.now v && is_in other.now v)) }
         ensures normal { IfOk result (λ s. IsNormal s) }
+        ensures few { IfOk result (λ s. HasFewRanges self.now other.now s) }
         ensures inhabited { IfOk result (λ s. HasVersionUnlessEmpty s) }
         ensures faults { IfErr result (λ e. e ≡ ClauseFault.NoMemory) }
     {
-        let ranges = joined_ranges(alloc, self.ranges.as_slice(), other.ranges.as_slice())?;
-        Ok(VersionSet { ranges })
+        self.swept(alloc, other, &mut Turns::none())
     }
 
     /// The versions that are in both sets, which are used up: where each is one range, nothing is

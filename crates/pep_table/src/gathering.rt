@@ -73,7 +73,7 @@ impl Gathering {
             entry.take(alloc, requirement)?;
             return Ok(self);
         }
-        let mut entry = PackageDemands::bare();
+        let mut entry = PackageDemands::bare(alloc);
         entry.take(alloc, requirement)?;
         self.entries.insert(name.kept(alloc)?, entry)?;
         Ok(self)
@@ -135,7 +135,7 @@ impl Gathering {
             kept.join(alloc, entry)?;
             return Ok(self);
         }
-        let mut kept = PackageDemands::bare();
+        let mut kept = PackageDemands::bare(alloc);
         kept.join(alloc, entry)?;
         self.entries.insert(name.kept(alloc)?, kept)?;
         Ok(self)

@@ -3,7 +3,8 @@ use Rattle.pep_clause.proofs.Density.{normal-has_version}
 use Rattle.pep_clause.specs.VersionSet.{IsNormal}
 use Rattle.pep_clause.proofs.JoinedPoints.{joined_points, joined_versions}
 use Rattle.pep_clause.proofs.NormalJoined.{joined_normal}
-use Rattle.pep_clause.proofs.set.VersionSet.joined.Goals as goal
+use Rattle.pep_clause.proofs.Sweeping.{few_ranges}
+use Rattle.pep_clause.proofs.set.VersionSet.swept.Goals as goal
 
 pub invariant_of-result : goal.invariant_of-result
 invariant_of-result c =
@@ -26,3 +27,9 @@ pub returns-clause-versions : goal.returns-clause-versions
 returns-clause-versions c =
     joined_versions c.args.self.now c.args.other.now c.in_ok-ranges.ranges.items
     (cc (c.in_ok-ranges.ensures.ok))
+
+pub returns-clause-few : goal.returns-clause-few
+returns-clause-few c =
+    few_ranges c.args.self.now c.args.other.now c.in_ok-ranges.ranges.items
+    (cc (c.in_ok-ranges.ensures.ok)) (subst IsNormal c.self.view_is c.self.invariant)
+    (subst IsNormal c.other.view_is c.other.invariant)

@@ -1,0 +1,106 @@
+-- Partial joins: one set more behind them, the last of them joined with it, and the join of all.
+use Rattle.std.proofs.Common.{◌≡◌, ◌&&◌, List, [], ◌∷◌, ◌++◌, refl, sym, ap, subst, ◌∙◌}
+use Rattle.std.proofs.Math.Bool.{and_assoc, and_comm}
+use Rattle.texts.proofs.Connectives.{and_given_second}
+use Rattle.pep_clause.specs.Cut.{Cut, IsCut}
+use Rattle.pep_clause.specs.Joined.{joined}
+use Rattle.pep_clause.specs.VersionSet.{IsNormal, Range, all_versions, is_point}
+use Rattle.pep_clause.proofs.JoinedPoints.{is_point-joined}
+use Rattle.pep_clause.proofs.LeastCut.{IsNormal-all_versions, point-all_versions}
+use Rattle.pep_clause.proofs.NormalJoined.{IsNormal-joined}
+use Rattle.pep_clause.proofs.OneList.{same_points}
+use Rattle.demands.specs.Join.{IsIntersection}
+use Rattle.demands.specs.PartialJoins.{AreNormal, joined_sets}
+
+pub normal_sets : (sets : List (List Range)) → AreNormal sets → IsNormal (joined_sets sets)
+normal_sets [] h = IsNormal-all_versions
+normal_sets (s ∷ rest) h = IsNormal-joined s (joined_sets rest) h.0 (normal_sets rest h.1)
+
+points_behind : (sets : List (List Range)) (t : List Range) (c : Cut) →
+    is_point (joined_sets (sets ++ t ∷ [])) c ≡ (is_point (joined_sets sets) c && is_point t c)
+points_behind [] t c =
+    is_point-joined t all_versions c ∙ and_comm (is_point t c) (is_point all_versions c)
+points_behind (s ∷ rest) t c =
+    is_point-joined s (joined_sets (rest ++ t ∷ [])) c
+    ∙ ap (λ b. is_point s c && b) (points_behind rest t c)
+    ∙ sym (and_assoc (is_point s c) (is_point (joined_sets rest) c) (is_point t c))
+    ∙ ap (λ b. b && is_point t c) (sym (is_point-joined s (joined_sets rest) c))
+
+normal_behind : (sets : List (List Range)) (t : List Range) → AreNormal sets → IsNormal t →
+    AreNormal (sets ++ t ∷ [])
+normal_behind [] t h n = (n, tt)
+normal_behind (s ∷ rest) t h n = (h.0, normal_behind rest t h.1 n)
+
+normal_front : (sets : List (List Range)) (t : List Range) → AreNormal (sets ++ t ∷ []) →
+    AreNormal sets
+normal_front [] t h = tt
+normal_front (s ∷ rest) t h = (h.0, normal_front rest t h.1)
+
+normal_last : (sets : List (List Range)) (t : List Range) → AreNormal (sets ++ t ∷ []) → IsNormal t
+normal_last [] t h = h.0
+normal_last (s ∷ rest) t h = normal_last rest t h.1
+
+-- The sets that are left and the one at hand hold together what the whole holds.
+pub record JoinsTo (whole : List Range) (sets : List (List Range)) (sum : List Range) : Type 0 where
+  pub sets_normal : AreNormal sets
+  pub sum_normal : IsNormal sum
+  pub points : (cut : Cut) → IsCut cut →
+      (is_point (joined_sets sets) cut && is_point sum cut) ≡ is_point whole cut
+
+-- at first
+pub joins_more : (sets : List (List Range)) (t : List Range) → AreNormal sets → IsNormal t →
+    JoinsTo (joined (joined_sets sets) t) sets t
+joins_more sets t h n = record {
+  sets_normal = h;
+  sum_normal = n;
+  points = λ cut is. sym (is_point-joined (joined_sets sets) t cut);
+}
+
+pub joins_last : (all sets : List (List Range)) (t : List Range) → all ≡ sets ++ t ∷ [] →
+    AreNormal all → JoinsTo (joined_sets all) sets t
+joins_last all sets t e h =
+    let are = subst AreNormal e h in record {
+      sets_normal = normal_front sets t are;
+      sum_normal = normal_last sets t are;
+      points = λ cut is. sym (ap (λ x. is_point (joined_sets x) cut) e ∙ points_behind sets t cut);
+    }
+
+-- where the last set is joined with the one at hand
+pub joins_next : (whole : List Range) (all sets : List (List Range)) (next sum both : List Range) →
+    all ≡ sets ++ next ∷ [] → JoinsTo whole all sum → IsIntersection next sum both →
+    JoinsTo whole sets both
+joins_next whole all sets next sum both e h i =
+    let are = subst AreNormal e h.sets_normal in record {
+      sets_normal = normal_front sets next are;
+      sum_normal = i.normal;
+      points = λ cut is. ap (λ b. is_point (joined_sets sets) cut && b) (i.points cut is)
+          ∙ sym (and_assoc (is_point (joined_sets sets) cut) (is_point next cut) (is_point sum cut))
+          ∙ ap (λ b. b && is_point sum cut)
+          (sym (ap (λ x. is_point (joined_sets x) cut) e ∙ points_behind sets next cut))
+          ∙ h.points cut is;
+    }
+
+-- where the set at hand stands behind the others
+pub joined_behind : (old sets new : List (List Range)) (t sum : List Range) →
+    new ≡ sets ++ sum ∷ [] → JoinsTo (joined (joined_sets old) t) sets sum →
+    IsIntersection (joined_sets old) t (joined_sets new)
+joined_behind old sets new t sum e h = record {
+  normal = rw e (normal_sets (sets ++ sum ∷ [])
+      (normal_behind sets sum h.sets_normal h.sum_normal));
+  points = λ cut is. ap (λ x. is_point (joined_sets x) cut) e
+      ∙ points_behind sets sum cut
+      ∙ h.points cut is
+      ∙ is_point-joined (joined_sets old) t cut;
+}
+
+pub normal_more : (whole sum : List Range) (sets new : List (List Range)) → new ≡ sets ++ sum ∷ [] →
+    JoinsTo whole sets sum → AreNormal new
+normal_more whole sum sets new e h =
+    rw e (normal_behind sets sum h.sets_normal h.sum_normal)
+
+-- where no other set is left
+pub joined_whole : (whole sum : List Range) → IsNormal whole → JoinsTo whole [] sum → sum ≡ whole
+joined_whole whole sum normal h =
+    same_points sum whole h.sum_normal normal (λ cut is.
+    sym (and_given_second (is_point all_versions cut) (is_point sum cut)
+    (point-all_versions sum cut)) ∙ h.points cut is)

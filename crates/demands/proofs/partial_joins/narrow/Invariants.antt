@@ -1,0 +1,12 @@
+use Rattle.std.proofs.Common.{length}
+use Rattle.pep_clause.specs.Joined.{joined}
+use Rattle.demands.specs.PartialJoins.{joined_sets}
+use Rattle.demands.proofs.PartialJoins.{JoinsTo}
+use Rattle.demands.proofs.partial_joins.narrow.Given as goal
+
+abbrev pub invariant-sets : goal.invariant-sets
+invariant-sets l =
+    JoinsTo (joined (joined_sets l.initial.sets.items) l.fn.others) l.sets.items l.sum
+
+abbrev pub decreases-sets : goal.decreases-sets
+decreases-sets l = length l.sets.items
