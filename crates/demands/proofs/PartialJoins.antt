@@ -1,5 +1,5 @@
 -- Partial joins: one set more behind them, the last of them joined with it, and the join of all.
-use Rattle.std.proofs.Common.{◌≡◌, ◌&&◌, List, [], ◌∷◌, ◌++◌, refl, sym, ap, subst, ◌∙◌}
+use Rattle.std.proofs.Common.{◌≡◌, ◌&&◌, List, [], ◌∷◌, ◌++◌, sym, ap, subst, ◌∙◌, length, arith}
 use Rattle.std.proofs.Math.Bool.{and_assoc, and_comm}
 use Rattle.texts.proofs.Connectives.{and_given_second}
 use Rattle.pep_clause.specs.Cut.{Cut, IsCut}
@@ -93,14 +93,11 @@ joined_behind old sets new t sum e h = record {
       ∙ is_point-joined (joined_sets old) t cut;
 }
 
-pub normal_more : (whole sum : List Range) (sets new : List (List Range)) → new ≡ sets ++ sum ∷ [] →
-    JoinsTo whole sets sum → AreNormal new
-normal_more whole sum sets new e h =
-    rw e (normal_behind sets sum h.sets_normal h.sum_normal)
-
 -- where no other set is left
-pub joined_whole : (whole sum : List Range) → IsNormal whole → JoinsTo whole [] sum → sum ≡ whole
-joined_whole whole sum normal h =
+pub joined_whole : (whole sum : List Range) (sets : List (List Range)) → length sets ≡ 0 →
+    IsNormal whole → JoinsTo whole sets sum → sum ≡ whole
+joined_whole whole sum [] e normal h =
     same_points sum whole h.sum_normal normal (λ cut is.
-    sym (and_given_second (is_point all_versions cut) (is_point sum cut)
-    (point-all_versions sum cut)) ∙ h.points cut is)
+    and_given_second (is_point all_versions cut) (is_point sum cut) (point-all_versions sum cut)
+    ∙ h.points cut is)
+joined_whole whole sum (s ∷ rest) e normal h = absurd (omega (arith, e))

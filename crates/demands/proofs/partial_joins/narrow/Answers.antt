@@ -1,0 +1,19 @@
+use Rattle.pep_clause.specs.Joined.{joined}
+use Rattle.demands.specs.PartialJoins.{joined_sets}
+use Rattle.demands.proofs.PartialJoins.{joined_behind, joins_more, joins_next}
+use Rattle.demands.proofs.partial_joins.narrow.Goals as goal
+
+pub sets-init : goal.sets-init
+sets-init c =
+    joins_more c.args.sets.now.items c.args.others c.requires c.ranges-2.ensures.normal
+
+pub sets-preserved-in-Some : goal.sets-preserved-in-Some
+sets-preserved-in-Some c =
+    joins_next (joined (joined_sets c.args.sets.now.items) c.args.others) c.sets.sets.items
+    c.pop.new.self.items c.in-Some.next c.sets.sum c.in_ok-sum.sum c.in-Some.ensures.items
+    c.sets.invariant c.in_ok-sum.ensures.ok
+
+pub returns-clause-ok : goal.returns-clause-ok
+returns-clause-ok c =
+    joined_behind c.args.sets.now.items c.sets.sets.items c.push.new.self.items c.args.others
+    c.sets.sum c.in_ok-push.ensures.items c.sets.invariant
