@@ -320,14 +320,8 @@ name-ends = same_each (λ v. ends_ascii (variable_name v)) (λ v. true) refl
 
 operator-end : (o : Op) → ends_ascii (operator_text o) ≡ true
 unfolding ends_ascii
-operator-end op.Compatible = refl
-operator-end op.Equal = refl
-operator-end op.NotEqual = refl
-operator-end op.AtMost = refl
-operator-end op.AtLeast = refl
-operator-end op.Less = refl
-operator-end op.More = refl
 operator-end op.Exact = refl
+operator-end _ = refl
 
 token-ends : (t : Token) (w : List ℕ) → IsToken t w → ends_ascii w ≡ true
 unfolding ends_ascii

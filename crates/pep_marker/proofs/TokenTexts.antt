@@ -250,20 +250,23 @@ parts_quotable (operand l ∷ ts) us h =
     let parts = parts_quotable ts us h.1 in ((h.0, parts.0), parts.1)
 parts_quotable (operator o ∷ ts) us h = parts_quotable ts us h
 
+-- what two parts give, both of their tokens give
+from_parts : {A B : Type 0} (ts us : List Token) → (AreQuotable ts → A) → (AreQuotable us → B) →
+    AreQuotable (ts ++ us) → A × B
+from_parts ts us f g h = let parts = parts_quotable ts us h in (f parts.0, g parts.1)
+
 mutual
   pub or_quotable : {d : ℕ} {ts : List Token} {m : MarkerParts} → IsOrChain d ts m →
       AreQuotable ts → IsQuotable m
   or_quotable (one_chain c) h = and_quotable c h
   or_quotable (or_chain ts us c e) h =
-      let parts = parts_quotable ts (or_word ∷ us) h in
-      (or_quotable c parts.0, and_quotable e parts.1)
+      from_parts ts (or_word ∷ us) (λ g. or_quotable c g) (λ g. and_quotable e g) h
 
   and_quotable : {d : ℕ} {ts : List Token} {m : MarkerParts} → IsAndChain d ts m →
       AreQuotable ts → IsQuotable m
   and_quotable (one_item i) h = item_quotable i h
   and_quotable (and_chain ts us c i) h =
-      let parts = parts_quotable ts (and_word ∷ us) h in
-      (and_quotable c parts.0, item_quotable i parts.1)
+      from_parts ts (and_word ∷ us) (λ g. and_quotable c g) (λ g. item_quotable i g) h
 
   item_quotable : {d : ℕ} {ts : List Token} {m : MarkerParts} → IsItem d ts m →
       AreQuotable ts → IsQuotable m

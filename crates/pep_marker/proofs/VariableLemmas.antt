@@ -7,34 +7,15 @@ use Rattle.std.specs.Option.{option_map}
 use Rattle.std.proofs.lemmas.Option.{none-some, same_Some, slice_get-map}
 use Rattle.std.proofs.lemmas.Slice.Eq.{bytes_eq-Decides}
 use Rattle.pep_marker.specs.declared.environment.Variable.{Variable}
-use Rattle.pep_marker.specs.declared.environment.Variable.TheVariants.{OsName, SysPlatform}
-use Rattle.pep_marker.specs.declared.environment.Variable.TheVariants.{PlatformMachine}
-use Rattle.pep_marker.specs.declared.environment.Variable.TheVariants.{PlatformPythonImplementation}
-use Rattle.pep_marker.specs.declared.environment.Variable.TheVariants.{PlatformRelease}
-use Rattle.pep_marker.specs.declared.environment.Variable.TheVariants.{PlatformSystem}
-use Rattle.pep_marker.specs.declared.environment.Variable.TheVariants.{PlatformVersion}
-use Rattle.pep_marker.specs.declared.environment.Variable.TheVariants.{PythonVersion}
-use Rattle.pep_marker.specs.declared.environment.Variable.TheVariants.{PythonFullVersion}
-use Rattle.pep_marker.specs.declared.environment.Variable.TheVariants.{ImplementationName}
-use Rattle.pep_marker.specs.declared.environment.Variable.TheVariants.{ImplementationVersion, Extra}
+use Rattle.pep_marker.specs.declared.environment.Variable.TheVariants.{Extra}
 use Rattle.pep_marker.specs.Environment.{place, variable_name}
 use Rattle.pep_marker.specs.Environment.{variable_of, variables}
 
 -- ---- each variable has a place and a name of its own
 
 at_place : (v : Variable) → slice_get variables (place v) ≡ Some v
-at_place OsName = refl
-at_place SysPlatform = refl
-at_place PlatformMachine = refl
-at_place PlatformPythonImplementation = refl
-at_place PlatformRelease = refl
-at_place PlatformSystem = refl
-at_place PlatformVersion = refl
-at_place PythonVersion = refl
-at_place PythonFullVersion = refl
-at_place ImplementationName = refl
-at_place ImplementationVersion = refl
 at_place Extra = refl
+at_place _ = refl
 
 pub one_place : (v w : Variable) → place v ≡ place w → v ≡ w
 one_place v w e =

@@ -57,11 +57,12 @@ pub record Cut (x : List ℕ) (o : Op) (run rest : List ℕ) : Type 0 where
   pub front : run ≡ clause_run (after_operator o (without_leading_blanks x))
   pub left : without_leading_blanks rest ≡ after_run (after_operator o (without_leading_blanks x))
 
-pub cut_here : (x text mark back y run rest : List ℕ) (o : Op) (n : ℕ) →
+pub cut_here : {x text mark back y run rest : List ℕ} {o : Op} {n : ℕ} →
     text ≡ without_leading_blanks x → operator_of text ≡ Some o → mark ≡ operator_text o →
     back ≡ drop (length mark) text → y ≡ without_leading_blanks back →
     n ≡ prefix_len is_clause_byte y → run ≡ take n y → rest ≡ drop n y → Cut x o run rest
-cut_here x text mark back y run rest o n stripped found same behind after count front left =
+cut_here {x = x} {text = text} {y = y} {run = run} {o = o} {n = n}
+    stripped found same behind after count front left =
     let place : y ≡ after_operator o (without_leading_blanks x) =
     after ∙ ap without_leading_blanks (behind ∙ ap (λ t. drop (length t) text) same)
     ∙ ap (after_operator o) stripped in

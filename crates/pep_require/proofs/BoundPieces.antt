@@ -63,17 +63,13 @@ begins_after p off (b ∷ space) rest h g =
 -- an operator is found where no `=` follows it
 pub found_operator : (o : Op) (tail : List ℕ) → begins (λ b. 61 == b) tail ≡ false →
     operator_of (operator_text o ++ tail) ≡ Some o
-found_operator op.Compatible tail h = refl
-found_operator op.NotEqual tail h = refl
-found_operator op.AtMost tail h = refl
-found_operator op.AtLeast tail h = refl
-found_operator op.Exact tail h = refl
 found_operator op.Equal [] h = refl
 found_operator op.Equal (b ∷ tail) h = rw h refl
 found_operator op.Less [] h = refl
 found_operator op.Less (b ∷ tail) h = rw h refl
 found_operator op.More [] h = refl
 found_operator op.More (b ∷ tail) h = rw h refl
+found_operator _ tail h = refl
 
 -- what a clause with its operator says, the run behind the operator says
 run_says : (o : Op) (run : List ℕ) (c : Clause) → list_all is_clause_byte run ≡ true →
@@ -92,25 +88,13 @@ run_says o run c bytes h =
 -- ---- what is in the grammar is found
 
 bare_operator : (o : Op) (tail : List ℕ) → begins is_bare_byte (operator_text o ++ tail) ≡ true
-bare_operator op.Compatible tail = refl
-bare_operator op.Equal tail = refl
-bare_operator op.NotEqual tail = refl
-bare_operator op.AtMost tail = refl
-bare_operator op.AtLeast tail = refl
-bare_operator op.Less tail = refl
-bare_operator op.More tail = refl
 bare_operator op.Exact tail = refl
+bare_operator _ tail = refl
 
 no_blank_operator : (o : Op) (tail : List ℕ) →
     begins is_blank_byte (operator_text o ++ tail) ≡ false
-no_blank_operator op.Compatible tail = refl
-no_blank_operator op.Equal tail = refl
-no_blank_operator op.NotEqual tail = refl
-no_blank_operator op.AtMost tail = refl
-no_blank_operator op.AtLeast tail = refl
-no_blank_operator op.Less tail = refl
-no_blank_operator op.More tail = refl
 no_blank_operator op.Exact tail = refl
+no_blank_operator _ tail = refl
 
 -- what stands behind the white space in front of a clause
 abbrev from_operator : {piece : List ℕ} {c : Clause} → IsBound piece c → List ℕ → List ℕ

@@ -1,11 +1,11 @@
 -- How the extras of a text are read: one name, the names between the brackets, and all of them.
 use Rattle.std.proofs.Common.{◌≡◌, ◌≢◌, ℕ, zero, suc, ◌==◌, ◌<◌, Bool, true, false, not}
-use Rattle.std.proofs.Common.{List, [], ◌∷◌, ◌++◌, length, take, drop, get_or, Some, None}
+use Rattle.std.proofs.Common.{List, [], ◌∷◌, ◌++◌, length, get_or, Some, None}
 use Rattle.std.proofs.Common.{refl, sym, ap, subst, ◌∙◌, arith, append_assoc}
 use Rattle.std.specs.Prelude.{Contains, ◌↔◌, ◌&&◌}
 use Rattle.std.specs.Cmp.Lexicographic.{nat_list_cmp_total, nat_list_eq_equiv, slice_cmp}
 use Rattle.std.specs.Cmp.Lexicographic.{texts_ties}
-use Rattle.std.specs.List.{AllZip, dedup, join_with_byte, prefix_len, slice_split}
+use Rattle.std.specs.List.{AllZip, dedup, join_with_byte, slice_split}
 use Rattle.std.specs.List.Retain.{DiffersFromLast, IsFiltered}
 use Rattle.std.specs.List.Sorted.{IsPermutation, IsSorted, IsStrictlySortedBy}
 use Rattle.std.specs.Str.{bytes_eq}
@@ -28,26 +28,12 @@ use Rattle.pep_require.specs.Reads.{IsExtra, NamesExtras, none, empty, listed}
 use Rattle.pep_require.specs.Requirement.{IsAscending}
 use Rattle.pep_require.proofs.BlankLemmas.{nothing_left}
 use Rattle.pep_require.proofs.ExtrasLaws.{in_brackets, one_end, tail}
-use Rattle.pep_require.proofs.ExtrasPieces.{all_but, behind_extra, extra_ends, extra_named}
-use Rattle.pep_require.proofs.ExtrasPieces.{extra_read, extra_run}
+use Rattle.pep_require.proofs.ExtrasPieces.{all_but, extra_ends, extra_named, extra_read}
+use Rattle.pep_require.proofs.FrontLemmas.{RunCut}
 
 -- ---- one extra
 
-pub record ExtraCut (piece run behind : List ℕ) : Type 0 where
-  pub front : run ≡ extra_run (without_leading_blanks piece)
-  pub left : behind ≡ behind_extra (without_leading_blanks piece)
-
-pub extra_cut : (piece text bytes run behind : List ℕ) (n : ℕ) →
-    text ≡ without_leading_blanks piece → bytes ≡ text → n ≡ prefix_len is_name_byte bytes →
-    run ≡ take n text → behind ≡ drop n text → ExtraCut piece run behind
-extra_cut piece text bytes run behind n stripped same count front left =
-    let long : n ≡ prefix_len is_name_byte text = count ∙ ap (prefix_len is_name_byte) same in
-    record {
-      front = front ∙ ap (λ k. take k text) long ∙ ap extra_run stripped;
-      left = left ∙ ap (λ k. drop k text) long ∙ ap behind_extra stripped;
-    }
-
-pub extra_here : (piece run behind rest n : List ℕ) → ExtraCut piece run behind →
+pub extra_here : (piece run behind rest n : List ℕ) → RunCut is_name_byte piece run behind →
     rest ≡ without_leading_blanks behind → (length rest == 0) ≡ true → name_of run ≡ Some n →
     IsExtra piece n
 extra_here piece run behind rest n cut stripped end is =
@@ -55,15 +41,15 @@ extra_here piece run behind rest n cut stripped end is =
     (ap without_leading_blanks (sym cut.left) ∙ sym stripped ∙ nothing_left rest end)
 
 -- something else than white space stands behind the name
-pub more_behind : (piece run behind rest : List ℕ) → ExtraCut piece run behind →
+pub more_behind : (piece run behind rest : List ℕ) → RunCut is_name_byte piece run behind →
     rest ≡ without_leading_blanks behind → (length rest == 0) ≡ false → NoExtra piece
 more_behind piece run behind rest cut stripped more n s =
     let gone : rest ≡ [] =
     stripped ∙ ap without_leading_blanks cut.left ∙ extra_ends piece n s in
     cc (ap (λ t. length t == 0) gone, more)
 
-pub no_name_here : (piece run behind : List ℕ) → ExtraCut piece run behind → name_of run ≡ None →
-    NoExtra piece
+pub no_name_here : (piece run behind : List ℕ) → RunCut is_name_byte piece run behind →
+    name_of run ≡ None → NoExtra piece
 no_name_here piece run behind cut off n s =
     cc (off, ap name_of cut.front, ap name_of (extra_named piece n s), s.name)
 

@@ -1,6 +1,6 @@
 -- What stands at the front of a text, and where a text may be cut behind it.
 use Rattle.std.proofs.Common.{◌≡◌, ◌≢◌, ℕ, ◌==◌, ◌<◌, Bool, true, false, not, List, [], ◌∷◌}
-use Rattle.std.proofs.Common.{length, take, Option, Some, None, Bor, refl, ap, arith}
+use Rattle.std.proofs.Common.{length, take, drop, Option, Some, None, Bor, refl, ap, arith}
 use Rattle.std.proofs.Common.{◌≤◌, ◌⊎◌, inl, inr, get_or, drop-cons, sym, ◌∙◌}
 use Rattle.std.specs.Prelude.{MatchOption}
 use Rattle.std.specs.List.{prefix_len}
@@ -8,7 +8,7 @@ use Rattle.std.specs.Str.{IsCharBoundary, IsUtf8}
 use Rattle.std.proofs.lemmas.Bool.Decides.{nat_tests}
 use Rattle.std.proofs.lemmas.List.Sums.{prefix_len-le-length}
 use Rattle.std.proofs.lemmas.Str.{IsCharBoundary-from_take, IsUtf8-from_ascii}
-use Rattle.texts.specs.Runs.{begins}
+use Rattle.texts.specs.Runs.{begins, without_leading_blanks}
 use Rattle.texts.specs.Bytes.{is_blank_byte}
 use Rattle.texts.specs.Bytes.{is_name_byte}
 use Rattle.pep_marker.proofs.NormalNames.{name_byte_small}
@@ -59,6 +59,23 @@ boundary-url = boundary-until (λ b. not (is_blank_byte b)) small
   where
     small : (b : ℕ) → not (is_blank_byte b) ≡ false → b < 128
     small b h = grind (arith, nat_tests)
+
+-- ---- how the code cuts a run of a class: by a count of bytes behind the white space in front
+
+pub record RunCut (p : ℕ → Bool) (x run behind : List ℕ) : Type 0 where
+  pub front : run ≡ take (prefix_len p (without_leading_blanks x)) (without_leading_blanks x)
+  pub left : behind ≡ drop (prefix_len p (without_leading_blanks x)) (without_leading_blanks x)
+
+pub run_cut : (p : ℕ → Bool) {x text bytes run behind : List ℕ} {n : ℕ} →
+    text ≡ without_leading_blanks x → bytes ≡ text → n ≡ prefix_len p bytes → run ≡ take n text →
+    behind ≡ drop n text → RunCut p x run behind
+run_cut p {x = x} {n = n} stripped same count front left =
+    let y = without_leading_blanks x in
+    let long : n ≡ prefix_len p y = count ∙ ap (prefix_len p) (same ∙ stripped) in
+    record {
+      front = front ∙ ap (take n) stripped ∙ ap (λ k. take k y) long;
+      left = left ∙ ap (drop n) stripped ∙ ap (λ k. drop k y) long;
+    }
 
 -- ---- a fault of a part is a fault of what it is a part of
 

@@ -1,6 +1,6 @@
 -- A line is cut from left to right as the grammar has it.
 use Rattle.std.proofs.Common.{arith, ◌≡◌, ◌≢◌, ℕ, ◌==◌, ◌≤◌, ◌⊎◌, Bool, true, false, not}
-use Rattle.std.proofs.Common.{List}
+use Rattle.std.proofs.Common.{List, ◌||◌}
 use Rattle.std.proofs.Common.{[], ◌∷◌, ◌++◌, length, drop, Option, Some, None, refl, sym, ap, subst}
 use Rattle.std.proofs.Common.{◌∙◌, inl, inr, append_assoc, append-nil}
 use Rattle.std.proofs.Math.Seq.{drop-append_seam}
@@ -17,7 +17,7 @@ use Rattle.texts.specs.Runs.{begins, without_leading_blanks}
 use Rattle.texts.specs.Bytes.{is_blank_byte}
 use Rattle.pep_require.specs.Faults.{after_name, beginning_fault, name_run}
 use Rattle.pep_require.specs.LineParts.{ExtrasFrom, LineParts, RefusesLine, TargetFrom}
-use Rattle.pep_require.specs.LineParts.{is_bare_byte}
+use Rattle.pep_require.specs.LineParts.{is_bare_byte, is_target_byte}
 use Rattle.pep_require.specs.LineParts.{bad_beginning, bad_extras, bad_target, bad_ending}
 use Rattle.pep_require.specs.LineParts.{no_memory}
 use Rattle.pep_require.specs.LineParts.{is_bracket, is_end, RefusesEnding, RefusesExtras}
@@ -142,59 +142,38 @@ begins_by p off (b ∷ z) h =
     by_answer (is_blank_byte b) (off b)
     (λ e. subst (λ t. begins p t ≡ false) (no_leading (b ∷ z) e) h)
 
--- no line, and none of its targets, begins with a byte of this class
-pub record Off (p : ℕ → Bool) : Type 0 where
-  pub blank : (b : ℕ) → is_blank_byte b ≡ true → p b ≡ false
-  pub bare : (b : ℕ) → is_bare_byte b ≡ true → p b ≡ false
-  pub closed : p 40 ≡ false
-  pub url : p 64 ≡ false
-  pub marker : (b : ℕ) → (b == 59) ≡ true → p b ≡ false
+-- what a target, or a marker behind it, begins with, and white space in front of them
+abbrev is_front_byte : ℕ → Bool
+is_front_byte b = is_blank_byte b || b == 59 || is_target_byte b
+
+-- neither of them begins with a byte of this class
+abbrev Off : (ℕ → Bool) → Type 0
+Off p = (b : ℕ) → is_front_byte b ≡ true → p b ≡ false
 
 names_off : Off is_name_byte
 unfolding is_letter_or_digit
-names_off = record {
-  blank = λ b e. blank b e;
-  bare = λ b e. bare b e;
-  closed = refl;
-  url = refl;
-  marker = λ b e. marker b e;
-}
-  where
-    blank : (b : ℕ) → is_blank_byte b ≡ true → is_name_byte b ≡ false
-    blank b e = grind (arith, nat_tests)
-
-    bare : (b : ℕ) → is_bare_byte b ≡ true → is_name_byte b ≡ false
-    bare b e = grind (arith, nat_tests)
-
-    marker : (b : ℕ) → (b == 59) ≡ true → is_name_byte b ≡ false
-    marker b e = grind (arith, nat_tests)
+names_off b e = grind (arith, nat_tests)
 
 brackets_off : Off is_bracket
-brackets_off = record {
-  blank = λ b e. blank b e;
-  bare = λ b e. bare b e;
-  closed = refl;
-  url = refl;
-  marker = λ b e. marker b e;
-}
-  where
-    blank : (b : ℕ) → is_blank_byte b ≡ true → is_bracket b ≡ false
-    blank b e = grind (arith, nat_tests)
+brackets_off b e = grind (arith, nat_tests)
 
-    bare : (b : ℕ) → is_bare_byte b ≡ true → is_bracket b ≡ false
-    bare b e = grind (arith, nat_tests)
+blank_in_front : (b : ℕ) → is_blank_byte b ≡ true → is_front_byte b ≡ true
+blank_in_front b e = grind (arith, nat_tests)
 
-    marker : (b : ℕ) → (b == 59) ≡ true → is_bracket b ≡ false
-    marker b e = grind (arith, nat_tests)
+end_in_front : (b : ℕ) → (b == 59) ≡ true → is_front_byte b ≡ true
+end_in_front b e = grind (arith, nat_tests)
+
+bare_in_front : (b : ℕ) → is_bare_byte b ≡ true → is_front_byte b ≡ true
+bare_in_front b e = grind (arith, nat_tests)
 
 off_end : (p : ℕ → Bool) → Off p → (z : List ℕ) → is_end false z ≡ true → begins p z ≡ false
 off_end p off [] e = refl
-off_end p off (b ∷ z) e = off.marker b e
+off_end p off (b ∷ z) e = off b (end_in_front b e)
 
 off_bare : (p : ℕ → Bool) → Off p → (z : List ℕ) → begins is_bare_byte z ≡ true →
     begins p z ≡ false
 off_bare p off [] e = refl
-off_bare p off (b ∷ z) e = off.bare b e
+off_bare p off (b ∷ z) e = off b (bare_in_front b e)
 
 -- a target and what stands behind it begin with no such byte
 off_target : (p : ℕ → Bool) → Off p → {written rest : List ℕ} {t : TargetParts} →
@@ -203,8 +182,8 @@ off_target : (p : ℕ → Bool) → Off p → {written rest : List ℕ} {t : Tar
 off_target p off (anything {rest = rest}) e = off_end p off (without_leading_blanks rest) e
 off_target p off (bare {x = x} {rest = rest} {cs = cs} h) e =
     off_bare p off (without_leading_blanks (x ++ rest)) (bounds_begin x rest cs h)
-off_target p off (parenthesized x h) e = off.closed
-off_target p off (at_url space written blank h ends) e = off.url
+off_target p off (parenthesized x h) e = off 40 refl
+off_target p off (at_url space written blank h ends) e = off 64 refl
 
 -- white space behind a marker says nothing
 marker_behind : (x space : List ℕ) (m : MarkerParts) → IsMarker x m →
@@ -375,7 +354,7 @@ read_parts x r h =
     (off_target is_bracket brackets_off h.reads_target ends)
     (off_target is_name_byte names_off h.reads_target ends) in
     let off : begins is_name_byte u ≡ false =
-    begins_by is_name_byte names_off.blank u
+    begins_by is_name_byte (λ b e. names_off b (blank_in_front b e)) u
     (subst (λ t. begins is_name_byte t ≡ false) (sym (stripped_behind s.second v s.blank.1))
     after.off) in
     let whole = h.whole ∙ flat s.first h.name s.second h.extras s.third h.target s.fourth h.marker

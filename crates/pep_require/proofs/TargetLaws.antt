@@ -5,9 +5,8 @@ use Rattle.std.proofs.Common.{arith, ◌++◌, length, drop, refl, sym, ap, subs
 use Rattle.std.proofs.Common.{append_assoc}
 use Rattle.std.proofs.lemmas.Bool.Decides.{nat_tests}
 use Rattle.std.specs.Prelude.{nat_lt}
-use Rattle.std.proofs.Common.{take}
 use Rattle.std.proofs.lemmas.List.Folds.{length-prefix_len}
-use Rattle.std.specs.List.{list_all, prefix_len}
+use Rattle.std.specs.List.{list_all}
 use Rattle.specifiers.specs.Clause.{Clause}
 use Rattle.texts.specs.Runs.{begins, without_leading_blanks}
 use Rattle.texts.specs.Bytes.{is_blank_byte}
@@ -24,6 +23,7 @@ use Rattle.pep_require.proofs.BlankLemmas.{leading, leading_blank, leading_whole
 use Rattle.pep_require.proofs.BlankLemmas.{stripped_begins, stripped_behind, run_whole, run_ends}
 use Rattle.pep_require.proofs.BoundLaws.{bounds_read, bounds_found, bounds_begin, one_bounds}
 use Rattle.pep_require.proofs.BoundLaws.{refused_bounds, bounds_stripped}
+use Rattle.pep_require.proofs.FrontLemmas.{RunCut}
 use Rattle.url.specs.Parser.{parse_url, split_scheme}
 use Rattle.url.specs.Input.{trim_c0_control_and_space, strip_tabs_and_new_lines, split_once}
 use Rattle.url.specs.Scheme.{scheme_len}
@@ -284,23 +284,16 @@ refused_target known (bad_bare e h) (closed_target g) = cc e
 refused_target known (bad_bare {x = x} {f = f} e h) (bare_target {rest = rest} {cs = cs} a g) =
     refused_bounds false x rest cs f h g
 
--- ---- how the code cuts the URL: by a count of bytes behind the white space in front
+-- ---- where the code cuts it
 
-pub record UrlCut (x front back : List ℕ) : Type 0 where
-  pub run : front ≡ url_run (without_leading_blanks x)
-  pub left : back ≡ drop (length (url_run (without_leading_blanks x))) (without_leading_blanks x)
-
-pub url_cut : (x y bytes front back : List ℕ) (n : ℕ) → y ≡ without_leading_blanks x → bytes ≡ y →
-    n ≡ prefix_len (λ b. not (is_blank_byte b)) bytes → front ≡ take n y → back ≡ drop n y →
-    UrlCut x front back
-url_cut x y bytes front back n e same count f g =
-    let p : ℕ → Bool = λ b. not (is_blank_byte b) in
-    let z = without_leading_blanks x in
-    let places : n ≡ prefix_len p z = count ∙ ap (prefix_len p) (same ∙ e) in
+pub url_here : (x run behind : List ℕ) (u : UrlParts) →
+    RunCut (λ b. not (is_blank_byte b)) x run behind → ReadsUrl run u → UrlFrom x u behind
+url_here x run behind u cut is =
+    let y = without_leading_blanks x in
+    let long = length-prefix_len (λ b. not (is_blank_byte b)) y in
     record {
-      run = f ∙ ap (take n) e ∙ ap (λ k. take k z) places;
-      left = g ∙ ap (drop n) e
-          ∙ ap (λ k. drop k z) (places ∙ sym (length-prefix_len p z));
+      url = subst (λ w. ReadsUrl w u) cut.front is;
+      left = cut.left ∙ ap (λ n. drop n y) (sym long);
     }
 
 -- what begins with none of the three begins with no target
