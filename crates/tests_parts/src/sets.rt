@@ -2,7 +2,7 @@
 
 use crate::lines::{expect, expect_line, expect_row};
 use crate::ordered::ORDERED;
-use pep_clause::{Clause, ClauseFault, Range, VersionSet, laws};
+use pep_clause::{Clause, ClauseFault, Range, Turns, VersionSet, laws};
 use pep_version::{Key, Phase, Version, VersionFault};
 use std::alloc::Global;
 use std::process::Abort;
@@ -243,6 +243,12 @@ fn common_line(alloc: Global, clauses: &[&str]) -> Result<String, ClauseFault> {
     shown(alloc, &common(alloc, clauses)?)
 }
 
+// The sweep over the join and all versions, whose turns no one sees here.
+fn swept_line(alloc: Global, clauses: &[&str]) -> Result<String, ClauseFault> {
+    let (set, all) = (joined(alloc, clauses)?, VersionSet::all(alloc)?);
+    shown(alloc, &set.swept(alloc, &all, &mut Turns::none())?)
+}
+
 fn copied_line(alloc: Global, clauses: &[&str]) -> Result<String, ClauseFault> {
     shown(alloc, &joined(alloc, clauses)?.copied(alloc)?)
 }
@@ -254,6 +260,8 @@ fn joins(rt: HostRuntime) -> Result<(), Fail> {
         expect_row(&rt, "joined", line.as_str(), want);
         let line = kept_line(rt.alloc(), clauses)?;
         expect_row(&rt, "in place", line.as_str(), want);
+        let line = swept_line(rt.alloc(), clauses)?;
+        expect_row(&rt, "swept with all versions", line.as_str(), want);
     }
     Ok(())
 }
