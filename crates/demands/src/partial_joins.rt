@@ -1,5 +1,6 @@
-//! The versions of a package as partial joins: sets of which the join counts, each with more than twice as many ranges as the next.
-//! So what comes for one package, one by one, is joined at a cost that is no square of it.
+//! The versions of a package as partial joins: sets of which the join counts, each with more than
+//! twice as many ranges as the next. So what comes for one package, one by one, is joined at a cost
+//! that is no square of it.
 
 ghost use Rattle.std.specs.Prelude.{◌≡◌, ◌<◌, IfErr, IfOk, IsTrue, OnOk, length};
 ghost use Rattle.pep_clause.specs.VersionSet.{IsNormal, all_versions};
@@ -36,20 +37,32 @@ fn common(alloc: Global, kept: VersionSet, others: VersionSet) -> Result<Version
     }
 }
 
-// Whether the last set is to be joined with this one: it has few ranges, or at most twice as many.
-fn goes_with(sets: &[VersionSet], sum: &VersionSet) -> bool
+// Keeps the versions of the set that are in the other too.
+fn keep_common(alloc: Global, kept: &mut VersionSet, others: &VersionSet) -> Result<(), TableFault>
+    ensures ok { OnOk result (IsIntersection kept.old others.now kept.new) }
+    ensures faults { IfErr result (λ e. e ≡ TableFault.NoMemory) }
+{
+    match kept.join(alloc, others) {
+        Ok(()) => Ok(()),
+        Err(_) => Err(TableFault::NoMemory),
+    }
+}
+
+// Whether the last set is to be joined with this one: it has few ranges, or at most twice as many
+// and one.
+fn goes_with(sets: &[VersionSet], others: &VersionSet) -> bool
     ensures { IsTrue result → 0 < length sets.now }
 {
     match sets {
         [.., last] => {
             let ranges = last.ranges().len();
-            ranges <= FEW || ranges / 2 <= sum.ranges().len()
+            ranges <= FEW || ranges / 2 <= others.ranges().len()
         }
         [] => false,
     }
 }
 
-/// Keeps the versions that are in this set too.
+/// Keeps the versions that are in the other set too, which is used up.
 pub(crate) fn narrow(
     alloc: Global,
     sets: &mut Vec<VersionSet>,
@@ -63,17 +76,19 @@ pub(crate) fn narrow(
 {
     // Its clause tells that the ranges are a normal list.
     let _ = others.ranges();
-    let mut sum = others;
-    'sets: while goes_with(sets.as_slice(), &sum) {
+    let mut narrowed = others;
+    'sets: while goes_with(sets.as_slice(), &narrowed) {
         if let Some(next) = sets.pop() {
-            sum = common(alloc, next, sum)?;
+            narrowed = common(alloc, next, narrowed)?;
         }
     }
-    sets.push(sum)?;
+    // Most packages keep one set.
+    sets.reserve_exact(1)?;
+    sets.push(narrowed)?;
     Ok(())
 }
 
-/// The same with a set that is lent.
+/// The same with a set that is lent, and copied only where it stays beside the others.
 pub(crate) fn narrow_by(
     alloc: Global,
     sets: &mut Vec<VersionSet>,
@@ -85,6 +100,12 @@ pub(crate) fn narrow_by(
     ensures normal { AreNormal sets.new.items }
     ensures faults { IfErr result (λ e. e ≡ TableFault.NoMemory) }
 {
+    if goes_with(sets.as_slice(), others) {
+        if let Some(mut next) = sets.pop() {
+            keep_common(alloc, &mut next, others)?;
+            return narrow(alloc, sets, next);
+        }
+    }
     narrow(alloc, sets, versions_copied(alloc, others)?)
 }
 

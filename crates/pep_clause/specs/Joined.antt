@@ -1,7 +1,6 @@
--- THE CODE'S WAY, and no definition of what two sets have in common: each range of the one list
--- with each of the other.
-use Rattle.std.specs.Prelude.{◌≡◌, ◌⊎◌, ◌+◌, ◌-◌, ◌≤◌, ◌&&◌, Bool, false, List, [], ◌∷◌, ◌++◌}
-use Rattle.std.specs.Prelude.{if◌then◌else◌, length}
+-- THE CODE'S WAY, and no definition of what two sets have in common: range by range. The code finds
+-- it by one sweep.
+use Rattle.std.specs.Prelude.{◌&&◌, Bool, false, List, [], ◌∷◌, ◌++◌, if◌then◌else◌}
 use Rattle.std.specs.List.{list_all}
 use Rattle.std.specs.Ordering.{is_ge, is_lt}
 use Rattle.std.specs.declared.cmp.Ordering.{Ordering}
@@ -29,11 +28,6 @@ row_joined r (s ∷ rest) = range_joined r s ++ row_joined r rest
 abbrev pub joined : List Range → List Range → List Range
 joined [] others = []
 joined (r ∷ rest) others = row_joined r others ++ joined rest others
-
--- at most one range fewer than both lists have together, and none where one of them has none
-pub record HasFewRanges (ranges others found : List Range) : Type 0 where
-  pub most : length found ≤ length ranges + length others - 1
-  pub none : (ranges ≡ []) ⊎ (others ≡ []) → found ≡ []
 
 -- the range begins and ends inside the other
 abbrev pub is_within : Range → Range → Bool

@@ -33,11 +33,11 @@ ghost use Rattle.specifiers.specs.Clause.{matching_prefix, prefix_of};
 ghost use Rattle.specifiers.specs.ClauseView.{IsStored, clause_of};
 ghost use Rattle.pep_clause.specs.Cut.{Cut, IsCut, cut_cmp};
 ghost use Rattle.pep_clause.specs.Inhabited.{HasVersionUnlessEmpty};
-ghost use Rattle.pep_clause.specs.Joined.{HasFewRanges, all_within, are_within, joined};
+ghost use Rattle.pep_clause.specs.Joined.{all_within, are_within, joined};
 ghost use Rattle.pep_clause.specs.OperatorTable.{outside, range, set_of};
 ghost use Rattle.pep_clause.specs.SetEquality.{SameVersions, same_ranges, same_ranges-equiv};
 ghost use Rattle.pep_clause.specs.VersionSet.{In, IsIncreasing, IsNormal, all_versions, cuts, is_in};
-ghost use Rattle.pep_clause.specs.VersionSet.{is_point};
+ghost use Rattle.pep_clause.specs.VersionSet.{HasFewRanges, is_point};
 
 use crate::cut::Cut;
 use crate::range::Range;
@@ -360,7 +360,7 @@ impl VersionSet {
         ensures inhabited { IfOk result (λ s. HasVersionUnlessEmpty s) }
         ensures turns { turns.new.passed
             ≤ turns.old.passed + (length self.now + length other.now) }
-        ensures counted { turns.old.passed ≤ turns.new.passed }
+        ensures no_fewer { turns.old.passed ≤ turns.new.passed }
         ensures faults { IfErr result (λ e. e ≡ ClauseFault.NoMemory) }
     {
         let (ranges, others) = (self.ranges.as_slice(), other.ranges.as_slice());

@@ -26,8 +26,8 @@ fn push_common(
     Ok(())
 }
 
-/// What two lists have in common. Each turn passes a range of one of them: that which ends first has
-/// nothing more in common with the other list.
+/// What two lists have in common. Each turn passes a range of one of them: one that doesn't end behind
+/// the first of the other list has nothing more in common with that list.
 pub(crate) fn swept_ranges(
     alloc: Global,
     ranges: &[Range],
@@ -38,7 +38,7 @@ pub(crate) fn swept_ranges(
     requires others { IsNormal others.now }
     ensures ok { IfOk result (λ done. done.items ≡ joined ranges.now others.now) }
     ensures turns { turns.new.passed ≤ turns.old.passed + (length ranges.now + length others.now) }
-    ensures counted { turns.old.passed ≤ turns.new.passed }
+    ensures no_fewer { turns.old.passed ≤ turns.new.passed }
     ensures faults { IfErr result (λ e. e ≡ ClauseFault.NoMemory) }
 {
     // Between two ranges in common one of the lists goes on to its next.

@@ -215,7 +215,11 @@ fn common(alloc: Global, clauses: &[&str]) -> Result<VersionSet, ClauseFault> {
 }
 
 // Clauses, and the ranges of their set.
-const JOINED: [(&[&str], &str); 10] = [
+const JOINED: [(&[&str], &str); 11] = [
+    (
+        &["!=1.0"],
+        "[before 0.dev0 to before 1][before 1.post0.dev0 to end]",
+    ),
     (&["<0"], "none"),
     (&[">=1"], "[before 1 to end]"),
     (&[">=1", ">=0.5"], "[before 1 to end]"),

@@ -1,3 +1,4 @@
+use Rattle.std.proofs.Common.{[], ◌∷◌, ◌++◌, ◌∙◌, ap}
 use Rattle.pep_clause.specs.Joined.{joined}
 use Rattle.demands.specs.PartialJoins.{joined_sets}
 use Rattle.demands.proofs.PartialJoins.{joined_behind, joins_more, joins_next}
@@ -10,10 +11,11 @@ sets-init c =
 pub sets-preserved-in-Some : goal.sets-preserved-in-Some
 sets-preserved-in-Some c =
     joins_next (joined (joined_sets c.args.sets.now.items) c.args.others) c.sets.sets.items
-    c.pop.new.self.items c.in-Some.next c.sets.sum c.in_ok-sum.sum c.in-Some.ensures.items
-    c.sets.invariant c.in_ok-sum.ensures.ok
+    c.pop.new.self.items c.in-Some.next c.sets.narrowed c.in_ok-narrowed.narrowed c.in-Some.ensures.items
+    c.sets.invariant c.in_ok-narrowed.ensures.ok
 
 pub returns-clause-ok : goal.returns-clause-ok
 returns-clause-ok c =
     joined_behind c.args.sets.now.items c.sets.sets.items c.push.new.self.items c.args.others
-    c.sets.sum c.in_ok-push.ensures.items c.sets.invariant
+    c.sets.narrowed (c.in_ok-push.ensures.items
+    ∙ ap (λ x. x ++ c.sets.narrowed ∷ []) c.reserve_exact.ensures.items) c.sets.invariant
