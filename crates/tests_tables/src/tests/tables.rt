@@ -1,6 +1,6 @@
 //! Tables of requirements: their texts, verdicts and answers, and what joining them gives.
 
-use crate::lines::{expect_line, expect_row, expect_same};
+use crate::tests::lines::{expect_line, expect_row, expect_same};
 use pep_clause::VersionSet;
 use pep_marker::{Environment, Name};
 use pep_require::Requirement;

@@ -1,7 +1,7 @@
 //! Environments of markers: which pairs make one, what is wrong with others, and the normal form of
 //! texts beside `extra`.
 
-use crate::lines::{expect, expect_row, expect_same};
+use crate::tests::lines::{expect, expect_row, expect_same};
 use pep_marker::{Environment, MarkerFault, Variable, norm_of};
 use std::alloc::{AllocError, Global};
 use std::process::Abort;

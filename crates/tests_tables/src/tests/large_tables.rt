@@ -1,7 +1,7 @@
 //! Tables that are larger than a body that gives up early would take.
 
-use crate::lines::{expect_line, expect_same};
-use crate::tables::{
+use crate::tests::lines::{expect_line, expect_same};
+use crate::tests::tables::{
     answer, entry, gathered, machine, name, requirement, table, table_of, verdict,
 };
 use pep_clause::ClauseFault;

@@ -1,7 +1,7 @@
 //! Sets of clauses: their cuts, with carries at the largest number, and which versions they hold.
 
-use crate::lines::{expect, expect_line, expect_row};
-use crate::ordered::ORDERED;
+use crate::tests::lines::{expect, expect_line, expect_row};
+use crate::tests::ordered::ORDERED;
 use pep_clause::{Clause, ClauseFault, Range, VersionSet, laws};
 use pep_version::{Key, Phase, Version, VersionFault};
 use std::alloc::Global;

@@ -1,6 +1,6 @@
 //! Versions, names and sets that are larger than a body that gives up early would take.
 
-use crate::sets::shown;
+use crate::tests::sets::shown;
 use pep_clause::{Clause, ClauseFault, VersionSet};
 use pep_marker::{MarkerFault, Name};
 use pep_version::{Key, Version, VersionFault};

@@ -1,7 +1,7 @@
 //! Cuts in their order.
 
-use crate::lines::{expect, expect_line, expect_row};
-use crate::packed::{compare_cuts, cut_at, cut_has_copy};
+use crate::tests::lines::{expect, expect_line, expect_row};
+use crate::tests::packed::{compare_cuts, cut_at, cut_has_copy};
 use pep_clause::{Clause, ClauseFault, Cut, Range, VersionSet};
 use pep_version::Version;
 use std::alloc::Global;

@@ -1,7 +1,7 @@
 //! Tables that are read from their texts.
 
-use crate::lines::{expect, expect_line, expect_same};
-use crate::tables::{requirement, table, table_of};
+use crate::tests::lines::{expect, expect_line, expect_same};
+use crate::tests::tables::{requirement, table, table_of};
 use pep_require::Requirement;
 use pep_table::{Join, Table, TableFault};
 use std::alloc::{AllocError, Global};

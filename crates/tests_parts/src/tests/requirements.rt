@@ -1,6 +1,6 @@
 //! Requirement lines by PEP 508: what they are read as, their texts, and what is wrong with others.
 
-use crate::lines::{expect, expect_line, expect_row, expect_same};
+use crate::tests::lines::{expect, expect_line, expect_row, expect_same};
 use pep_clause::ClauseFault;
 use pep_marker::{Environment, MarkerFault};
 use pep_require::{RequireFault, Requirement, Target, UrlText, laws};

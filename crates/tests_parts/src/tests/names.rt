@@ -1,6 +1,6 @@
 //! Names of packages, and the runs of bytes that they are found by.
 
-use crate::lines::{expect, expect_line, expect_same};
+use crate::tests::lines::{expect, expect_line, expect_same};
 use pep_marker::{MarkerFault, Name};
 use std::alloc::Global;
 use std::cmp::Ordering;

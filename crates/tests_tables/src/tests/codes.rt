@@ -1,6 +1,6 @@
 //! Codes of the faults of tables, and their texts.
 
-use crate::lines::expect_line;
+use crate::tests::lines::expect_line;
 use pep_table::TableFault;
 use std::alloc::{AllocError, Global};
 use std::test::Fail;

@@ -1,6 +1,6 @@
 //! Clauses: what is read and what is refused, how they are written, and which versions they admit.
 
-use crate::lines::{expect, expect_row, expect_same};
+use crate::tests::lines::{expect, expect_row, expect_same};
 use pep_clause::{Clause, ClauseFault, Op, laws};
 use pep_version::Version;
 use std::alloc::Global;

@@ -1,6 +1,6 @@
 //! Markers: which texts are read, how they are written, and what they say in an environment.
 
-use crate::lines::expect_row;
+use crate::tests::lines::expect_row;
 use pep_marker::{Environment, Marker, MarkerFault};
 use std::alloc::{AllocError, Global};
 use std::process::Abort;
@@ -339,16 +339,14 @@ fn open_parentheses(rt: HostRuntime) -> Result<(), Fail> {
 // What stands in front, what is repeated and how often, what stands behind, and whether all is a marker.
 type Long<'a> = (&'a str, &'a str, usize, &'a str, &'a str);
 
-const DEEP: [Long; 8] = [
+const DEEP: [Long; 3] = [
     ("", "('a'=='a') or ", 65, "'a'=='a'", "read"),
     ("", "(", 64, "+", "refused 26"),
     ("", "(", 65, "+", "refused 27"),
-    ("+", "(", 65, "+", "refused 26"),
-    ("and ", "(", 65, "+", "refused 26"),
-    ("'a' ", "(", 65, "+", "refused 26"),
-    ("'a'=='a' ", "(", 65, "+", "refused 26"),
-    ("(or ", "(", 65, "+", "refused 26"),
 ];
+
+// What begins no marker, however deep the parentheses behind it.
+const NO_MARKERS: [&str; 5] = ["+", "and ", "'a' ", "'a'=='a' ", "(or "];
 
 const COMPARISONS: [Long; 20] = [
     ("", "'a'=='a' or ", 1023, "'a'=='a'", "read"),
@@ -373,11 +371,17 @@ const COMPARISONS: [Long; 20] = [
     (") ", "'a'=='a' or ", 1024, "'a'=='a'", "refused 26"),
 ];
 
+fn expect_reading(rt: &(impl Abort + AllocGlobal), row: Long) -> Result<(), AllocError> {
+    let (front, part, count, behind, want) = row;
+    let text = repeated(rt.alloc(), front, part, count, behind)?;
+    let line = reading_line(rt.alloc(), text.as_str())?;
+    expect_row(rt, front, line.as_str(), want);
+    Ok(())
+}
+
 fn expect_readings(rt: &(impl Abort + AllocGlobal), rows: &[Long]) -> Result<(), AllocError> {
-    for &(front, part, count, behind, want) in rows {
-        let text = repeated(rt.alloc(), front, part, count, behind)?;
-        let line = reading_line(rt.alloc(), text.as_str())?;
-        expect_row(rt, front, line.as_str(), want);
+    for row in rows {
+        expect_reading(rt, *row)?;
     }
     Ok(())
 }
@@ -386,6 +390,9 @@ fn expect_readings(rt: &(impl Abort + AllocGlobal), rows: &[Long]) -> Result<(),
 fn long_and_deep_texts(rt: HostRuntime) -> Result<(), Fail> {
     expect_readings(&rt, &DEEP)?;
     expect_readings(&rt, &COMPARISONS)?;
+    for front in &NO_MARKERS {
+        expect_reading(&rt, (*front, "(", 65, "+", "refused 26"))?;
+    }
     Ok(())
 }
 

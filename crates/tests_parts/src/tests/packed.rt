@@ -1,7 +1,7 @@
 //! The bytes of keys and of cuts.
 
-use crate::lines::{expect, expect_line, expect_row};
-use crate::ordered::ORDERED;
+use crate::tests::lines::{expect, expect_line, expect_row};
+use crate::tests::ordered::ORDERED;
 use pep_clause::{ClauseFault, Cut, Range, VersionSet};
 use pep_version::{Key, Version, VersionFault};
 use std::alloc::{AllocError, Global};

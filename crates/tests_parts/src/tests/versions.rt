@@ -1,6 +1,6 @@
 //! Versions by PEP 440: what texts are read as, their normal texts, and their parts.
 
-use crate::lines::{expect, expect_line, expect_row, expect_same};
+use crate::tests::lines::{expect, expect_line, expect_row, expect_same};
 use pep_version::{Key, Label, Phase, Version, VersionFault, laws};
 use std::alloc::{AllocError, Global};
 use std::hash::{DefaultHasher, Hash, Hasher};

@@ -1,6 +1,6 @@
 //! Codes of faults, their texts, and the faults that are made of others.
 
-use crate::lines::{expect_line, expect_same};
+use crate::tests::lines::{expect_line, expect_same};
 use pep_clause::ClauseFault;
 use pep_marker::{MarkerFault, Variable};
 use pep_require::RequireFault;
