@@ -21,8 +21,7 @@ pub(crate) const NEVER: u64 = u64::MAX;
 #[derive(Drop)]
 pub(crate) struct Reader<'a> {
     name: &'a str,
-    rest: &'a [u8],
-    calls: u64,
+    bytes: Bytes<'a>,
     failed: bool,
     fails_at: u64,
 }
@@ -30,22 +29,21 @@ pub(crate) struct Reader<'a> {
 impl<'a> Reader<'a> {
     ghost use Rattle.std.specs.Prelude.{◌≡◌, false};
 
-    fn new(rest: &'a [u8], fails_at: u64) -> Self
-        ensures calls { result.calls ≡ 0 }
+    fn new(bytes: &'a [u8], fails_at: u64) -> Self
+        ensures calls { result.bytes.calls ≡ 0 }
         ensures failed { result.failed ≡ false }
     {
-        Reader::named("", rest, fails_at)
+        Reader::named("", bytes, fails_at)
     }
 
-    pub(crate) fn named(name: &'a str, rest: &'a [u8], fails_at: u64) -> Self
+    pub(crate) fn named(name: &'a str, bytes: &'a [u8], fails_at: u64) -> Self
         ensures name { result.name.now ≡ name.now }
-        ensures calls { result.calls ≡ 0 }
+        ensures calls { result.bytes.calls ≡ 0 }
         ensures failed { result.failed ≡ false }
     {
         Reader {
             name,
-            rest,
-            calls: 0,
+            bytes: Bytes::new(bytes),
             failed: false,
             fails_at,
         }
@@ -56,26 +54,23 @@ impl Source for Reader<'_> {
     ghost use Rattle.std.specs.Prelude.{Some};
 
     ghost device = { λ s. record {
-      calls = s.calls;
+      calls = s.bytes.calls;
       failed = s.failed;
       identity = Some s.name.now;
     } };
 
     fn pull(&mut self, buf: &mut [u8]) -> Result<usize, Failed> {
-        self.calls += 1;
-        if self.calls == self.fails_at {
+        let room = buf.len().min(PIECE);
+        let pulled = self.bytes.pull(&mut buf[..room]);
+        if self.bytes.calls() == self.fails_at {
             self.failed = true;
             return Err(Failed);
         }
-        let count = self.rest.len().min(buf.len()).min(PIECE);
-        let (front, rest) = self.rest.split_at(count);
-        buf[..count].copy_from_slice(front);
-        self.rest = rest;
-        Ok(count)
+        pulled
     }
 
     fn calls(&self) -> u64 {
-        self.calls
+        self.bytes.calls()
     }
 
     fn failed(&self) -> bool {
@@ -204,7 +199,7 @@ fn devices_line(
     output: &Writer,
     faults: &Writer,
 ) -> Result<String, AllocError> {
-    let (reads, writes) = (input.calls, output.calls);
+    let (reads, writes) = (input.calls(), output.calls);
     let (read, written) = (mark(input.failed), mark(output.failed));
     let (printed, told) = (text(output.bytes.as_slice()), text(faults.bytes.as_slice()));
     format!(in alloc; "{reads}{read} {writes}{written} [{printed}] [{told}]")
