@@ -1,6 +1,6 @@
 -- Lists, and whether they are empty.
 use Rattle.std.proofs.Common.{◌≡◌, ℕ, ◌-◌, ◌+◌, ◌≤◌, ◌==◌, List, [], ◌∷◌, ◌++◌, length, take}
-use Rattle.std.proofs.Common.{get_or, refl, sym, ◌∙◌, arith}
+use Rattle.std.proofs.Common.{drop, get_or, length-drop, refl, sym, ◌∙◌, arith}
 use Rattle.std.proofs.lemmas.List.{take_all, take_more}
 use Rattle.texts.specs.Lists.{is_empty}
 
@@ -18,3 +18,7 @@ last-shape xs some =
     let more : take (length xs - 1 + 1) xs ≡ take (length xs - 1) xs
     ++ get_or xs (length xs - 1) 0 ∷ [] = take_more xs (length xs - 1) 0 (omega arith) in
     sym whole ∙ rw i at more
+
+-- a slice that goes to the end is what stands behind its beginning
+pub to-end : (xs : List ℕ) (i : ℕ) → take (length xs - i) (drop i xs) ≡ drop i xs
+to-end xs i = take_all (length xs - i) (drop i xs) (omega (arith, length-drop i xs))
