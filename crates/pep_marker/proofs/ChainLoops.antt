@@ -1,8 +1,7 @@
 -- What the loops over chains keep.
-use Rattle.std.proofs.Common.{◌≡◌, ℕ, ◌+◌, ◌-◌, ◌<◌, suc, true, false, List, ◌∷◌}
-use Rattle.std.proofs.Common.{sym, ap, refl, subst, ◌∙◌, add-one, arith}
+use Rattle.std.proofs.Common.{◌≡◌, ℕ, ◌+◌, ◌<◌, suc, true, false, List, ◌∷◌}
+use Rattle.std.proofs.Common.{sym, ap, refl, subst, add-one, arith}
 use Rattle.std.proofs.Common.{inl, inr, length, map}
-use Rattle.std.specs.Prelude.{Result, Ok, Err, IfOk}
 use Rattle.std.proofs.lemmas.List.{length-map}
 use Rattle.pep_marker.specs.Token.{token_of}
 use Rattle.pep_marker.specs.declared.fault.MarkerFault.{MarkerFault}
@@ -13,9 +12,11 @@ use Rattle.pep_marker.specs.Chains.{ItemFrom, comparison_from, parentheses_from,
 use Rattle.pep_marker.specs.Chains.{ChainFrom, parts_from, RestFrom}
 use Rattle.pep_marker.specs.Chains.{rest_end, rest_more, ends, ends_or, part_ends, joined}
 use Rattle.pep_marker.specs.Chains.{link_word, NoItem, NoPart, NoChain}
-use Rattle.pep_marker.specs.Chains.{is_closed, Refuses}
+use Rattle.pep_marker.specs.Chains.{is_closed, Refuses, item_part, chain_part, part_of}
+use Rattle.pep_marker.specs.Chains.{LevelFrom, NoLevel, level_ends}
+use Rattle.pep_marker.specs.declared.chains.Level.{Level}
 use Rattle.pep_marker.specs.declared.chains.Link.{Link}
-use Rattle.pep_marker.specs.declared.chains.Link.TheVariants.{Or}
+use Rattle.pep_marker.specs.declared.chains.Link.TheVariants.{And, Or}
 use Rattle.pep_marker.proofs.ChainLaws.{same_part, same_chain, moved, more, goes_on, behind_one}
 use Rattle.pep_marker.proofs.ChainLaws.{part_ends-rest, comparisons-joined}
 
@@ -61,10 +62,10 @@ pub no_first : (l : Link) (d room : ℕ) (ts : List Token) → NoPart l d room t
 no_first l d room ts none m rest (parts_from {us = us} {n = n} i c) e =
     omega (arith, none n us i (part_ends-rest c e), more c)
 
-no_next : (l : Link) (d room : ℕ) (ts : List Token) (m : MarkerParts) (behind : List Token) →
-    SoFar l d ts m (link_word l ∷ behind) → NoPart l d (room - comparisons m) behind →
+no_next : (l : Link) (d room left : ℕ) (ts : List Token) (m : MarkerParts) (behind : List Token) →
+    left + comparisons m ≡ room → SoFar l d ts m (link_word l ∷ behind) → NoPart l d left behind →
     NoChain l d room ts
-no_next l d room ts m behind so none k r c e =
+no_next l d room left ts m behind has so none k r c e =
     step k r (link_word l ∷ behind) refl (so.goes_on k r c e) e
   where
     step : (k : MarkerParts) (r vs : List Token) → vs ≡ link_word l ∷ behind →
@@ -72,18 +73,34 @@ no_next l d room ts m behind so none k r c e =
     step k r vs e rest_end f = goes_on l behind vs e f
     step k r vs e (rest_more {us = us} {n = n} h i c) f =
         let few = none n us (behind_one e h i) (part_ends-rest c f) in
-        omega (arith, few, more c, comparisons-joined l m n)
+        omega (arith, has, few, more c, comparisons-joined l m n)
 
--- ---- the parts
+-- ---- levels
 
--- what is read as a part of one link's chain is that of an equal one's
-pub part_read : {F E : Type 0} (r : Result F E) (P : F → Type 0) (w l : Link) (d : ℕ)
-    (ts : List Token) (tree : F → MarkerParts) (rest : F → List Token) → l ≡ w →
-    ((f : F) → P f → PartFrom w d ts (tree f) (rest f)) → IfOk r P →
-    IfOk r (λ f. PartFrom l d ts (tree f) (rest f))
-part_read (Ok f) P w l d ts tree rest is part h =
-    subst (λ x. PartFrom x d ts (tree f) (rest f)) (sym is) (part f h)
-part_read (Err e) P w l d ts tree rest is part h = tt
+-- what stands where a part of a chain is read
+pub part_from : (l : Link) (v : Level) {d : ℕ} {ts rest : List Token} {m : MarkerParts} →
+    v ≡ part_of l → LevelFrom v d ts m rest → PartFrom l d ts m rest
+part_from l v {d} {ts} {rest} {m} is i = by l (subst (λ x. LevelFrom x d ts m rest) is i)
+  where
+    by : (l : Link) → LevelFrom (part_of l) d ts m rest → PartFrom l d ts m rest
+    by And i = item_part i
+    by Or c = chain_part c
+
+pub part_over : (l : Link) (v : Level) (rest : List Token) → v ≡ part_of l →
+    level_ends v rest ≡ true → part_ends l rest ≡ true
+part_over l v rest is e = by l (subst (λ x. level_ends x rest ≡ true) is e)
+  where
+    by : (l : Link) → level_ends (part_of l) rest ≡ true → part_ends l rest ≡ true
+    by And e = e
+    by Or e = e
+
+pub no_part : (l : Link) (v : Level) (d room : ℕ) (ts : List Token) → v ≡ part_of l →
+    NoLevel v d room ts → NoPart l d room ts
+no_part l v d room ts is none = by l (subst (λ x. NoLevel x d room ts) is none)
+  where
+    by : (l : Link) → NoLevel (part_of l) d room ts → NoPart l d room ts
+    by And none m rest (item_part i) e = none m rest i e
+    by Or none m rest (chain_part c) e = none m rest c e
 
 -- ---- in parentheses
 
@@ -110,11 +127,11 @@ not_closed d room ts us m c e other n rest i =
 
 -- ---- a comparison
 
-pub comparison_here : (l r : Operand) (o : Operator) (ts us rest : List Token) (m : MarkerParts) →
-    ts ≡ operator o ∷ us → us ≡ operand r ∷ rest → m ≡ compare l o r →
+pub comparison_here : (l r : Operand) (o : Operator) (ts rest : List Token) (m : MarkerParts) →
+    ts ≡ operator o ∷ operand r ∷ rest → m ≡ compare l o r →
     (d : ℕ) → ItemFrom d (operand l ∷ ts) m rest
-comparison_here l r o ts us rest m e f g d =
-    subst (λ x. ItemFrom d (operand l ∷ x) m rest) (sym (e ∙ ap (λ x. operator o ∷ x) f))
+comparison_here l r o ts rest m e g d =
+    subst (λ x. ItemFrom d (operand l ∷ x) m rest) (sym e)
     (subst (λ x. ItemFrom d (operand l ∷ operator o ∷ operand r ∷ rest) x rest) (sym g)
     comparison_from)
 
@@ -124,12 +141,11 @@ pub refuses_by : (P Q : Type 0) (e : MarkerFault) → (P → Q) → Refuses P e 
 refuses_by P Q e f (inl h) = inl h
 refuses_by P Q e f (inr (h, p)) = inr (h, f p)
 
-pub chain_refused : (l : Link) (d room count : ℕ) (ts : List Token) (m : MarkerParts)
-    (rest behind : List Token) → count ≡ comparisons m → SoFar l d ts m rest →
-    rest ≡ link_word l ∷ behind → NoPart l d (room - count) behind → NoChain l d room ts
-chain_refused l d room count ts m rest behind f so e none =
-    no_next l d room ts m behind (subst (λ x. SoFar l d ts m x) e so)
-    (subst (λ n. NoPart l d (room - n) behind) f none)
+pub chain_refused : (l : Link) (d room left : ℕ) (ts : List Token) (m : MarkerParts)
+    (rest behind : List Token) → left + comparisons m ≡ room → SoFar l d ts m rest →
+    rest ≡ link_word l ∷ behind → NoPart l d left behind → NoChain l d room ts
+chain_refused l d room left ts m rest behind has so e none =
+    no_next l d room left ts m behind has (subst (λ x. SoFar l d ts m x) e so) none
 
 pub chain_step : (l : Link) (d : ℕ) (ts : List Token) (m n k : MarkerParts)
     (rest behind after : List Token) → SoFar l d ts m rest → rest ≡ link_word l ∷ behind →
@@ -139,10 +155,10 @@ chain_step l d ts m n k rest behind after so e i over f =
     subst (λ x. SoFar l d ts x after) (sym f)
     (next_so l d ts m n behind after (subst (λ x. SoFar l d ts m x) e so) i over)
 
--- the count of comparisons goes along
-pub counted : (l : Link) (a b : ℕ) (m n k : MarkerParts) → a ≡ comparisons m →
-    b ≡ comparisons n → k ≡ joined l m n → a + b ≡ comparisons k
-counted l a b m n k e f g = rw (g, comparisons-joined l m n, e, f) refl
+-- the room for comparisons goes along
+pub room_left : (l : Link) (room left less : ℕ) (m n k : MarkerParts) → left + comparisons m ≡ room →
+    less + comparisons n ≡ left → k ≡ joined l m n → less + comparisons k ≡ room
+room_left l room left less m n k e f g = rw (g, comparisons-joined l m n) (omega (arith, e, f))
 
 -- fewer tokens are left
 pub left_shorter : (xs ys zs : List cut.Token) (t : Token) → map token_of xs ≡ t ∷ map token_of ys →

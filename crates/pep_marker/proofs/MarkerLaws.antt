@@ -1,5 +1,5 @@
 -- A text is one marker, by the law of its tokens and that of chains.
-use Rattle.std.proofs.Common.{◌≡◌, ℕ, ◌≤◌, ◌<◌, Bool, true, false, List, [], ◌∷◌, ◌++◌, length}
+use Rattle.std.proofs.Common.{◌≡◌, ℕ, ◌+◌, ◌≤◌, ◌<◌, Bool, true, false, List, [], ◌∷◌, ◌++◌, length}
 use Rattle.std.proofs.Common.{sym, ap, subst, ◌∙◌, refl, append-nil, arith, map, ◌==◌}
 use Rattle.std.proofs.lemmas.Bool.Decides.{nat_tests}
 use Rattle.pep_marker.specs.Marker.{MarkerParts, comparisons, Token, HasTokens, IsOrChain}
@@ -97,9 +97,8 @@ none_left (u ∷ us) e = absurd (not_empty u us e)
     not_empty : (u : cut.Token) (us : List cut.Token) → ¬ ((length (u ∷ us) == 0) ≡ true)
     not_empty u us e = grind (arith, nat_tests)
 
-pub few_enough : (count : ℕ) (m : MarkerParts) → count ≡ comparisons m → count ≤ 1024 →
-    comparisons m ≤ 1024
-few_enough count m e few = omega (arith, e, few)
+pub few_enough : (left : ℕ) (m : MarkerParts) → left + comparisons m ≡ 1024 → comparisons m ≤ 1024
+few_enough left m e = omega (arith, e)
 
 -- ---- white space behind a marker says nothing
 

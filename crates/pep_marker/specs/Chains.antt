@@ -5,6 +5,8 @@ use Rattle.std.specs.Prelude.{Option, Some, None}
 use Rattle.pep_marker.specs.Marker.{Operand, Operator, MarkerParts, compare, and, or, comparisons}
 use Rattle.pep_marker.specs.Marker.{Token, open_parenthesis, close_parenthesis, and_word, or_word}
 use Rattle.pep_marker.specs.Marker.{operand, operator}
+use Rattle.pep_marker.specs.declared.chains.Level.{Level}
+use Rattle.pep_marker.specs.declared.chains.Level.TheVariants.{Item, Chain}
 use Rattle.pep_marker.specs.declared.chains.Link.{Link}
 use Rattle.pep_marker.specs.declared.chains.Link.TheVariants.{And, Or}
 use Rattle.pep_marker.specs.declared.fault.MarkerFault.{MarkerFault}
@@ -71,20 +73,30 @@ abbrev pub part_ends : Link → List Token → Bool
 part_ends And ts = true
 part_ends Or ts = ends_and ts
 
+-- what a link joins: a part of its chain
+abbrev pub part_of : Link → Level
+part_of And = Item
+part_of Or = Chain And
+
+-- an item, or a chain, at the front of the tokens, and the tokens behind it
+abbrev pub LevelFrom : Level → ℕ → List Token → MarkerParts → List Token → Type 0
+LevelFrom Item depth ts m rest = ItemFrom depth ts m rest
+LevelFrom (Chain link) depth ts m rest = ChainFrom link depth ts m rest
+
+-- it doesn't go on with these tokens
+abbrev pub level_ends : Level → List Token → Bool
+level_ends Item ts = true
+level_ends (Chain link) ts = ends link ts
+
 -- the tokens begin with `)`
 abbrev pub is_closed : List Token → Bool
 is_closed (close_parenthesis ∷ ts) = true
 is_closed ts = false
 
--- the operator at the front of the tokens
-abbrev pub first_operator : List Token → Option Operator
-first_operator (operator o ∷ ts) = Some o
-first_operator ts = None
-
--- the operand at the front of the tokens
-abbrev pub first_operand : List Token → Option Operand
-first_operand (operand o ∷ ts) = Some o
-first_operand ts = None
+-- the operator and the operand at the front of the tokens
+abbrev pub first_operation : List Token → Option (Operator × Operand)
+first_operation (operator o ∷ operand r ∷ ts) = Some (o, r)
+first_operation ts = None
 
 -- no item at the front has as few comparisons as there is room for
 abbrev pub NoItem : ℕ → ℕ → List Token → Type 0
@@ -100,6 +112,11 @@ NoPart link depth room ts = (m : MarkerParts) (rest : List Token) →
 abbrev pub NoChain : Link → ℕ → ℕ → List Token → Type 0
 NoChain link depth room ts = (m : MarkerParts) (rest : List Token) →
     ChainFrom link depth ts m rest → ends link rest ≡ true → room < comparisons m
+
+-- no item, or no chain, at the front, read to its end, has as few
+abbrev pub NoLevel : Level → ℕ → ℕ → List Token → Type 0
+NoLevel level depth room ts = (m : MarkerParts) (rest : List Token) →
+    LevelFrom level depth ts m rest → level_ends level rest ≡ true → room < comparisons m
 
 -- the refusal is want of memory, or one of the grammar, and then this holds
 abbrev pub Refuses : Type 0 → MarkerFault → Type 0

@@ -1,23 +1,22 @@
 // The chains of comparisons in the tokens of a marker (PEP 508, "Grammar"): `and` binds closer than
 // `or`, and both group to the left.
 
-ghost use Rattle.std.specs.Prelude.{◌≡◌, ℕ, ◌+◌, ◌≤◌, ◌∷◌, IfErr, IfNone, IfOk, IfSome, None};
+ghost use Rattle.std.specs.Prelude.{◌≡◌, ℕ, ◌+◌, ◌∷◌, IfErr, IfNone, IfOk, IfSome, None};
 ghost use Rattle.std.specs.Prelude.{false, map, true};
 ghost use Rattle.pep_marker.specs.Chains.{
-  ChainFrom,
   ItemFrom,
-  NoChain,
+  LevelFrom,
   NoItem,
-  NoPart,
-  PartFrom,
+  NoLevel,
   Refuses,
   ends,
-  first_operand,
-  first_operator,
+  first_operation,
   is_closed,
   joined,
+  level_ends,
   link_word,
   part_ends,
+  part_of,
 };
 ghost use Rattle.pep_marker.specs.Marker as syntax;
 ghost use Rattle.pep_marker.specs.Marker.{comparisons};
@@ -36,12 +35,30 @@ pub(crate) enum Link {
     Or,
 }
 
-// A marker at the front of some tokens, how many comparisons it has, and the tokens behind it.
+// What may stand at the front of some tokens: an item, or a chain of what the link joins.
+#[derive(Clone, Copy)]
+pub(crate) enum Level {
+    Item,
+    Chain(Link),
+}
+
+// What the link joins.
+fn part_of(link: Link) -> Level
+    ensures { result ≡ part_of link }
+{
+    match link {
+        Link::And => Level::Item,
+        Link::Or => Level::Chain(Link::And),
+    }
+}
+
+// A marker at the front of some tokens, the tokens behind it, and for how many comparisons more there
+// is room.
 #[derive(Drop)]
 pub(crate) struct Front<'t, 'a> {
     pub(crate) tree: Tree,
-    pub(crate) comparisons: usize,
     pub(crate) rest: &'t [Token<'a>],
+    pub(crate) room: usize,
 }
 
 fn operand(alloc: Global, side: Side) -> Result<Operand, AllocError>
@@ -53,32 +70,18 @@ fn operand(alloc: Global, side: Side) -> Result<Operand, AllocError>
     }
 }
 
-// The operator at the front of the tokens, and the tokens behind it.
-fn operator_at<'t, 'a>(tokens: &'t [Token<'a>]) -> Option<(Operator, &'t [Token<'a>])>
+// The operator and the operand at the front of the tokens, and the tokens behind them.
+fn operation_at<'t, 'a>(tokens: &'t [Token<'a>]) -> Option<(Operator, Side<'a>, &'t [Token<'a>])>
     ensures some { IfSome result (λ found. map token_of tokens.now
-        ≡ syntax.operator (operator_parts found.0) ∷ map token_of found.1.now) }
-    ensures none { IfNone result (first_operator (map token_of tokens.now) ≡ None) }
+        ≡ syntax.operator (operator_parts found.0) ∷ syntax.operand (operand_of found.1)
+        ∷ map token_of found.2.now) }
+    ensures none { IfNone result (first_operation (map token_of tokens.now) ≡ None) }
 {
-    let [first, behind @ ..] = tokens else {
+    let [operator, operand, behind @ ..] = tokens else {
         return None;
     };
-    match first.lexeme {
-        Lexeme::Operator(operator) => Some((operator, behind)),
-        _ => None,
-    }
-}
-
-// The operand at the front of the tokens, and the tokens behind it.
-fn operand_at<'t, 'a>(tokens: &'t [Token<'a>]) -> Option<(Side<'a>, &'t [Token<'a>])>
-    ensures some { IfSome result (λ found. map token_of tokens.now
-        ≡ syntax.operand (operand_of found.0) ∷ map token_of found.1.now) }
-    ensures none { IfNone result (first_operand (map token_of tokens.now) ≡ None) }
-{
-    let [first, behind @ ..] = tokens else {
-        return None;
-    };
-    match first.lexeme {
-        Lexeme::Operand(side) => Some((side, behind)),
+    match (operator.lexeme, operand.lexeme) {
+        (Lexeme::Operator(operator), Lexeme::Operand(side)) => Some((operator, side, behind)),
         _ => None,
     }
 }
@@ -102,15 +105,11 @@ fn comparison<'t, 'a>(
     ensures read { IfOk result (λ f. (depth : ℕ)
         → ItemFrom depth (syntax.operand (operand_of left.entry) ∷ map token_of behind.now)
         (tree_parts f.tree) (map token_of f.rest.now)) }
-    ensures count { IfOk result (λ f. f.comparisons ≡ comparisons (tree_parts f.tree)) }
-    ensures room { IfOk result (λ f. f.comparisons ≤ room) }
+    ensures room { IfOk result (λ f. f.room + comparisons (tree_parts f.tree) ≡ room) }
     ensures refused { IfErr result (Refuses ((depth : ℕ)
         → NoItem depth room (syntax.operand (operand_of left.entry) ∷ map token_of behind.now))) }
 {
-    let Some((operator, behind)) = operator_at(behind) else {
-        return Err(MarkerFault::BadMarker);
-    };
-    let Some((right, rest)) = operand_at(behind) else {
+    let Some((operator, right, rest)) = operation_at(behind) else {
         return Err(MarkerFault::BadMarker);
     };
     if room == 0 {
@@ -118,8 +117,8 @@ fn comparison<'t, 'a>(
     }
     Ok(Front {
         tree: compared(alloc, left, operator, right)?,
-        comparisons: 1,
         rest,
+        room: room - 1,
     })
 }
 
@@ -132,11 +131,9 @@ fn item_at<'t, 'a>(
     depth: usize,
     room: usize,
 ) -> Result<Front<'t, 'a>, MarkerFault>
-    requires { room ≤ 1024 }
     ensures read { IfOk result (λ f. ItemFrom depth (map token_of tokens.now) (tree_parts f.tree)
         (map token_of f.rest.now)) }
-    ensures count { IfOk result (λ f. f.comparisons ≡ comparisons (tree_parts f.tree)) }
-    ensures room { IfOk result (λ f. f.comparisons ≤ room) }
+    ensures room { IfOk result (λ f. f.room + comparisons (tree_parts f.tree) ≡ room) }
     ensures refused { IfErr result (Refuses (NoItem depth room (map token_of tokens.now))) }
 {
     let [first, behind @ ..] = tokens else {
@@ -145,81 +142,52 @@ fn item_at<'t, 'a>(
     match first.lexeme {
         Lexeme::Operand(left) => comparison(alloc, left, behind, room),
         Lexeme::Open if depth == 0 => Err(MarkerFault::TooDeep),
-        Lexeme::Open => in_parentheses(alloc, behind, depth - 1, room),
+        Lexeme::Open => closed(front_at(alloc, Level::Chain(Link::Or), behind, depth - 1, room)?),
         _ => Err(MarkerFault::BadMarker),
     }
 }
 
-// The or-chain behind a parenthesis that was opened, up to the one that closes it.
+// What stands at the front of the tokens, read as far as it goes.
 #[cycle(chains)]
-fn in_parentheses<'t, 'a>(
+pub(crate) fn front_at<'t, 'a>(
     alloc: Global,
-    behind: &'t [Token<'a>],
+    level: Level,
+    tokens: &'t [Token<'a>],
     depth: usize,
     room: usize,
 ) -> Result<Front<'t, 'a>, MarkerFault>
-    requires { room ≤ 1024 }
-    ensures read { IfOk result (λ f. ItemFrom (depth + 1)
-        (syntax.open_parenthesis ∷ map token_of behind.now) (tree_parts f.tree)
-        (map token_of f.rest.now)) }
-    ensures count { IfOk result (λ f. f.comparisons ≡ comparisons (tree_parts f.tree)) }
-    ensures room { IfOk result (λ f. f.comparisons ≤ room) }
-    ensures refused { IfErr result (Refuses (NoItem (depth + 1) room
-        (syntax.open_parenthesis ∷ map token_of behind.now))) }
+    ensures read { IfOk result (λ f. LevelFrom level depth (map token_of tokens.now)
+        (tree_parts f.tree) (map token_of f.rest.now)) }
+    ensures ended { IfOk result (λ f. level_ends level (map token_of f.rest.now) ≡ true) }
+    ensures room { IfOk result (λ f. f.room + comparisons (tree_parts f.tree) ≡ room) }
+    ensures refused { IfErr result (Refuses (NoLevel level depth room (map token_of tokens.now))) }
 {
-    let front = chain(alloc, Link::Or, behind, depth, room)?;
-    let Some(rest) = behind_close(front.rest) else {
-        return Err(MarkerFault::BadMarker);
+    let link = match level {
+        Level::Item => return item_at(alloc, tokens, depth, room),
+        Level::Chain(link) => link,
     };
-    Ok(Front { rest, ..front })
-}
-
-// The first part of a chain at the front of the tokens.
-#[cycle(chains)]
-fn part_at<'t, 'a>(
-    alloc: Global,
-    link: Link,
-    tokens: &'t [Token<'a>],
-    depth: usize,
-    room: usize,
-) -> Result<Front<'t, 'a>, MarkerFault>
-    requires { room ≤ 1024 }
-    ensures read { IfOk result (λ f. PartFrom link depth (map token_of tokens.now)
-        (tree_parts f.tree) (map token_of f.rest.now)) }
-    ensures ended { IfOk result (λ f. part_ends link (map token_of f.rest.now) ≡ true) }
-    ensures count { IfOk result (λ f. f.comparisons ≡ comparisons (tree_parts f.tree)) }
-    ensures room { IfOk result (λ f. f.comparisons ≤ room) }
-    ensures refused { IfErr result (Refuses (NoPart link depth room (map token_of tokens.now))) }
-{
-    match link {
-        Link::And => item_at(alloc, tokens, depth, room),
-        Link::Or => chain(alloc, Link::And, tokens, depth, room),
-    }
-}
-
-// The chain at the front of the tokens.
-#[cycle(chains)]
-pub(crate) fn chain<'t, 'a>(
-    alloc: Global,
-    link: Link,
-    tokens: &'t [Token<'a>],
-    depth: usize,
-    room: usize,
-) -> Result<Front<'t, 'a>, MarkerFault>
-    requires { room ≤ 1024 }
-    ensures read { IfOk result (λ f. ChainFrom link depth (map token_of tokens.now)
-        (tree_parts f.tree) (map token_of f.rest.now)) }
-    ensures ended { IfOk result (λ f. ends link (map token_of f.rest.now) ≡ true) }
-    ensures count { IfOk result (λ f. f.comparisons ≡ comparisons (tree_parts f.tree)) }
-    ensures room { IfOk result (λ f. f.comparisons ≤ room) }
-    ensures refused { IfErr result (Refuses (NoChain link depth room (map token_of tokens.now))) }
-{
-    let mut front = part_at(alloc, link, tokens, depth, room)?;
+    let part = part_of(link);
+    let mut front = front_at(alloc, part, tokens, depth, room)?;
     while let Some(behind) = behind_word(link, front.rest) {
-        let next = part_at(alloc, link, behind, depth, room - front.comparisons)?;
+        let next = front_at(alloc, part, behind, depth, front.room)?;
         front = join(alloc, link, front, next)?;
     }
     Ok(front)
+}
+
+// What stands in parentheses, of which the first was opened before it, with the other one dropped.
+fn closed<'t, 'a>(inside: Front<'t, 'a>) -> Result<Front<'t, 'a>, MarkerFault>
+    ensures rest { IfOk result (λ f. map token_of inside.entry.rest.now
+        ≡ syntax.close_parenthesis ∷ map token_of f.rest.now) }
+    ensures tree { IfOk result (λ f. tree_parts f.tree ≡ tree_parts inside.entry.tree) }
+    ensures room { IfOk result (λ f. f.room ≡ inside.entry.room) }
+    ensures refused { IfErr result (λ e. (e ≡ MarkerFault.BadMarker)
+        × (is_closed (map token_of inside.entry.rest.now) ≡ false)) }
+{
+    let Some(rest) = behind_close(inside.rest) else {
+        return Err(MarkerFault::BadMarker);
+    };
+    Ok(Front { rest, ..inside })
 }
 
 // The tokens behind the `)` at the front.
@@ -268,16 +236,14 @@ fn join<'t, 'a>(
     left: Front<'t, 'a>,
     right: Front<'t, 'a>,
 ) -> Result<Front<'t, 'a>, AllocError>
-    requires { left.comparisons + right.comparisons ≤ 1024 }
     ensures tree { IfOk result (λ f. tree_parts f.tree
         ≡ joined link (tree_parts left.entry.tree) (tree_parts right.entry.tree)) }
-    ensures count { IfOk result (λ f. f.comparisons
-        ≡ left.entry.comparisons + right.entry.comparisons) }
     ensures rest { IfOk result (λ f. f.rest ≡ right.entry.rest) }
+    ensures room { IfOk result (λ f. f.room ≡ right.entry.room) }
 {
     Ok(Front {
         tree: joined_tree(alloc, link, left.tree, right.tree)?,
-        comparisons: left.comparisons + right.comparisons,
         rest: right.rest,
+        room: right.room,
     })
 }

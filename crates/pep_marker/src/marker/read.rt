@@ -6,7 +6,7 @@ ghost use Rattle.pep_marker.specs.Marker.{MarkerParts, comparisons};
 ghost use Rattle.pep_marker.specs.Token.{token_of};
 ghost use Rattle.pep_marker.specs.View.{tree_parts};
 
-use crate::chains::{Link, chain};
+use crate::chains::{Level, Link, front_at};
 use crate::fault::MarkerFault;
 use crate::marker::{Marker, Tree};
 use crate::token::{Token, tokens_of};
@@ -50,7 +50,7 @@ fn tree_of(alloc: Global, tokens: &[Token]) -> Result<Tree, MarkerFault>
     ensures refused { IfErr result (Refuses ((m : MarkerParts)
         → ChainFrom Link.Or 64 (map token_of tokens.now) m [] → 1024 < comparisons m)) }
 {
-    let front = chain(alloc, Link::Or, tokens, DEPTH, COMPARISONS)?;
+    let front = front_at(alloc, Level::Chain(Link::Or), tokens, DEPTH, COMPARISONS)?;
     if !front.rest.is_empty() {
         return Err(MarkerFault::BadMarker);
     }

@@ -1,39 +1,34 @@
 -- What the loop over a chain keeps, and why the calls of one another end: each parenthesis that is
 -- opened leaves one less.
-use Rattle.std.proofs.Common.{◌≡◌, ℕ, ◌+◌, ◌*◌, ◌≤◌, length, map, true}
+use Rattle.std.proofs.Common.{◌≡◌, ℕ, ◌+◌, ◌*◌, length, map, true}
 use Rattle.pep_marker.specs.Chains.{part_ends}
 use Rattle.pep_marker.specs.Marker.{comparisons}
 use Rattle.pep_marker.specs.Token.{token_of}
 use Rattle.pep_marker.specs.View.{tree_parts}
-use Rattle.pep_marker.specs.declared.chains.Link.{Link}
+use Rattle.pep_marker.specs.declared.chains.Level.{Level}
+use Rattle.pep_marker.specs.declared.chains.Level.TheVariants.{Item, Chain}
 use Rattle.pep_marker.specs.declared.chains.Link.TheVariants.{And, Or}
 use Rattle.pep_marker.proofs.ChainLoops.{SoFar}
 use Rattle.pep_marker.proofs.chains.+chains.Given as goal
 
--- and-chains are parts of or-chains
-abbrev pub rank : Link → ℕ
-rank And = 1
-rank Or = 3
+-- items are parts of and-chains, and these are parts of or-chains
+abbrev pub rank : Level → ℕ
+rank Item = 1
+rank (Chain And) = 2
+rank (Chain Or) = 3
 
 abbrev pub decreases-item_at : goal.decreases-item_at
-decreases-item_at l = 6 * l.depth
+decreases-item_at l = 4 * l.depth
 
-abbrev pub decreases-part_at : goal.decreases-part_at
-decreases-part_at l = 6 * l.depth + rank l.link
+abbrev pub decreases-front_at : goal.decreases-front_at
+decreases-front_at l = 4 * l.depth + rank l.level
 
-abbrev pub decreases-chain : goal.decreases-chain
-decreases-chain l = 6 * l.depth + rank l.link + 1
-
-abbrev pub decreases-in_parentheses : goal.decreases-in_parentheses
-decreases-in_parentheses l = 6 * l.depth + 5
-
-abbrev pub invariant-chain-loop-behind : goal.invariant-chain-loop-behind
-invariant-chain-loop-behind l =
-    (l.front.comparisons ≡ comparisons (tree_parts l.front.tree))
-    × (l.front.comparisons ≤ l.room)
+abbrev pub invariant-front_at-loop-behind : goal.invariant-front_at-loop-behind
+invariant-front_at-loop-behind l =
+    (l.front.room + comparisons (tree_parts l.front.tree) ≡ l.room)
     × (part_ends l.link (map token_of l.front.rest.now) ≡ true)
     × SoFar l.link l.depth (map token_of l.tokens) (tree_parts l.front.tree)
     (map token_of l.front.rest.now)
 
-abbrev pub decreases-chain-loop-behind : goal.decreases-chain-loop-behind
-decreases-chain-loop-behind l = length l.front.rest.now
+abbrev pub decreases-front_at-loop-behind : goal.decreases-front_at-loop-behind
+decreases-front_at-loop-behind l = length l.front.rest.now

@@ -29,5 +29,4 @@ returns-clause-read c =
 
 pub returns-clause-few : goal.returns-clause-few
 returns-clause-few c =
-    few_enough c.in_ok-front.front.comparisons _ c.in_ok-front.ensures.count
-    c.in_ok-front.ensures.room
+    few_enough c.in_ok-front.front.room _ c.in_ok-front.ensures.room
