@@ -44,6 +44,12 @@ texts-exactly xs ys b e = slice_eq-Decides bytes_eq-Decides xs ys b e
 
 -- ---- entries
 
+-- entries with the same parts are one
+pub one_of_parts : (e f : EntryParts) → e.extras ≡ f.extras → e.urls ≡ f.urls →
+    e.texts ≡ f.texts → e.versions ≡ f.versions → e ≡ f
+one_of_parts e f extras urls texts versions =
+    λ i. record { extras = extras i; urls = urls i; texts = texts i; versions = versions i }
+
 pub entry_told : (e f : EntryParts) → IsValidEntry e → IsValidEntry f → same_entry e f ≡ true → e ≡ f
 entry_told e f h g is =
     let ranges = same_ranges e.versions f.versions in
@@ -56,7 +62,7 @@ entry_told e f h g is =
     let texts = (texts-exactly e.texts f.texts _ refl).0 three.0 in
     let versions =
     (same_ranges-exactly e.versions f.versions ranges h.versions g.versions refl).0 three.1 in
-    λ i. record { extras = extras i; urls = urls i; texts = texts i; versions = versions i }
+    one_of_parts e f extras urls texts versions
 
 pub entry-exactly : (e f : EntryParts) (b : Bool) → IsValidEntry e → IsValidEntry f →
     b ≡ same_entry e f → IsTrue b ↔ (e ≡ f)
@@ -67,13 +73,8 @@ entry-exactly e f b h g is = (
 
 pub one_entry : (e f : EntryParts) → IsValidEntry e → IsValidEntry f → SameEntries e f → e ≡ f
 one_entry e f h g same =
-    let versions = same_versions e.versions f.versions h.versions g.versions same.versions in
-    λ i. record {
-      extras = same.extras i;
-      urls = same.urls i;
-      texts = same.texts i;
-      versions = versions i;
-    }
+    one_of_parts e f same.extras same.urls same.texts
+    (same_versions e.versions f.versions h.versions g.versions same.versions)
 
 pub same_itself : (e : EntryParts) → SameEntries e e
 same_itself e = record { extras = refl; urls = refl; texts = refl; versions = λ v is. refl }

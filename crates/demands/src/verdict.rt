@@ -23,7 +23,13 @@ ghost use Rattle.pep_version.specs.Version.{is_pre_release};
 ghost use Rattle.pep_clause.specs.VersionSet.{In, is_in};
 ghost use Rattle.demands.specs.Answer.{IsAnswer};
 ghost use Rattle.demands.specs.Table.{EntryDemands, IsValidEntry};
-ghost use Rattle.demands.specs.Verdict.{FitsEntry, HasVersionOfText, IsEntryVerdict, IsVerdict};
+ghost use Rattle.demands.specs.Verdict.{
+  FitsEntry,
+  HasVersionOfText,
+  IsEntryVerdict,
+  IsVerdict,
+  verdict_word,
+};
 
 use crate::entry::Entry;
 use crate::fault::TableFault;
@@ -40,6 +46,19 @@ pub enum Verdict {
     Nothing,
     /// Printed `conflict`: two different URLs are demanded.
     Conflict,
+}
+
+impl Verdict {
+    /// The word by which it is printed.
+    pub fn word(self) -> &'static str
+        ensures { result.now ≡ verdict_word self }
+    {
+        match self {
+            Verdict::Possible => "open",
+            Verdict::Nothing => "none",
+            Verdict::Conflict => "conflict",
+        }
+    }
 }
 
 /// Whether a version of a package meets the demands on it.

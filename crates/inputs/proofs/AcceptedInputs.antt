@@ -9,7 +9,7 @@ use Rattle.pep_require.proofs.LineLaws.{one_requirement}
 use Rattle.pep_require.specs.Reads.{Reads}
 use Rattle.pep_require.specs.Requirement.{HasDefinedMarker}
 use Rattle.pep_require.specs.Requirement.{RequirementParts}
-use Rattle.pep_table.proofs.SameDemands.{same_demands}
+use Rattle.pep_table.proofs.SameDemands.{same_demands, with_nothing}
 use Rattle.pep_table.proofs.Taking.{applying_is_table, no_demands, of_nothing}
 use Rattle.demands.specs.Demand.{ApplyingDemands, Demand, Demands, Together}
 use Rattle.demands.specs.Gathering.{TakesApplying}
@@ -157,14 +157,6 @@ table_demands_in e k bytes t name d is = (λ h. inr (t, is, h), back)
     back (inr h) = subst (λ (s : TableParts). TableDemands s name d)
         (one_table_in k bytes h.0 t h.1 is) h.2
 
-none_more : (e : EnvironmentParts) (Q : Demands) (name : List ℕ) (d : Demand) →
-    Q name d ↔ Together Q (Gathered e []) name d
-none_more e Q name d = ((λ q. inl q), back)
-  where
-    back : Q name d ⊎ Gathered e [] name d → Q name d
-    back (inl q) = q
-    back (inr never) = absurd never
-
 input_more : (e : EnvironmentParts) (Q : Demands) (i : Input) (inputs : List Input)
     (own : Demands) (name : List ℕ) (d : Demand) →
     own name d ↔ BytesDemand e i.kind i.bytes.items name d →
@@ -189,7 +181,8 @@ inputs_table : (e : EnvironmentParts) (Q : Demands) (inputs : List Input) (old n
     IsTable (Together Q (Gathered e inputs)) new
     × HasExactPoints (Together Q (Gathered e inputs)) new
 inputs_table e Q [] old new t p g =
-    same_demands Q (Together Q (Gathered e [])) new (none_more e Q) (subst (IsTable Q) g t)
+    same_demands Q (Together Q (Gathered e [])) new
+    (with_nothing Q (Gathered e []) (λ name d never. never)) (subst (IsTable Q) g t)
     (subst (HasExactPoints Q) g p)
 inputs_table e Q (i ∷ inputs) old new t p (mid, inl (rs, is, takes), more) =
     let own = ApplyingDemands e rs in

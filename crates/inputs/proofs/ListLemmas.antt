@@ -24,7 +24,7 @@ use Rattle.texts.specs.Limits.{input_limit}
 use Rattle.inputs.specs.Lists.{is_skipped, lines_of, requirement_lines}
 use Rattle.inputs.specs.Refusal.{IsNumbered, IsOverflow, IsRefusedLine, IsRefusedList}
 use Rattle.inputs.specs.Refusal.{by_content, by_encoding, by_length, by_line, by_size}
-use Rattle.inputs.specs.LineReading.{IsReadOf, RefusesLineBytes, RefusesList}
+use Rattle.inputs.specs.LineReading.{IsCauseOf, IsReadOf, RefusesLineBytes, RefusesList}
 use Rattle.texts.specs.Split.{left_parts}
 
 -- the requirement lines among these lines
@@ -112,15 +112,7 @@ refused_list bytes c rs told (by_line number line f at refused e) s =
 
 pub known : (f : RequireFault) → (f ≡ fault.NoMemory) ⊎ (f ≢ fault.NoMemory)
 known fault.NoMemory = inl refl
-known (fault.BadClause g) = inr (λ e. cc e)
-known (fault.BadMarker g) = inr (λ e. cc e)
-known fault.BadName = inr (λ e. cc e)
-known fault.BadExtras = inr (λ e. cc e)
-known fault.BadUrl = inr (λ e. cc e)
-known fault.Trailing = inr (λ e. cc e)
-known fault.OptionLine = inr (λ e. cc e)
-known fault.LineTooLong = inr (λ e. cc e)
-known fault.UrlOverflow = inr (λ e. cc e)
+known f = inr (λ e. cc e)
 
 -- a fault of a line is no want of memory, whatever a line is refused for
 pub line_known : (line : List ℕ) (f : LineFault) →
@@ -132,24 +124,11 @@ line_known line f (by_content g short text seen known refuses e) memory = known 
 -- the cause of a fault of a line
 pub line_refuses : (refuses : List ℕ → LineFault → Type 0) (bytes line : List ℕ) (number : ℕ)
     (f : LineFault) (c : Cause) → IsNumbered (lines_of bytes) number line →
-    RefusesLineBytes refuses line f →
-    (f ≡ line_fault.Requirement fault.NoMemory → c ≡ cause.NoMemory) →
-    (f ≢ line_fault.Requirement fault.NoMemory → c ≡ cause.Line number f) →
-    RefusesList refuses bytes c
-line_refuses refuses bytes line number f c at (inl refused) none told =
-    inl (by_line number line f at refused (told (line_known line f refused)))
-line_refuses refuses bytes line number f c at (inr (text, has, refused)) none told =
-    inr (record {
-      number = number;
-      line = line;
-      numbered = at;
-      text = text;
-      has = has;
-      fault = f;
-      refused = refused;
-      memory = none;
-      told = told;
-    })
+    RefusesLineBytes refuses line f → IsCauseOf number f c → RefusesList refuses bytes c
+line_refuses refuses bytes line number f c at (inl refused) is =
+    inl (by_line number line f at refused (is.told (line_known line f refused)))
+line_refuses refuses bytes line number f c at (inr h) is =
+    inr (record { number = number; line = line; numbered = at; fault = f; refused = h; is = is })
 
 -- the cause of a list that goes on behind its largest size
 cut_refuses : (bytes line : List ℕ) (number : ℕ) (c : Cause) →

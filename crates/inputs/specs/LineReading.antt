@@ -50,10 +50,21 @@ pub record TakesLines {A : Type 0} (takes : List ℕ → A → A → Type 0) (by
 
 -- ---- refusals
 
+-- the text on the line is refused
+pub record RefusesTextOn (refuses : List ℕ → LineFault → Type 0) (line : List ℕ) (f : LineFault) :
+    Type 0 where
+  pub text : List ℕ
+  pub has : HasText line (Some text)
+  pub refused : refuses text f
+
 -- why a line is refused: a fault of its own, or one that its text is refused for
 abbrev pub RefusesLineBytes : (List ℕ → LineFault → Type 0) → List ℕ → LineFault → Type 0
-RefusesLineBytes refuses line f =
-    IsRefusedLine line f ⊎ ((text : List ℕ) × HasText line (Some text) × refuses text f)
+RefusesLineBytes refuses line f = IsRefusedLine line f ⊎ RefusesTextOn refuses line f
+
+-- the cause of a fault of a line: want of memory has no place
+pub record IsCauseOf (number : ℕ) (f : LineFault) (c : Cause) : Type 0 where
+  pub memory : f ≡ line_fault.Requirement require.NoMemory → c ≡ cause.NoMemory
+  pub told : f ≢ line_fault.Requirement require.NoMemory → c ≡ cause.Line number f
 
 -- the cause names a line whose text is refused; of want of memory nothing is said
 pub record RefusesTextOf (refuses : List ℕ → LineFault → Type 0) (bytes : List ℕ) (c : Cause) :
@@ -61,12 +72,9 @@ pub record RefusesTextOf (refuses : List ℕ → LineFault → Type 0) (bytes : 
   pub number : ℕ
   pub line : List ℕ
   pub numbered : IsNumbered (lines_of bytes) number line
-  pub text : List ℕ
-  pub has : HasText line (Some text)
   pub fault : LineFault
-  pub refused : refuses text fault
-  pub memory : fault ≡ line_fault.Requirement require.NoMemory → c ≡ cause.NoMemory
-  pub told : fault ≢ line_fault.Requirement require.NoMemory → c ≡ cause.Line number fault
+  pub refused : RefusesTextOn refuses line fault
+  pub is : IsCauseOf number fault c
 
 -- why bytes are refused as a list
 abbrev pub RefusesList : (List ℕ → LineFault → Type 0) → List ℕ → Cause → Type 0

@@ -113,12 +113,8 @@ fn cut_off(number: u64, line: &[u8]) -> Cause
     }
 }
 
-/// What was taken before, and the text on a line, if the line isn't skipped.
-pub(crate) fn take_line<T: Taker>(
-    taker: &T,
-    taken: T::Taken,
-    line: &[u8],
-) -> Result<T::Taken, LineFault>
+// What was taken before, and the text on a line, if the line isn't skipped.
+fn take_line<T: Taker>(taker: &T, taken: T::Taken, line: &[u8]) -> Result<T::Taken, LineFault>
     ensures ok { IfOk result (TakesLine (T.takes taker.now) line.now taken) }
     ensures refused { IfErr result (RefusesLineBytes (T.refuses taker.now) line.now) }
 {

@@ -94,30 +94,7 @@ cut_then (past p) (past q) x y h g s t e =
       both.1,
     )
 cut_then end end x y h g s t e = (refl, append_cancel_left (codes "end") x y e)
-cut_then (before v) (after w) x y h g s t e =
-    apart (cut_text (before v) ++ x) (cut_text (after w) ++ y) refl e
-cut_then (before v) (past q) x y h g s t e =
-    apart (cut_text (before v) ++ x) (cut_text (past q) ++ y) refl e
-cut_then (before v) end x y h g s t e =
-    apart (cut_text (before v) ++ x) (cut_text end ++ y) refl e
-cut_then (after v) (before w) x y h g s t e =
-    apart (cut_text (after v) ++ x) (cut_text (before w) ++ y) refl e
-cut_then (after v) (past q) x y h g s t e =
-    apart (cut_text (after v) ++ x) (cut_text (past q) ++ y) refl e
-cut_then (after v) end x y h g s t e =
-    apart (cut_text (after v) ++ x) (cut_text end ++ y) refl e
-cut_then (past p) (before w) x y h g s t e =
-    apart (cut_text (past p) ++ x) (cut_text (before w) ++ y) refl e
-cut_then (past p) (after w) x y h g s t e =
-    apart (cut_text (past p) ++ x) (cut_text (after w) ++ y) refl e
-cut_then (past p) end x y h g s t e =
-    apart (cut_text (past p) ++ x) (cut_text end ++ y) refl e
-cut_then end (before w) x y h g s t e =
-    apart (cut_text end ++ x) (cut_text (before w) ++ y) refl e
-cut_then end (after w) x y h g s t e =
-    apart (cut_text end ++ x) (cut_text (after w) ++ y) refl e
-cut_then end (past q) x y h g s t e =
-    apart (cut_text end ++ x) (cut_text (past q) ++ y) refl e
+cut_then c d x y h g s t e = apart (cut_text c ++ x) (cut_text d ++ y) refl e
 
 -- cuts with one text are one
 pub one_cut_of_text : (c d : Cut) → IsCut c → IsCut d → cut_text c ≡ cut_text d → c ≡ d

@@ -1,3 +1,4 @@
+pub mod Exits
 pub mod NamedEntries
 pub mod EntryPlaces
 pub mod FirstFault

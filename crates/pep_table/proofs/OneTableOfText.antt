@@ -12,6 +12,7 @@ use Rattle.pep_table.proofs.TableLines.{header_name, kind_line, lines_feed, line
 use Rattle.pep_table.proofs.TableLines.{lines_one, range_lines, table_stops, text_entries}
 use Rattle.pep_table.proofs.TableLines.{text_lines, url_lines}
 use Rattle.pep_table.specs.EntryReading.{head_line}
+use Rattle.demands.proofs.SameLemmas.{one_of_parts}
 use Rattle.demands.specs.Table.{EntryParts, IsValidEntry, IsValidTable, TableParts}
 use Rattle.pep_table.specs.TableText.{IsTableText, range_text}
 
@@ -96,15 +97,8 @@ entry_one e f rest more h g s t same =
     let ranges = kind_one 114 (codes "range") (map range_text e.versions)
     (map range_text f.versions) rest more (λ x. refl) (s 114) (t 114) texts.1 in
     let versions = same_ranges e.versions f.versions (have_cuts e.versions h.versions.spelled)
-    (have_cuts f.versions g.versions.spelled) ranges.0 in (
-      (λ i. record {
-        extras = extras.0 i;
-        urls = urls.0 i;
-        texts = texts.0 i;
-        versions = versions i;
-      }),
-      ranges.1,
-    )
+    (have_cuts f.versions g.versions.spelled) ranges.0 in
+    (one_of_parts e f extras.0 urls.0 texts.0 versions, ranges.1)
 
 -- ---- tables
 

@@ -1,6 +1,6 @@
 -- The first line of an entry, and the lines behind it, one kind after the other.
 use Rattle.std.proofs.Common.{◌≡◌, ℕ, ◌==◌, true, false, not, List, [], ◌∷◌, ◌++◌, codes}
-use Rattle.std.proofs.Common.{◌⊎◌, inl, inr, refl, sym, ap, subst, ◌∙◌, append_assoc, map}
+use Rattle.std.proofs.Common.{refl, sym, ap, subst, ◌∙◌, append_assoc, map}
 use Rattle.std.specs.Prelude.{All, IsTrue}
 use Rattle.std.specs.List.{list_all}
 use Rattle.std.proofs.lemmas.List.{append_cancel_left}
@@ -19,6 +19,7 @@ use Rattle.demands.specs.declared.verdict.Verdict.{Verdict}
 use Rattle.demands.specs.declared.verdict.Verdict.TheVariants.{Possible, Nothing, Conflict}
 use Rattle.pep_table.specs.EntryReading.{BeginsSpace, HasHead, HasNoHead, HasNoParts, HasParts, head_line}
 use Rattle.pep_table.specs.EntryReading.{parts_then, ranges_then, texts_then, urls_then}
+use Rattle.demands.proofs.SameLemmas.{one_of_parts}
 use Rattle.demands.specs.Table.{EntryParts, IsValidEntry, is_url_text}
 use Rattle.pep_table.specs.TableReading.{AreItems, AreRanges, BeginsKind, Front, HasNoFeed}
 use Rattle.pep_table.specs.TableReading.{HasNoFront, kind_front}
@@ -124,6 +125,12 @@ module _ (f : EntryParts) (v : IsValidEntry f) where
 
 -- ---- one kind after the other
 
+-- lines of a kind that stand in front, where none do
+missing : (kind : List ℕ) (Are : List (List ℕ) → Type 0) (x z : List ℕ) (us : List (List ℕ))
+    (r : List ℕ) → HasNoFront kind Are x → x ≡ z → Are us → Front kind z us r → ⊥
+missing kind Are x z us r none e are front =
+    none us r are (subst (λ y. Front kind y us r) (sym e) front)
+
 feeds : (P : List ℕ → Type 0) (xs : List (List ℕ)) → AreItems P xs → All HasNoFeed xs
 feeds P xs h = All-weaker (λ x. P x × HasNoFeed x) HasNoFeed (λ x p. p.1) xs h.1
 
@@ -133,9 +140,8 @@ members P xs h = (h.0, All-weaker (λ x. P x × HasNoFeed x) P (λ x p. p.0) xs 
 module _ (x : List ℕ) where
   pub no_extras : HasNoFront (codes "extra") (AreItems IsNormalName) x → HasNoParts x
   no_extras none f y v out e =
-      none f.extras (urls_then f y) (extras_are f v)
-      (subst (λ z. Front (codes "extra") z f.extras (urls_then f y)) (sym e)
-      (extras_front f y out))
+      missing (codes "extra") (AreItems IsNormalName) x (parts_then f y) f.extras (urls_then f y)
+      none e (extras_are f v) (extras_front f y out)
 
   module _ (extras : List (List ℕ)) (behind : List ℕ)
       (front : Front (codes "extra") x extras behind) (are : AreItems IsNormalName extras) where
@@ -148,9 +154,8 @@ module _ (x : List ℕ) where
 
     pub no_urls : HasNoFront (codes "url") (AreItems IsUrl) behind → HasNoParts x
     no_urls none f y v out e =
-        none f.urls (texts_then f y) (urls_are f v)
-        (subst (λ z. Front (codes "url") z f.urls (texts_then f y))
-        (sym (after_extras f y v out e).1) (urls_front f y out))
+        missing (codes "url") (AreItems IsUrl) behind (urls_then f y) f.urls (texts_then f y) none
+        (after_extras f y v out e).1 (urls_are f v) (urls_front f y out)
 
     module _ (urls : List (List ℕ)) (further : List ℕ)
         (urls_there : Front (codes "url") behind urls further) (are_urls : AreItems IsUrl urls)
@@ -164,9 +169,8 @@ module _ (x : List ℕ) where
 
         pub no_texts : HasNoFront (codes "text") (AreItems IsDemanded) further → HasNoParts x
         no_texts none f y v out e =
-            none f.texts (ranges_then f y) (texts_are f v)
-            (subst (λ z. Front (codes "text") z f.texts (ranges_then f y))
-            (sym (after_urls f y v out e).1) (texts_front f y out))
+            missing (codes "text") (AreItems IsDemanded) further (texts_then f y) f.texts
+            (ranges_then f y) none (after_urls f y v out e).1 (texts_are f v) (texts_front f y out)
 
         module _ (texts : List (List ℕ)) (last : List ℕ)
             (texts_there : Front (codes "text") further texts last)
@@ -181,9 +185,8 @@ module _ (x : List ℕ) where
 
           pub no_ranges : HasNoFront (codes "range") AreRanges last → HasNoParts x
           no_ranges none f y v out e =
-              none (map range_text f.versions) y (ranges_are f v)
-              (subst (λ z. Front (codes "range") z (map range_text f.versions) y)
-              (sym (after_texts f y v out e).1) (ranges_front f y out))
+              missing (codes "range") AreRanges last (ranges_then f y) (map range_text f.versions) y
+              none (after_texts f y v out e).1 (ranges_are f v) (ranges_front f y out)
 
           pub parts_read : (versions : List Range) (rest : List ℕ) →
               Front (codes "range") last (map range_text versions) rest → IsNormal versions →
@@ -216,15 +219,8 @@ module _ (x : List ℕ) where
                 (ranges_front f y out)) in
                 let same = map_one range_text HasCuts one_range_of_text versions f.versions
                 (have_cuts versions normal.spelled) (have_cuts f.versions v.versions.spelled)
-                ranges.0 in (
-                  (λ i. record {
-                    extras = first.0 i;
-                    urls = second.0 i;
-                    texts = third.0 i;
-                    versions = same i;
-                  }),
-                  ranges.1,
-                );
+                ranges.0 in
+                (one_of_parts _ f first.0 second.0 third.0 same, ranges.1);
           }
 
 -- ---- the first line
@@ -233,12 +229,7 @@ word_one : (v w : Verdict) → verdict_word v ≡ verdict_word w → v ≡ w
 word_one Possible Possible e = refl
 word_one Nothing Nothing e = refl
 word_one Conflict Conflict e = refl
-word_one Possible Nothing e = apart (codes "open") (codes "none") refl e
-word_one Nothing Possible e = apart (codes "none") (codes "open") refl e
-word_one Possible Conflict e = apart (codes "open") (codes "conflict") refl e
-word_one Conflict Possible e = apart (codes "conflict") (codes "open") refl e
-word_one Nothing Conflict e = apart (codes "none") (codes "conflict") refl e
-word_one Conflict Nothing e = apart (codes "conflict") (codes "none") refl e
+word_one v w e = apart (verdict_word v) (verdict_word w) refl e
 
 -- a text has one first line
 pub one_head : (x n m : List ℕ) (v w : Verdict) (r s : List ℕ) → HasHead x n v r →
@@ -281,8 +272,3 @@ module _ (x first rest : List ℕ) (whole : x ≡ first ++ 10 ∷ rest) (plain :
 
     pub no_name : ¬ IsNormalName name → HasNoHead x
     no_name none n v r h = none (subst IsNormalName (sym (parts_are n v r h).0) h.is_name)
-
--- a refusal further on
-pub further : {A B C : Type 0} → (B → C) → A ⊎ B → A ⊎ C
-further f (inl a) = inl a
-further f (inr b) = inr (f b)

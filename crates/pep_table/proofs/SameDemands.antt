@@ -1,8 +1,8 @@
 -- Demands that are the same have the same tables.
-use Rattle.std.proofs.Common.{ℕ, List}
+use Rattle.std.proofs.Common.{ℕ, ◌⊎◌, List, inl, inr}
 use Rattle.std.proofs.lemmas.Option.{IfSome_then}
 use Rattle.pep_table.proofs.JoinedDemands.{HasEntry, same_entry, same_exact}
-use Rattle.demands.specs.Demand.{Demands, HaveSameDemands}
+use Rattle.demands.specs.Demand.{Demand, Demands, HaveSameDemands, Together}
 use Rattle.demands.specs.Table.{HasExactPoints, IsTable, IsValidTable, TableParts}
 use Rattle.demands.specs.Table.{entry_at}
 
@@ -27,6 +27,15 @@ same_exact_points Q W t same h = λ name.
 pub same_demands : (Q W : Demands) (t : TableParts) → HaveSameDemands Q W → IsTable Q t →
     HasExactPoints Q t → IsTable W t × HasExactPoints W t
 same_demands Q W t same h g = (same_table Q W t same h, same_exact_points Q W t same g)
+
+-- nothing is demanded besides
+pub with_nothing : (Q R : Demands) → ((name : List ℕ) (d : Demand) → ¬ R name d) →
+    HaveSameDemands Q (Together Q R)
+with_nothing Q R none name d = ((λ q. inl q), back)
+  where
+    back : Q name d ⊎ R name d → Q name d
+    back (inl q) = q
+    back (inr more) = absurd (none name d more)
 
 -- a table that has at each name the entry of the demands on it is their table
 pub table_from_entries : (Q : Demands) (t : TableParts) → IsValidTable t →

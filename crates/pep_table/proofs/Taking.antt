@@ -25,7 +25,7 @@ use Rattle.pep_require.specs.Requirement.{bounds, direct}
 use Rattle.pep_table.proofs.JoinedDemands.{ExactEntry, HasEntry, at_place, either, from_both}
 use Rattle.pep_table.proofs.JoinedDemands.{same_at, table_at, undemanded}
 use Rattle.pep_table.proofs.Members.{in_either, in_first, in_none, in_rest, passes_from, passes_of}
-use Rattle.pep_table.proofs.SameDemands.{same_demands, table_from_entries}
+use Rattle.pep_table.proofs.SameDemands.{same_demands, table_from_entries, with_nothing}
 use Rattle.demands.specs.Demand.{AdmitsBesideTexts, ApplyingDemands, Demand, Demands}
 use Rattle.demands.specs.Demand.{RequirementDemands, TargetDemands, Together, presence, extra}
 use Rattle.demands.specs.Demand.{url, clause, ranges}
@@ -383,14 +383,6 @@ without_passed e Q r rs name d never = (there, back)
     back (inl q) = inl q
     back (inr w) = split (own_or_more e r rs name d w)
 
-with_none : (e : EnvironmentParts) (Q : Demands) (name : List ℕ) (d : Demand) →
-    Q name d ↔ Together Q (ApplyingDemands e []) name d
-with_none e Q name d = ((λ q. inl q), back)
-  where
-    back : Q name d ⊎ ApplyingDemands e [] name d → Q name d
-    back (inl q) = q
-    back (inr w) = absurd (in_none w.0 w.1)
-
 -- the table with what those requirements demand that apply
 pub applying_is_table : (e : EnvironmentParts) (Q : Demands) (s : TableParts)
     (rs : List RequirementParts) (t : TableParts) → IsTable Q s → HasExactPoints Q s →
@@ -398,7 +390,8 @@ pub applying_is_table : (e : EnvironmentParts) (Q : Demands) (s : TableParts)
     IsTable (Together Q (ApplyingDemands e rs)) t
     × HasExactPoints (Together Q (ApplyingDemands e rs)) t
 applying_is_table e Q s [] t h g k =
-    let at = same_demands Q (Together Q (ApplyingDemands e [])) s (with_none e Q) h g in
+    let at = same_demands Q (Together Q (ApplyingDemands e [])) s
+    (with_nothing Q (ApplyingDemands e []) (λ name d w. in_none w.0 w.1)) h g in
     subst (λ (u : TableParts). IsTable (Together Q (ApplyingDemands e [])) u
     × HasExactPoints (Together Q (ApplyingDemands e [])) u) k at
 applying_is_table e Q s (r ∷ rs) t h g (mid, true, says, takes, more) =

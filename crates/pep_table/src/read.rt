@@ -3,19 +3,8 @@
 mod items;
 mod ranges;
 
-ghost use Rattle.std.specs.Prelude.{
-  ◌≡◌,
-  ◌⊎◌,
-  ◌↔◌,
-  ◌++◌,
-  ◌∷◌,
-  [],
-  IfErr,
-  IfOk,
-  IfSome,
-  IsTrue,
-  None,
-};
+ghost use Rattle.std.specs.Prelude.{◌≡◌, ◌⊎◌, ◌↔◌, ◌++◌, ◌∷◌, []};
+ghost use Rattle.std.specs.Prelude.{IfErr, IfOk, IfSome, IsTrue, None};
 ghost use Rattle.pep_require.specs.Requirement.{IsAscending};
 ghost use Rattle.pep_table.specs.EntryReading.{
   HasHead,
@@ -30,7 +19,7 @@ ghost use Rattle.demands.specs.Table.{IsValidTable, names};
 ghost use Rattle.pep_table.specs.TableText.{IsBadTable, IsNoTableText, IsTableText, Shows};
 ghost use Rattle.demands.specs.Verdict.{verdict_word};
 
-use crate::read::items::{Extras, Texts, Urls, listed_name, read_items};
+use crate::read::items::{Extras, TextLines, listed_name, read_items};
 use crate::read::ranges::read_ranges;
 use crate::table::Table;
 use demands::{Entry, TableFault, Verdict};
@@ -115,9 +104,9 @@ fn read_parts(alloc: Global, text: &str) -> Result<(Entry, &str), Halt<'_>>
     ensures ok { IfOk result (λ r. HasParts text.now r.0 r.1.now) }
     ensures refused { IfErr result (λ e. (e ≡ Halt.NoMemory) ⊎ HasNoParts text.now) }
 {
-    let (extras, rest) = read_items::<Extras>(alloc, text)?;
-    let (urls, rest) = read_items::<Urls>(alloc, rest)?;
-    let (texts, rest) = read_items::<Texts>(alloc, rest)?;
+    let (extras, rest) = read_items(alloc, &Extras, text)?;
+    let (urls, rest) = read_items(alloc, &TextLines::Urls, rest)?;
+    let (texts, rest) = read_items(alloc, &TextLines::Demanded, rest)?;
     let (versions, rest) = read_ranges(alloc, rest)?;
     Ok((Entry::of(extras, urls, texts, versions), rest))
 }

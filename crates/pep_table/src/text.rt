@@ -18,16 +18,6 @@ use pep_clause::{Cut, Range};
 use pep_marker::Name;
 use std::alloc::Global;
 
-fn verdict_word(verdict: Verdict) -> &'static str
-    ensures { result.now ≡ verdict_word verdict }
-{
-    match verdict {
-        Verdict::Possible => "open",
-        Verdict::Nothing => "none",
-        Verdict::Conflict => "conflict",
-    }
-}
-
 fn push_line(text: &mut String, kind: &str, value: &str) -> Result<(), TableFault>
     ensures ok { OnOk result (string_bytes text.new ≡ string_bytes text.old
         ++ line (codes "  " ++ kind.now ++ codes " " ++ value.now)) }
@@ -93,7 +83,7 @@ fn push_head(text: &mut String, name: &str, verdict: Verdict) -> Result<(), Tabl
 {
     text.push_str(name)?;
     text.push_str(" ")?;
-    text.push_str(verdict_word(verdict))?;
+    text.push_str(verdict.word())?;
     text.push_str("\n")?;
     Ok(())
 }

@@ -15,6 +15,7 @@ use Rattle.pep_marker.specs.declared.fault.MarkerFault.TheVariants as marker_fau
 use Rattle.pep_require.specs.Requirement.{RequirementParts}
 use Rattle.demands.specs.Answer.{IsAnswer}
 use Rattle.demands.specs.declared.verdict.Answer.{Answer}
+use Rattle.pep_table.proofs.Exits.{further}
 use Rattle.pep_version.specs.Spelling.{Reads}
 use Rattle.pep_version.specs.Version.{Version}
 use Rattle.pep_version.specs.declared.fault.VersionFault.{VersionFault}
@@ -50,11 +51,6 @@ use Rattle.pep_tool.specs.Standard.{standard_environment}
 pub fault_line-no_memory : fault_line no_memory ≡ codes "refused code 60\n"
 unfolding digits
 fault_line-no_memory = refl
-
--- a refusal that isn't want of memory, told in other words
-pub memory_or : {M P Q : Type 0} → (P → Q) → M ⊎ P → M ⊎ Q
-memory_or f (inl memory) = inl memory
-memory_or f (inr h) = inr (f h)
 
 -- ---- the table of the input
 
@@ -188,7 +184,7 @@ pub files_refuse : {A File : Type 0} (r : Result A Fault) (files : Text → Know
     → IfErr r (λ f. (f ≡ no_memory) ⊎ RefusesFiles files left_of device_of env paths f)
 files_refuse (Ok a) files left_of device_of env paths e inputs given has reads same h = tt
 files_refuse (Err f) files left_of device_of env paths e inputs given has reads same h =
-    memory_or (by_inputs e inputs has reads)
+    further (by_inputs e inputs has reads)
     (subst (λ (is : List Input). RefusesInputs e is f) same h)
 
 -- the answer of a check
@@ -204,9 +200,8 @@ pub checks_files : {File : Type 0} (r : Result Answer Fault) (files : Text → K
 checks_files (Ok a) files left_of device_of c v name e inputs given is named has reads same all h =
     record {
       version = v;
-      is_version = is;
       name = name;
-      is_name = named;
+      asked = record { version = is; name = named };
       environment = e;
       has_environment = has;
       inputs = inputs;
@@ -224,7 +219,8 @@ pub check_refused : {A File : Type 0} (r : Result A Fault) (files : Text → Kno
     IfErr r (λ f. (f ≡ no_memory) ⊎ RefusesFiles files left_of device_of c.env c.files f)
     → IfErr r (λ f. (f ≡ no_memory) ⊎ RefusesCheck files left_of device_of c f)
 check_refused r files left_of device_of c v name is named h =
-    IfErr-weaker r _ _ (λ f refused. memory_or (by_checked v name is named) refused) h
+    IfErr-weaker r _ _
+    (λ f refused. further (by_checked v name (record { version = is; name = named })) refused) h
 
 Keeps-itself : (a : Option (List ℕ)) → Keeps a a
 Keeps-itself None = tt

@@ -94,6 +94,11 @@ pub record RefusesName (text : Text) (fault : Fault) : Type 0 where
 
 -- ---- the answer of a check
 
+-- the version and the name that a check is asked of
+pub record IsAsked (c : CheckRequest) (v : Version) (n : List ℕ) : Type 0 where
+  pub version : Reads c.version (Ok v)
+  pub name : name_of c.name ≡ Some n
+
 abbrev pub answer_line : Answer → List ℕ
 answer_line Yes = codes "yes\n"
 answer_line No = codes "no\n"
@@ -145,9 +150,8 @@ module _ {File : Type 0} (files : Text → KnownFile) (left_of : File → Option
   -- what the files demand in the environment of a file says this of the version of the package
   pub record ChecksFiles (c : CheckRequest) (answer : Answer) : Type 0 where
     pub version : Version
-    pub is_version : Reads c.version (Ok version)
     pub name : List ℕ
-    pub is_name : name_of c.name ≡ Some name
+    pub asked : IsAsked c version name
     pub environment : EnvironmentParts
     pub has_environment : ReadsEnvironment files left_of device_of c.env environment
     pub inputs : List Input
@@ -178,9 +182,8 @@ module _ {File : Type 0} (files : Text → KnownFile) (left_of : File → Option
     by_version : RefusesVersion c.version fault → RefusesCheck c fault
     by_name : (v : Version) → Reads c.version (Ok v) → RefusesName c.name fault →
         RefusesCheck c fault
-    by_checked : (v : Version) (name : List ℕ) → Reads c.version (Ok v) →
-        name_of c.name ≡ Some name
-        → RefusesFiles c.env c.files fault → RefusesCheck c fault
+    by_checked : (v : Version) (name : List ℕ) → IsAsked c v name →
+        RefusesFiles c.env c.files fault → RefusesCheck c fault
 
   -- ---- requests
 

@@ -29,6 +29,7 @@ ghost use Rattle.pep_marker.specs.Name.{IsNormalName};
 ghost use Rattle.pep_require.specs.Requirement.{IsAscending};
 ghost use Rattle.demands.specs.Table.{is_url_text};
 ghost use Rattle.pep_table.specs.TableReading.{AreItems, Front, HasNoFront, kind_front};
+ghost use Rattle.pep_table.specs.TextLines.{may_stand};
 
 use crate::read::Halt;
 use demands::{Kept, Sorted, TableFault};
@@ -44,31 +45,35 @@ pub(crate) trait LineKind {
     type Item: Kept;
 
     /// The word of the kind.
-    ghost word: { List ℕ };
+    ghost word: { Self → List ℕ };
 
     /// Holds of the texts that may stand behind it.
-    ghost is_item: { List ℕ → Type 0 };
+    ghost is_item: { Self → List ℕ → Type 0 };
 
     /// What stands in front of such a text.
-    fn front() -> &'static str
-        ensures { result.now ≡ kind_front word };
+    fn front(&self) -> &'static str
+        ensures { result.now ≡ kind_front (word self.now) };
 
     /// The item of a text, if it may stand there.
-    fn item(alloc: Global, text: &str) -> Result<Option<Self::Item>, TableFault>
+    fn item(&self, alloc: Global, text: &str) -> Result<Option<Self::Item>, TableFault>
         ensures some { IfOk result (λ r. IfSome r (λ x.
-            (Self.Item.text x ≡ text.now) × is_item text.now)) }
-        ensures none { IfOk result (λ r. r ≡ None → ¬ is_item text.now) }
+            (Self.Item.text x ≡ text.now) × is_item self.now text.now)) }
+        ensures none { IfOk result (λ r. r ≡ None → ¬ is_item self.now text.now) }
         ensures faults { IfErr result (λ e. e ≡ TableFault.NoMemory) };
 }
 
 /// The lines of extras.
-pub(crate) enum Extras {}
+#[derive(Clone, Copy)]
+pub(crate) struct Extras;
 
-/// The lines of URLs.
-pub(crate) enum Urls {}
-
-/// The lines of demanded texts.
-pub(crate) enum Texts {}
+/// Lines on which a text of its own stands.
+#[derive(Clone, Copy)]
+pub(crate) enum TextLines {
+    /// The lines of URLs.
+    Urls,
+    /// The lines of demanded texts.
+    Demanded,
+}
 
 /// The name whose text this is.
 pub(crate) fn listed_name(alloc: Global, text: &str) -> Result<Option<Name>, TableFault>
@@ -89,15 +94,15 @@ impl LineKind for Extras {
 
     type Item = Name;
 
-    ghost word = { codes "extra" };
+    ghost word = { λ _. codes "extra" };
 
-    ghost is_item = { IsNormalName };
+    ghost is_item = { λ _ text. IsNormalName text };
 
-    fn front() -> &'static str {
+    fn front(&self) -> &'static str {
         "  extra "
     }
 
-    fn item(alloc: Global, text: &str) -> Result<Option<Name>, TableFault> {
+    fn item(&self, alloc: Global, text: &str) -> Result<Option<Name>, TableFault> {
         listed_name(alloc, text)
     }
 }
@@ -128,45 +133,37 @@ fn is_demanded_text(text: &str) -> bool
     !text.is_empty() && has_demanded_bytes(text)
 }
 
-impl LineKind for Urls {
-    ghost use Rattle.std.specs.Prelude.{IsTrue, codes};
-    ghost use Rattle.demands.specs.Table.{is_url_text};
-
-    type Item = String;
-
-    ghost word = { codes "url" };
-
-    ghost is_item = { λ x. IsTrue (is_url_text x) };
-
-    fn front() -> &'static str {
-        "  url "
-    }
-
-    fn item(alloc: Global, text: &str) -> Result<Option<String>, TableFault> {
-        if is_url_text(text) {
-            Ok(Some(String::from_str(alloc, text)?))
-        } else {
-            Ok(None)
+impl TextLines {
+    // Whether the text may stand on such a line.
+    fn may_stand(&self, text: &str) -> bool
+        ensures { result ≡ may_stand self.now text.now }
+    {
+        match self {
+            TextLines::Urls => is_url_text(text),
+            TextLines::Demanded => is_demanded_text(text),
         }
     }
 }
 
-impl LineKind for Texts {
-    ghost use Rattle.std.specs.Prelude.{IsTrue, codes};
-    ghost use Rattle.specifiers.specs.Clause.{is_demanded_text};
+impl LineKind for TextLines {
+    ghost use Rattle.std.specs.Prelude.{IsTrue};
+    ghost use Rattle.pep_table.specs.TextLines.{may_stand, text_word};
 
     type Item = String;
 
-    ghost word = { codes "text" };
+    ghost word = { text_word };
 
-    ghost is_item = { λ x. IsTrue (is_demanded_text x) };
+    ghost is_item = { λ kind text. IsTrue (may_stand kind text) };
 
-    fn front() -> &'static str {
-        "  text "
+    fn front(&self) -> &'static str {
+        match self {
+            TextLines::Urls => "  url ",
+            TextLines::Demanded => "  text ",
+        }
     }
 
-    fn item(alloc: Global, text: &str) -> Result<Option<String>, TableFault> {
-        if is_demanded_text(text) {
+    fn item(&self, alloc: Global, text: &str) -> Result<Option<String>, TableFault> {
+        if self.may_stand(text) {
             Ok(Some(String::from_str(alloc, text)?))
         } else {
             Ok(None)
@@ -187,21 +184,23 @@ fn is_behind<T: Kept>(items: &[T], item: &T) -> bool
 
 /// The items of all lines of the kind in front, each of which stands behind the one before, and the
 /// text behind them.
-pub(crate) fn read_items<K: LineKind>(
+pub(crate) fn read_items<'a, K: LineKind>(
     alloc: Global,
-    text: &str,
-) -> Result<(Sorted<K::Item>, &str), Halt<'_>>
-    ensures ok { IfOk result (λ r. Front K.word text.now r.0 r.1.now × AreItems K.is_item r.0) }
+    kind: &K,
+    text: &'a str,
+) -> Result<(Sorted<K::Item>, &'a str), Halt<'a>>
+    ensures ok { IfOk result (λ r. Front (K.word kind.now) text.now r.0 r.1.now
+        × AreItems (K.is_item kind.now) r.0) }
     ensures refused { IfErr result (λ e. (e ≡ Halt.NoMemory)
-        ⊎ HasNoFront K.word (AreItems K.is_item) text.now) }
+        ⊎ HasNoFront (K.word kind.now) (AreItems (K.is_item kind.now)) text.now) }
 {
     let mut items = Vec::new(alloc);
     let mut rest = text;
-    while let Some(line) = rest.strip_prefix(K::front()) {
+    while let Some(line) = rest.strip_prefix(kind.front()) {
         let Some((item, behind)) = line.split_once('\n') else {
             return Err(Halt::At(rest));
         };
-        let Some(item) = K::item(alloc, item)? else {
+        let Some(item) = kind.item(alloc, item)? else {
             return Err(Halt::At(rest));
         };
         if !is_behind(items.as_slice(), &item) {

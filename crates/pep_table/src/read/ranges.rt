@@ -1,21 +1,7 @@
 // The lines of ranges.
 
-ghost use Rattle.std.specs.Prelude.{
-  ◌≡◌,
-  ◌⊎◌,
-  ◌↔◌,
-  ◌++◌,
-  ◌∷◌,
-  [],
-  IfErr,
-  IfOk,
-  IfSome,
-  IsTrue,
-  None,
-  Some,
-  codes,
-  map,
-};
+ghost use Rattle.std.specs.Prelude.{◌≡◌, ◌⊎◌, ◌↔◌, ◌++◌, ◌∷◌, []};
+ghost use Rattle.std.specs.Prelude.{IfErr, IfOk, IfSome, IsTrue, None, Some, codes, map};
 ghost use Rattle.pep_clause.specs.Cut.{Cut, IsCut, cut_text};
 ghost use Rattle.pep_clause.specs.VersionSet.{IsNormal, Range};
 ghost use Rattle.pep_table.specs.TableReading.{AreRanges, Front, HasNoFront, IsRange};

@@ -278,25 +278,16 @@ fn check_files<D: Folder>(
     check_bytes(alloc, inputs.as_slice(), &environment, &name, &version, pre)
 }
 
-// How an answer is printed.
-fn answer_line(answer: Answer) -> &'static str
-    ensures { result.now ≡ answer_line answer }
+// How an answer is printed, and the exit status at it.
+fn answer_printed(answer: Answer) -> (&'static str, u8)
+    ensures line { result.0.now ≡ answer_line answer }
+    ensures status { result.1 ≡ answer_status answer }
+    ensures bound { result.1 ≤ 1 }
 {
     match answer {
-        Answer::Yes => "yes\n",
-        Answer::No => "no\n",
-        Answer::Conflict => "conflict\n",
-    }
-}
-
-// The exit status at an answer.
-fn answer_status(answer: Answer) -> u8
-    ensures status { result ≡ answer_status answer }
-    ensures bound { result ≤ 1 }
-{
-    match answer {
-        Answer::Yes => 0,
-        Answer::No | Answer::Conflict => 1,
+        Answer::Yes => ("yes\n", 0),
+        Answer::No => ("no\n", 1),
+        Answer::Conflict => ("conflict\n", 1),
     }
 }
 
@@ -307,8 +298,9 @@ fn answer_reply(alloc: Global, answer: Answer) -> Result<Reply, Fault>
     ensures bound { IfOk result (λ reply. reply.status ≤ 1) }
     ensures faults { IfErr result (λ fault. fault ≡ no_memory) }
 {
+    let (line, status) = answer_printed(answer);
     Ok(Reply {
-        text: String::from_str(alloc, answer_line(answer))?,
-        status: answer_status(answer),
+        text: String::from_str(alloc, line)?,
+        status,
     })
 }

@@ -44,7 +44,8 @@ returns-in-Err-clause-refused g c =
     (line_of_read bytes c.args.read.now c.first_part.result.0.now c.args.fits far.done
     c.first_part.result.1 (c.loop-rest.number + 1) is far.split more
     (ap (λ n. n + 1) far.counted))
-    c.in-Err.ensures.refused c.line_cause.ensures.memory c.line_cause.ensures.line
+    c.in-Err.ensures.refused
+    (record { memory = c.line_cause.ensures.memory; told = c.line_cause.ensures.line })
 
 pub loop-rest-preserved : goal.loop-rest-preserved
 loop-rest-preserved g c =

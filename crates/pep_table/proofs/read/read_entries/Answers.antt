@@ -1,6 +1,5 @@
 use Rattle.std.proofs.Common.{◌≡◌, [], length, rules, subst, sym}
-use Rattle.std.proofs.lemmas.Result.{err_from_is_err_and}
-use Rattle.pep_table.proofs.ReadParts.{further}
+use Rattle.pep_table.proofs.Exits.{further, handed_on}
 use Rattle.pep_table.proofs.ReadTables.{EntriesSoFar, all_read, entry_more, no_next}
 use Rattle.pep_table.specs.EntryReading.{HasNext, HasNoNext}
 use Rattle.demands.specs.Table.{names}
@@ -11,8 +10,8 @@ returns-in_err-name-clause-refused c =
     let entries = c.loop-rest.entries.items in
     let rest = c.loop-rest.rest.now in
     let some : ¬ (rest ≡ []) = search rules in
-    let p = err_from_is_err_and c.from_residual.result c.from_residual.ensures.1 in
-    rw (p.1, p.2) (further
+    handed_on _ c.from_residual.result _ c.from_residual.ensures.1
+    (further
     (λ n. no_next c.args.text.now entries rest c.loop-rest.invariant.1 some
     (subst (λ l. HasNoNext (names l) rest) c.as_slice.ensures.value n))
     c.in_err-name.ensures.refused)

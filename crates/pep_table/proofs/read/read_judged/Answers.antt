@@ -1,13 +1,12 @@
 use Rattle.std.proofs.Common.{◌≡◌, inl, inr, rules, subst}
-use Rattle.std.proofs.lemmas.Result.{err_from_is_err_and}
-use Rattle.pep_table.proofs.ReadParts.{further}
+use Rattle.pep_table.proofs.Exits.{further, handed_on}
 use Rattle.pep_table.specs.TableText.{Shows}
 use Rattle.pep_table.proofs.read.read_judged.Goals as goal
 
 pub returns-in_err-entry-clause-refused : goal.returns-in_err-entry-clause-refused
 returns-in_err-entry-clause-refused c =
-    let p = err_from_is_err_and c.from_residual.result c.from_residual.ensures.1 in
-    rw (p.1, p.2) (further inl c.in_err-entry.ensures.refused)
+    handed_on _ c.from_residual.result _ c.from_residual.ensures.1
+    (further inl c.in_err-entry.ensures.refused)
 
 pub returns-then-ne-clause-refused : goal.returns-then-ne-clause-refused
 returns-then-ne-clause-refused c =

@@ -1,27 +1,27 @@
 use Rattle.std.proofs.Common.{subst, sym}
-use Rattle.std.proofs.lemmas.Result.{err_from_is_err_and}
-use Rattle.pep_table.proofs.ReadParts.{further, no_extras, no_ranges, no_texts, no_urls, parts_read}
+use Rattle.pep_table.proofs.Exits.{further, handed_on}
+use Rattle.pep_table.proofs.ReadParts.{no_extras, no_ranges, no_texts, no_urls, parts_read}
 use Rattle.pep_table.specs.EntryReading.{HasParts}
 use Rattle.pep_table.proofs.read.read_parts.Goals as goal
 
 pub returns-in_err-extras-clause-refused : goal.returns-in_err-extras-clause-refused
 returns-in_err-extras-clause-refused c =
-    let p = err_from_is_err_and c.from_residual.result c.from_residual.ensures.1 in
-    rw (p.1, p.2) (further (no_extras c.args.text.now) c.in_err-extras.ensures.refused)
+    handed_on _ c.from_residual.result _ c.from_residual.ensures.1
+    (further (no_extras c.args.text.now) c.in_err-extras.ensures.refused)
 
 pub returns-in_err-urls-clause-refused : goal.returns-in_err-urls-clause-refused
 returns-in_err-urls-clause-refused c =
     let (front, are) = c.in_ok-extras.ensures.ok in
-    let p = err_from_is_err_and c.from_residual-in_err-urls.result c.from_residual-in_err-urls.ensures.1 in
-    rw (p.1, p.2) (further (no_urls c.args.text.now c.in_ok-extras.extras c.in_ok-extras.rest.now front are)
+    handed_on _ c.from_residual-in_err-urls.result _ c.from_residual-in_err-urls.ensures.1
+    (further (no_urls c.args.text.now c.in_ok-extras.extras c.in_ok-extras.rest.now front are)
     c.in_err-urls.ensures.refused)
 
 pub returns-in_err-texts-clause-refused : goal.returns-in_err-texts-clause-refused
 returns-in_err-texts-clause-refused c =
     let (front, are) = c.in_ok-extras.ensures.ok in
     let (urls, are_urls) = c.in_ok-urls.ensures.ok in
-    let p = err_from_is_err_and c.from_residual-in_err-texts.result c.from_residual-in_err-texts.ensures.1 in
-    rw (p.1, p.2) (further (no_texts c.args.text.now c.in_ok-extras.extras c.in_ok-extras.rest.now front are
+    handed_on _ c.from_residual-in_err-texts.result _ c.from_residual-in_err-texts.ensures.1
+    (further (no_texts c.args.text.now c.in_ok-extras.extras c.in_ok-extras.rest.now front are
     c.in_ok-urls.urls c.in_ok-urls.rest.now urls are_urls) c.in_err-texts.ensures.refused)
 
 pub returns-in_err-versions-clause-refused : goal.returns-in_err-versions-clause-refused
@@ -29,8 +29,8 @@ returns-in_err-versions-clause-refused c =
     let (front, are) = c.in_ok-extras.ensures.ok in
     let (urls, are_urls) = c.in_ok-urls.ensures.ok in
     let (texts, are_texts) = c.in_ok-texts.ensures.ok in
-    let p = err_from_is_err_and c.from_residual-in_err-versions.result c.from_residual-in_err-versions.ensures.1 in
-    rw (p.1, p.2) (further (no_ranges c.args.text.now c.in_ok-extras.extras c.in_ok-extras.rest.now front are
+    handed_on _ c.from_residual-in_err-versions.result _ c.from_residual-in_err-versions.ensures.1
+    (further (no_ranges c.args.text.now c.in_ok-extras.extras c.in_ok-extras.rest.now front are
     c.in_ok-urls.urls c.in_ok-urls.rest.now urls are_urls c.in_ok-texts.texts
     c.in_ok-texts.rest.now texts are_texts) c.in_err-versions.ensures.refused)
 

@@ -14,7 +14,7 @@ use Rattle.pep_table.proofs.read.items.read_items.Goals.{In-Some, In-Some-split_
 
 -- a line of the kind stands in front
 line_front : (g : given.Over) (c : In-Some g) →
-    c.loop-line.rest.now ≡ kind_front g.K.LineKind.word ++ c.in-Some.line.now
+    c.loop-line.rest.now ≡ kind_front (g.K.LineKind.word c.args.kind.now) ++ c.in-Some.line.now
 line_front g c =
     let line = c.in-Some.line.now in
     let begins : c.loop-line.rest.now ≡ c.front.result.now ++ line = search rules in
@@ -22,7 +22,7 @@ line_front g c =
 
 -- .. with the item's text, up to the first feed
 line_cut : (g : given.Over) (c : In-Some-split_once g) →
-    (c.loop-line.rest.now ≡ kind_front g.K.LineKind.word
+    (c.loop-line.rest.now ≡ kind_front (g.K.LineKind.word c.args.kind.now)
     ++ (c.in-Some-split_once.item.now ++ 10 ∷ c.in-Some-split_once.behind.now))
     × HasNoFeed c.in-Some-split_once.item.now
 line_cut g c =
@@ -32,7 +32,7 @@ line_cut g c =
     c.in-Some-split_once.ensures.cases (lit< tt) in
     let begins : c.loop-line.rest.now ≡ c.front.result.now ++ line = search rules in (
       begins ∙ ap (λ f. f ++ line) c.front.ensures
-          ∙ ap (λ l. kind_front g.K.LineKind.word ++ l) cut.0,
+          ∙ ap (λ l. kind_front (g.K.LineKind.word c.args.kind.now) ++ l) cut.0,
       all_but_at 10 c.in-Some-split_once.item.now cut.1,
     )
 
@@ -42,23 +42,24 @@ returns-in_default-split_once-clause-refused g c =
     let at = goal.at.returns-in_default-split_once-clause-refused g c in
     let line = c.in-Some.line.now in
     let off = split_parts 10 line None c.in_default-split_once.ensures.cases (lit< tt) in
-    inr (no_end g.K.LineKind.word (AreItems g.K.LineKind.is_item) (items_fit g.K.LineKind.is_item)
+    let is_item = g.K.LineKind.is_item c.args.kind.now in
+    inr (no_end (g.K.LineKind.word c.args.kind.now) (AreItems is_item) (items_fit is_item)
     c.args.text.now _ c.loop-line.rest.now c.loop-line.invariant.1 line (line_front g at.In-Some)
     (all_but_at 10 line off))
 
 pub returns-in_default-2-clause-refused : goal.returns-in_default-2-clause-refused
 returns-in_default-2-clause-refused g c =
-    let is_item = g.K.LineKind.is_item in
+    let is_item = g.K.LineKind.is_item c.args.kind.now in
     let cut = line_cut g (goal.at.returns-in_default-2-clause-refused g c).In-Some-split_once in
     let item = c.in-Some-split_once.item.now in
     let none : ¬ is_item item = search rules in
-    inr (bad_item g.K.LineKind.word (AreItems is_item) (items_fit is_item) c.args.text.now _
-    c.loop-line.rest.now c.loop-line.invariant.1 item c.in-Some-split_once.behind.now cut.0 cut.1
-    (λ h. none (last_item is_item _ item h)))
+    inr (bad_item (g.K.LineKind.word c.args.kind.now) (AreItems is_item) (items_fit is_item)
+    c.args.text.now _ c.loop-line.rest.now c.loop-line.invariant.1 item
+    c.in-Some-split_once.behind.now cut.0 cut.1 (λ h. none (last_item is_item _ item h)))
 
 pub returns-then-not-is_behind-clause-refused : goal.returns-then-not-is_behind-clause-refused
 returns-then-not-is_behind-clause-refused g c =
-    let is_item = g.K.LineKind.is_item in
+    let is_item = g.K.LineKind.is_item c.args.kind.now in
     let at = goal.at.returns-then-not-is_behind-clause-refused g c in
     let cut = line_cut g at.In-Some-split_once in
     let item = c.in-Some-split_once.item.now in
@@ -66,14 +67,14 @@ returns-then-not-is_behind-clause-refused g c =
     let told : ¬ IsAscending (xs ++ g.K.Item.Kept.text c.in-Some-2.item ∷ []) = search rules in
     let same : g.K.Item.Kept.text c.in-Some-2.item ≡ item = search rules in
     let falls = subst (λ t. ¬ IsAscending (xs ++ t ∷ [])) same told in
-    inr (bad_item g.K.LineKind.word (AreItems is_item) (items_fit is_item) c.args.text.now xs
-    c.loop-line.rest.now c.loop-line.invariant.1 item c.in-Some-split_once.behind.now cut.0 cut.1
-    (λ h. falls h.0))
+    inr (bad_item (g.K.LineKind.word c.args.kind.now) (AreItems is_item) (items_fit is_item)
+    c.args.text.now xs c.loop-line.rest.now c.loop-line.invariant.1 item
+    c.in-Some-split_once.behind.now cut.0 cut.1 (λ h. falls h.0))
 
 pub loop-line-preserved : goal.loop-line-preserved
 loop-line-preserved g c =
-    let word = g.K.LineKind.word in
-    let is_item = g.K.LineKind.is_item in
+    let word = g.K.LineKind.word c.args.kind.now in
+    let is_item = g.K.LineKind.is_item c.args.kind.now in
     let cut = line_cut g (goal.at.loop-line-preserved g c).In-Some-split_once in
     let item = c.in-Some-split_once.item.now in
     let behind = c.in-Some-split_once.behind.now in
@@ -83,8 +84,8 @@ loop-line-preserved g c =
     let same : text c.in-Some-2.item ≡ item = search rules in
     let rises = subst (λ t. IsAscending (xs ++ t ∷ [])) same told in
     let is : is_item item = search rules in
-    let more = item_more word (AreItems is_item) (items_fit is_item) c.args.text.now xs
-    c.loop-line.rest.now c.loop-line.invariant.1 item behind cut.0 cut.1 (
+    let more = item_more word (AreItems is_item) (items_fit is_item)
+    c.args.text.now xs c.loop-line.rest.now c.loop-line.invariant.1 item behind cut.0 cut.1 (
       rises,
       All-push (λ t. is_item t × HasNoFeed t) xs item c.loop-line.invariant.1.items.1 (is, cut.1),
     ) in
@@ -98,8 +99,8 @@ loop-line-preserved g c =
 
 pub returns-clause-ok : goal.returns-clause-ok
 returns-clause-ok g c =
-    let word = g.K.LineKind.word in
-    let is_item = g.K.LineKind.is_item in
+    let word = g.K.LineKind.word c.args.kind.now in
+    let is_item = g.K.LineKind.is_item c.args.kind.now in
     let rest = c.loop-line.rest.now in
     let xs = map g.K.Item.Kept.text c.loop-line.items.items in
     let none : (l : List ℕ) → ¬ (rest ≡ c.front.result.now ++ l) = search rules in
