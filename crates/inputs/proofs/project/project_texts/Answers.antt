@@ -25,14 +25,15 @@ has_project c = record {
 pub returns-in_default-clause-refused : goal.returns-in_default-clause-refused
 returns-in_default-clause-refused c =
     inr (project_missing c.args.extra.now (table_view c.args.document.now)
-    (at_no_key (codes "project") _ c.get.result c.in_default.is
+    (at_no_key (codes "project") (table_view c.args.document.now) c.get.result c.in_default.is
     (table_get c.get.result (codes "project") c.args.document.now.entries c.get.ensures.value)))
 
 pub returns-in_default-as_table-clause-refused : goal.returns-in_default-as_table-clause-refused
 returns-in_default-as_table-clause-refused c =
     let none : as_table (view c.in-Some.found.now) ≡ None = search rules in
     inr (project_no_table c.args.extra.now (table_view c.args.document.now) _
-    (at_key (codes "project") _ c.get.result c.in-Some.found c.in-Some.is
+    (at_key (codes "project") (table_view c.args.document.now) c.get.result c.in-Some.found
+    c.in-Some.is
     (table_get c.get.result (codes "project") c.args.document.now.entries c.get.ensures.value))
     none)
 
