@@ -16,7 +16,6 @@ use Rattle.clap.specs.Words.{rows_of, rule_of, subcommand_of}
 use Rattle.clap.specs.Words.{subcommand_rows_of, with_rule, with_subcommand}
 use Rattle.clap.specs.declared.builder.arg.Arg.{Arg}
 use Rattle.clap.specs.declared.builder.command.Command.{Command}
-use Rattle.clap.specs.declared.builder.command.Command.TheViews.{out-Command}
 use Rattle.clap.specs.declared.error.Error.{Error}
 use Rattle.clap.specs.declared.error.kind.ErrorKind.TheVariants.{OutOfMemory}
 use Rattle.clap.specs.declared.parser.matches.ArgMatches.{ArgMatches}
@@ -24,14 +23,10 @@ use Rattle.clap.specs.declared.parser.matches.Found.{Found}
 use Rattle.faults.specs.declared.fault.Fault.{Fault}
 use Rattle.command_line.specs.declared.plan.Plan.{Plan}
 use Rattle.faults.specs.NoMemory.{no_memory}
-use Rattle.command_line.specs.Plan.{AskNothing, Asks, IsBadWords, Request, flag_of, program}
+use Rattle.command_line.specs.Plan.{AskNothing, Asks, IsBadWords, IsLocal, Request, flag_of, program}
 use Rattle.command_line.specs.Plan.{request, request_of}
 
 -- ---- the command
-
--- the command is this one, and has no global argument
-abbrev pub IsLocal : Command → App → Type 0
-IsLocal c app = (app_of c ≡ app) × ((out-Command c).has_globals ≡ false)
 
 program_simple : is_simple_and_free program ≡ true
 unfolding clap_on_literals
@@ -51,10 +46,9 @@ more_arguments old new a app rule adds is same local = (
 
 -- A command with one subcommand more.
 pub more_commands : (old new sub : Command) (app : App) (sub_app : App) → AddsSubcommand old sub new
-    → app_of old ≡ app → app_of sub ≡ sub_app → (out-Command sub).has_globals ≡ false →
-    app_of new ≡ with_subcommand app sub_app.top
-more_commands old new sub app sub_app adds is sub_is local =
-    adds.shape local ∙ ap₂ with_subcommand is (ap (λ (a : App). a.top) sub_is)
+    → app_of old ≡ app → IsLocal sub sub_app → app_of new ≡ with_subcommand app sub_app.top
+more_commands old new sub app sub_app adds is own =
+    adds.shape own.1 ∙ ap₂ with_subcommand is (ap (λ (a : App). a.top) own.0)
 
 -- ---- what the getters say
 

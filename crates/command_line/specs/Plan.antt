@@ -7,10 +7,12 @@ use Rattle.std.specs.Option.{option_map_or}
 use Rattle.std.specs.Str.{bytes_eq}
 use Rattle.clap.specs.Lexer.{usize_max}
 use Rattle.clap.specs.Simple.{on_top}
-use Rattle.clap.specs.Words.{App, Row, Rule, all_of, fault_of, first_of, new_app, new_rule}
+use Rattle.clap.specs.Words.{App, Row, Rule, all_of, app_of, fault_of, first_of, new_app, new_rule}
 pub use Rattle.clap.specs.Words.{Text}
 use Rattle.clap.specs.Words.{one_of, subcommand_of, with_rule, with_subcommand}
 use Rattle.clap.specs.declared.builder.ArgAction.TheVariants.{Append, Set, SetTrue}
+use Rattle.clap.specs.declared.builder.command.Command.{Command}
+use Rattle.clap.specs.declared.builder.command.Command.TheViews.{out-Command}
 use Rattle.faults.specs.declared.fault.Cause.{Cause}
 use Rattle.faults.specs.declared.fault.Cause.TheVariants as cause
 use Rattle.faults.specs.declared.fault.Fault.{Fault}
@@ -62,6 +64,10 @@ abbrev pub check_command : App
 check_command =
     command_with (codes "check") (environment_option ∷ pre_flag ∷ text_argument (codes "NAME")
     ∷ text_argument (codes "VERSION") ∷ files_argument ∷ [])
+
+-- the command is this one, and has no global argument
+abbrev pub IsLocal : Command → App → Type 0
+IsLocal c app = (app_of c ≡ app) × ((out-Command c).has_globals ≡ false)
 
 -- the program without its commands: one is wanted, and its own name is not among the words
 abbrev pub bare_program : App

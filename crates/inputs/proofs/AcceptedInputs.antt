@@ -9,7 +9,7 @@ use Rattle.pep_require.proofs.LineLaws.{one_requirement}
 use Rattle.pep_require.specs.Reads.{Reads}
 use Rattle.pep_require.specs.Requirement.{HasDefinedMarker}
 use Rattle.pep_require.specs.Requirement.{RequirementParts}
-use Rattle.pep_table.proofs.SameDemands.{same_demands}
+use Rattle.pep_table.proofs.SameDemands.{same_demands, with_nothing}
 use Rattle.pep_table.proofs.Taking.{applying_is_table, no_demands, of_nothing}
 use Rattle.demands.specs.Demand.{ApplyingDemands, Demand, Demands, Together}
 use Rattle.demands.specs.Gathering.{TakesApplying}
@@ -24,6 +24,7 @@ use Rattle.inputs.specs.declared.input.Kind.{Kind}
 use Rattle.inputs.specs.declared.input.Kind.TheVariants as kind
 use Rattle.inputs.specs.GatheredLines.{GathersInputs}
 use Rattle.inputs.specs.Gathered.{AcceptsBytes, BytesDemand, Gathered, IsAccepted}
+use Rattle.inputs.specs.Streams.{ReadsDefined}
 use Rattle.inputs.specs.Lists.{HoldsTable, IsListBy, IsRequirementList, Lists, content}
 use Rattle.inputs.specs.Lists.{requirement_lines}
 use Rattle.inputs.specs.Refusal.{IsOverflow, IsRefused, IsUndefinedList}
@@ -33,10 +34,6 @@ use Rattle.inputs.proofs.ListLemmas.{line_of_list, refused_list}
 use Rattle.inputs.proofs.Projects.{one_project, refused_project, undefined_project}
 
 -- ---- refused inputs are not accepted
-
--- what a line is read as, with a marker that is defined
-abbrev ReadsDefined : EnvironmentParts → List ℕ → RequirementParts → Type 0
-ReadsDefined e x r = Reads x r × HasDefinedMarker e r
 
 zip_defined : (e : EnvironmentParts) (xs : List (List ℕ)) (rs : List RequirementParts) →
     AllZip Reads xs rs → All (HasDefinedMarker e) rs → AllZip (ReadsDefined e) xs rs
@@ -76,7 +73,7 @@ refused_table bytes c t (by_encoding size not is) file =
     not (table_utf8 t bytes file.valid file.text)
 refused_table bytes c t (by_text line size text none is) file = none t file.valid file.text
 
-refused_bytes : (e : EnvironmentParts) (k : Kind) (bytes : List ℕ) (c : Cause) → ¬ IsOverflow c →
+pub refused_bytes : (e : EnvironmentParts) (k : Kind) (bytes : List ℕ) (c : Cause) → ¬ IsOverflow c →
     IsRefused e k bytes c → ¬ AcceptsBytes e k bytes
 refused_bytes e kind.List bytes c told (inl h) (inl a) = refused_list bytes c a.0 told h a.1
 refused_bytes e kind.List bytes c told (inr h) (inl a) = undefined_list e bytes c a.0 h a.1 a.2
@@ -95,7 +92,7 @@ refused_in e i c told h = refused_bytes e i.kind i.bytes.items c told h
 
 -- ---- inputs that are taken are accepted
 
-defined_all : (e : EnvironmentParts) (old : TableParts) (rs : List RequirementParts)
+pub defined_all : (e : EnvironmentParts) (old : TableParts) (rs : List RequirementParts)
     (new : TableParts) → TakesApplying e old rs new → All (HasDefinedMarker e) rs
 defined_all e old [] new t = All-nil (HasDefinedMarker e)
 defined_all e old (r ∷ rs) new t =
@@ -137,7 +134,7 @@ holds_valid kind.List bytes t h = absurd h
 holds_valid kind.Project bytes t h = absurd h
 holds_valid kind.Table bytes t h = h.valid
 
-bytes_demand_in : (e : EnvironmentParts) (k : Kind) (bytes : List ℕ) (rs : List RequirementParts)
+pub bytes_demand_in : (e : EnvironmentParts) (k : Kind) (bytes : List ℕ) (rs : List RequirementParts)
     (name : List ℕ) (d : Demand) → Lists (extra_in e) k bytes rs →
     ApplyingDemands e rs name d ↔ BytesDemand e k bytes name d
 bytes_demand_in e k bytes rs name d is = (λ h. inl (rs, is, h), back)
@@ -156,14 +153,6 @@ table_demands_in e k bytes t name d is = (λ h. inr (t, is, h), back)
     back (inl h) = absurd (apart (extra_in e) k bytes h.0 t h.1 is)
     back (inr h) = subst (λ (s : TableParts). TableDemands s name d)
         (one_table_in k bytes h.0 t h.1 is) h.2
-
-none_more : (e : EnvironmentParts) (Q : Demands) (name : List ℕ) (d : Demand) →
-    Q name d ↔ Together Q (Gathered e []) name d
-none_more e Q name d = ((λ q. inl q), back)
-  where
-    back : Q name d ⊎ Gathered e [] name d → Q name d
-    back (inl q) = q
-    back (inr never) = absurd never
 
 input_more : (e : EnvironmentParts) (Q : Demands) (i : Input) (inputs : List Input)
     (own : Demands) (name : List ℕ) (d : Demand) →
@@ -189,7 +178,8 @@ inputs_table : (e : EnvironmentParts) (Q : Demands) (inputs : List Input) (old n
     IsTable (Together Q (Gathered e inputs)) new
     × HasExactPoints (Together Q (Gathered e inputs)) new
 inputs_table e Q [] old new t p g =
-    same_demands Q (Together Q (Gathered e [])) new (none_more e Q) (subst (IsTable Q) g t)
+    same_demands Q (Together Q (Gathered e [])) new
+    (with_nothing Q (Gathered e []) (λ name d never. never)) (subst (IsTable Q) g t)
     (subst (HasExactPoints Q) g p)
 inputs_table e Q (i ∷ inputs) old new t p (mid, inl (rs, is, takes), more) =
     let own = ApplyingDemands e rs in

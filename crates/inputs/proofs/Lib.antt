@@ -9,10 +9,13 @@ pub mod EnvironmentPairs
 pub mod ListLemmas
 pub mod MergeLemmas
 pub mod LineTexts
+pub mod Pieces
 pub mod TakenLines
 pub mod TakenTexts
+pub mod StreamLemmas
 pub mod AcceptedInputs
 pub mod GatheredLists
+pub mod GatheredSource
 pub mod SameInputs
 pub mod TableFileLemmas
 pub mod PrintedInputs

@@ -6,21 +6,9 @@ use Rattle.faults.specs.declared.fault.Fault.{Fault}
 use Rattle.faults.specs.declared.fault.Place.{Place}
 use Rattle.inputs.specs.Refusal.{no_memory}
 
-memory_or_other : (c : Cause) → (c ≡ cause.NoMemory) ⊎ (c ≢ cause.NoMemory)
+pub memory_or_other : (c : Cause) → (c ≡ cause.NoMemory) ⊎ (c ≢ cause.NoMemory)
 memory_or_other cause.NoMemory = inl refl
-memory_or_other cause.NotUtf8 = inr (λ e. cc e)
-memory_or_other cause.NotToml = inr (λ e. cc e)
-memory_or_other cause.NoProject = inr (λ e. cc e)
-memory_or_other cause.Dynamic = inr (λ e. cc e)
-memory_or_other cause.WrongShape = inr (λ e. cc e)
-memory_or_other cause.TooLarge = inr (λ e. cc e)
-memory_or_other (cause.Line n f) = inr (λ e. cc e)
-memory_or_other cause.ReadFault = inr (λ e. cc e)
-memory_or_other (cause.BadEnvironment f) = inr (λ e. cc e)
-memory_or_other (cause.BadWords x) = inr (λ e. cc e)
-memory_or_other (cause.BadArgument f) = inr (λ e. cc e)
-memory_or_other cause.WriteFault = inr (λ e. cc e)
-memory_or_other cause.NoRequirements = inr (λ e. cc e)
+memory_or_other c = inr (λ e. cc e)
 
 -- what is true of the cause, unless it is want of memory, is true of the fault in its place
 pub placed : (P : Cause → Type 0) (p : Place) (c : Cause) (f : Fault) →

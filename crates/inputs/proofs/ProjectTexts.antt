@@ -65,31 +65,38 @@ pub project_missing : (extra : List ℕ) (document : Members) →
     project_texts extra document ≡ Err cause.NoProject
 project_missing extra document e = rw e refl
 
-module _ (extra : List ℕ) (document : Members) (d : Data)
-    (found : get_member (codes "project") document ≡ Some d) where
-  pub project_no_table : as_table d ≡ None → project_texts extra document ≡ Err cause.WrongShape
-  project_no_table e = rw (found, e) refl
+pub project_no_table : (extra : List ℕ) (document : Members) (d : Data) →
+    get_member (codes "project") document ≡ Some d → as_table d ≡ None →
+    project_texts extra document ≡ Err cause.WrongShape
+project_no_table extra document d found e = rw (found, e) refl
 
-  module _ (project : Members) (table : as_table d ≡ Some project) where
-    pub project_dynamic : (c : Cause) → checks_dynamic extra project ≡ Err c →
-        project_texts extra document ≡ Err c
-    project_dynamic c e = rw (found, table, e) refl
+-- the document has this table at `project`
+pub record HasProject (document project : Members) : Type 0 where
+  pub value : Data
+  pub found : get_member (codes "project") document ≡ Some value
+  pub is_table : as_table value ≡ Some project
 
-    pub no_dependencies : (c : Cause) → checks_dynamic extra project ≡ Ok tt →
-        texts_at (codes "dependencies") project ≡ Err c → project_texts extra document ≡ Err c
-    no_dependencies c static e = rw (found, table, static, e) refl
+module _ (extra : List ℕ) (document project : Members) (has : HasProject document project) where
+  pub project_dynamic : (c : Cause) → checks_dynamic extra project ≡ Err c →
+      project_texts extra document ≡ Err c
+  project_dynamic c e = rw (has.found, has.is_table, e) refl
 
-    pub bad_extras : (c : Cause) (xs : List (List ℕ)) → checks_dynamic extra project ≡ Ok tt →
-        texts_at (codes "dependencies") project ≡ Ok xs →
-        extras_at (codes "optional-dependencies") project ≡ Err c →
-        project_texts extra document ≡ Err c
-    bad_extras c xs static texts e = rw (found, table, static, texts, e) refl
+  pub no_dependencies : (c : Cause) → checks_dynamic extra project ≡ Ok tt →
+      texts_at (codes "dependencies") project ≡ Err c → project_texts extra document ≡ Err c
+  no_dependencies c static e = rw (has.found, has.is_table, static, e) refl
 
-    pub project_whole : (xs ys : List (List ℕ)) → checks_dynamic extra project ≡ Ok tt →
-        texts_at (codes "dependencies") project ≡ Ok xs →
-        HasExtraTexts (extras_at (codes "optional-dependencies") project) (normalized extra) ys →
-        project_texts extra document ≡ Ok (xs ++ ys)
-    project_whole xs ys static texts h = rw (found, table, static, texts, h.1, h.2) refl
+  pub bad_extras : (c : Cause) (xs : List (List ℕ)) → checks_dynamic extra project ≡ Ok tt →
+      texts_at (codes "dependencies") project ≡ Ok xs →
+      extras_at (codes "optional-dependencies") project ≡ Err c →
+      project_texts extra document ≡ Err c
+  bad_extras c xs static texts e = rw (has.found, has.is_table, static, texts, e) refl
+
+  pub project_whole : (xs ys : List (List ℕ)) → checks_dynamic extra project ≡ Ok tt →
+      texts_at (codes "dependencies") project ≡ Ok xs →
+      HasExtraTexts (extras_at (codes "optional-dependencies") project) (normalized extra) ys →
+      project_texts extra document ≡ Ok (xs ++ ys)
+  project_whole xs ys static texts h =
+      rw (has.found, has.is_table, static, texts, h.1, h.2) refl
 
 -- ---- the extras at a key
 
@@ -145,7 +152,3 @@ texts_refused extra bytes document texts given (Err c) e f same (inl memory) = i
 texts_refused extra bytes document texts given (Err c) e f same (inr h) =
     inr (by_text (lent_texts texts) (project_file-ok extra bytes document (lent_texts texts) e f)
     (subst (λ l. IsRefusedText (lent_texts l) c) same h))
-
-pub or_then : {P Q R : Type 0} → (Q → R) → P ⊎ Q → P ⊎ R
-or_then f (inl p) = inl p
-or_then f (inr q) = inr (f q)

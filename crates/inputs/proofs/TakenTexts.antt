@@ -53,34 +53,36 @@ list_read parts bytes old new none t =
 
 -- a line whose text is refused as a requirement is refused
 refused_text : {refuses : List ℕ → LineFault → Type 0} (bytes : List ℕ) (c : Cause)
-    (h : RefusesTextOf refuses bytes c) → RefusesText h.text h.fault →
+    (h : RefusesTextOf refuses bytes c) → RefusesText h.refused.text h.fault →
     (c ≡ cause.NoMemory) ⊎ IsRefusedList bytes c
-refused_text bytes c h (inl memory) = inl (h.memory memory)
+refused_text bytes c h (inl memory) = inl (h.is.memory memory)
 refused_text bytes c h (inr (g, is, refuses)) = by (known g)
   where
     by : (g ≡ require.NoMemory) ⊎ (g ≢ require.NoMemory) →
         (c ≡ cause.NoMemory) ⊎ IsRefusedList bytes c
-    by (inl memory) = inl (h.memory (is ∙ ap line_fault.Requirement memory))
+    by (inl memory) = inl (h.is.memory (is ∙ ap line_fault.Requirement memory))
     by (inr other) =
         let refused : IsRefusedLine h.line h.fault =
-        by_content g h.has.short h.has.encoded h.has.text.0 other
-        (subst (λ t. RefusesLine t g) h.has.text.1 refuses) is in
+        by_content g h.refused.has.short h.refused.has.encoded h.refused.has.text.0 other
+        (subst (λ t. RefusesLine t g) h.refused.has.text.1 refuses) is in
         inr (by_line h.number h.line h.fault h.numbered refused
-        (h.told (line_known h.line h.fault refused)))
+        (h.is.told (line_known h.line h.fault refused)))
 
 -- why a list is refused ..
 pub list_refused : (bytes : List ℕ) (c : Cause) → RefusesList RefusesText bytes c →
     (c ≡ cause.NoMemory) ⊎ IsRefusedList bytes c
-list_refused bytes c (inl h) = inr h
-list_refused bytes c (inr h) = refused_text bytes c h h.refused
+list_refused bytes c (inl memory) = inl memory
+list_refused bytes c (inr (inl h)) = inr h
+list_refused bytes c (inr (inr h)) = refused_text bytes c h h.refused.refused
 
 -- .. in an environment
 pub list_refused_in : (e : EnvironmentParts) (bytes : List ℕ) (c : Cause) →
     RefusesList (RefusesTextIn e) bytes c → RefusesAsInput e kind.List bytes c
-list_refused_in e bytes c (inl h) = inr (inl h)
-list_refused_in e bytes c (inr h) = by h.refused
+list_refused_in e bytes c (inl memory) = inl memory
+list_refused_in e bytes c (inr (inl h)) = inr (inl h)
+list_refused_in e bytes c (inr (inr h)) = by h.refused.refused
   where
-    by : RefusesTextIn e h.text h.fault → RefusesAsInput e kind.List bytes c
+    by : RefusesTextIn e h.refused.text h.fault → RefusesAsInput e kind.List bytes c
     by (inl refuses) = elim (refused_text bytes c h refuses) [
       | inl memory ↦ inl memory
       | inr refused ↦ inr (inl refused)
@@ -90,14 +92,14 @@ list_refused_in e bytes c (inr h) = by h.refused
       line = h.line;
       numbered = h.numbered;
       undefined = record {
-        short = h.has.short;
-        text = h.has.encoded;
-        kept = h.has.text.0;
+        short = h.refused.has.short;
+        text = h.refused.has.encoded;
+        kept = h.refused.has.text.0;
         requirement = r;
-        reads = subst (λ t. Reads t r) h.has.text.1 reads;
+        reads = subst (λ t. Reads t r) h.refused.has.text.1 reads;
         undefined = undefined;
       };
-      is = h.told (λ memory. cc (is, memory)) ∙ ap (cause.Line h.number) is;
+      is = h.is.told (λ memory. cc (is, memory)) ∙ ap (cause.Line h.number) is;
     }))
 
 -- ---- what they demand

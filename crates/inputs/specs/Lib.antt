@@ -11,4 +11,5 @@ pub mod Merge
 pub mod LineReading
 pub mod TakenTexts
 pub mod GatheredLines
+pub mod Streams
 pub mod ListedText

@@ -30,9 +30,13 @@ content line = without_outer_blanks (strip_carriage_return line)
 abbrev pub is_skipped : List ℕ → Bool
 is_skipped x = length x == 0 || begins (λ b. b == 35) x
 
+-- the texts of the requirements on lines, of which some are skipped
+abbrev pub requirements_among : List (List ℕ) → List (List ℕ)
+requirements_among lines = filter (λ x. not (is_skipped x)) (map content lines)
+
 -- the lines that are requirements
 abbrev pub requirement_lines : List ℕ → List (List ℕ)
-requirement_lines bytes = filter (λ x. not (is_skipped x)) (map content (lines_of bytes))
+requirement_lines bytes = requirements_among (lines_of bytes)
 
 -- the bytes are a list of these requirements, one a line, by what a line is read as
 pub record IsListBy (reads : List ℕ → RequirementParts → Type 0) (bytes : List ℕ)

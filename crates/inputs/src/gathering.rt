@@ -34,9 +34,9 @@ use std::alloc::Global;
 
 // Takes each text as a requirement, whose demands count if it applies in the environment.
 #[derive(Drop)]
-struct DemandTaker<'a> {
-    alloc: Global,
-    environment: &'a Environment,
+pub(crate) struct DemandTaker<'a> {
+    pub(crate) alloc: Global,
+    pub(crate) environment: &'a Environment,
 }
 
 impl Taker for DemandTaker<'_> {
@@ -58,17 +58,34 @@ impl Taker for DemandTaker<'_> {
     }
 }
 
-// What is demanded so far and by a list.
-fn take_list(
-    alloc: Global,
-    gathering: Gathering,
-    bytes: &[u8],
-    environment: &Environment,
-) -> Result<Gathering, Cause>
-    ensures ok { IfOk result (GathersBytes environment.now Kind.List bytes.now gathering) }
-    ensures refused { IfErr result (RefusesAsInput environment.now Kind.List bytes.now) }
-{
-    take_lines(&DemandTaker { alloc, environment }, gathering, bytes)
+impl DemandTaker<'_> {
+    // What is demanded so far and by a list.
+    fn take_list(&self, gathering: Gathering, bytes: &[u8]) -> Result<Gathering, Cause>
+        ensures ok { IfOk result
+            (GathersBytes self.now.environment.now Kind.List bytes.now gathering) }
+        ensures refused { IfErr result
+            (RefusesAsInput self.now.environment.now Kind.List bytes.now) }
+    {
+        take_lines(self.alloc, self, gathering, bytes)
+    }
+
+    // What is demanded so far and by a project file, of which all texts are read before a marker is
+    // judged.
+    fn take_project(&self, gathering: Gathering, bytes: &[u8]) -> Result<Gathering, Cause>
+        ensures ok { IfOk result
+            (GathersBytes self.now.environment.now Kind.Project bytes.now gathering) }
+        ensures refused { IfErr result
+            (RefusesAsInput self.now.environment.now Kind.Project bytes.now) }
+    {
+        let extra = self.environment.value("extra").unwrap_or("");
+        let requirements = project_requirements(self.alloc, bytes, extra)?;
+        take_requirements(
+            self.alloc,
+            gathering,
+            requirements.as_slice(),
+            self.environment,
+        )
+    }
 }
 
 // What is demanded so far and by requirements, each judged in its turn.
@@ -94,22 +111,6 @@ fn take_requirements(
         };
     }
     Ok(gathering)
-}
-
-// What is demanded so far and by a project file, of which all texts are read before a marker is
-// judged.
-fn take_project(
-    alloc: Global,
-    gathering: Gathering,
-    bytes: &[u8],
-    environment: &Environment,
-) -> Result<Gathering, Cause>
-    ensures ok { IfOk result (GathersBytes environment.now Kind.Project bytes.now gathering) }
-    ensures refused { IfErr result (RefusesAsInput environment.now Kind.Project bytes.now) }
-{
-    let extra = environment.value("extra").unwrap_or("");
-    let requirements = project_requirements(alloc, bytes, extra)?;
-    take_requirements(alloc, gathering, requirements.as_slice(), environment)
 }
 
 // What is demanded so far and by a table file.
@@ -139,9 +140,10 @@ fn take_input(
         input.now.bytes.items) }
 {
     let bytes = input.bytes.as_slice();
+    let taker = DemandTaker { alloc, environment };
     match input.kind {
-        Kind::List => take_list(alloc, gathering, bytes, environment),
-        Kind::Project => take_project(alloc, gathering, bytes, environment),
+        Kind::List => taker.take_list(gathering, bytes),
+        Kind::Project => taker.take_project(gathering, bytes),
         Kind::Table => take_table(alloc, gathering, bytes),
     }
 }

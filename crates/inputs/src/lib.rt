@@ -10,6 +10,7 @@ mod lines;
 mod list;
 mod merge;
 mod project;
+mod stream;
 mod table_file;
 
 pub use crate::environment_file::environment_of;
@@ -18,3 +19,4 @@ pub use crate::input::{Input, Kind};
 pub use crate::list::{lines_text, list_of};
 pub use crate::merge::{check_bytes, merge_bytes, text_of};
 pub use crate::project::project_of;
+pub use crate::stream::{gather_reader, merge_reader};

@@ -3,14 +3,15 @@
 ghost use Rattle.std.specs.Prelude.{
   ◌≡◌,
   ◌≢◌,
-  ◌<◌,
+  ◌⊎◌,
   ◌≤◌,
+  ◌+◌,
+  ◌++◌,
+  [],
   List,
   ℕ,
   IfErr,
   IfOk,
-  IsTrue,
-  OnOk,
   length,
   option_map,
 };
@@ -19,16 +20,23 @@ ghost use Rattle.inputs.specs.Lists.{content, is_skipped};
 ghost use Rattle.texts.specs.Limits.{input_limit};
 ghost use Rattle.inputs.specs.Refusal.{IsRefusedLine};
 ghost use Rattle.inputs.specs.LineReading.{
+  HasTaken,
   HasText,
-  IsReadOf,
+  IsHeld,
+  RefusesEnded,
+  RefusesGrowth,
+  RefusesHeld,
   RefusesLineBytes,
   RefusesList,
+  RefusesPiece,
+  RefusesWhole,
   TakesLine,
   TakesLines,
 };
 
 use faults::{Cause, LineFault};
 use pep_require::RequireFault;
+use std::alloc::Global;
 use texts::{INPUT_LIMIT, LINE_LIMIT, first_part, without_outer_blanks};
 
 /// Takes the texts of requirements, one after the other, wherever they come from.
@@ -92,6 +100,7 @@ pub(crate) fn line_cause(number: u64, fault: LineFault) -> Cause
     ensures memory { fault ≡ LineFault.Requirement RequireFault.NoMemory → result ≡ Cause.NoMemory }
     ensures line { fault ≢ LineFault.Requirement RequireFault.NoMemory →
         result ≡ Cause.Line number fault }
+    ensures apart { result ≢ Cause.ReadFault }
 {
     match fault {
         LineFault::Requirement(RequireFault::NoMemory) => Cause::NoMemory,
@@ -99,26 +108,8 @@ pub(crate) fn line_cause(number: u64, fault: LineFault) -> Cause
     }
 }
 
-// The fault of a list that goes on behind its largest size, in this line: that of the limit which
-// is passed first.
-fn cut_off(number: u64, line: &[u8]) -> Cause
-    ensures long { line_limit < length line.now →
-        result ≡ Cause.Line number (LineFault.Requirement RequireFault.LineTooLong) }
-    ensures large { length line.now ≤ line_limit → result ≡ Cause.TooLarge }
-{
-    if line.len() > LINE_LIMIT {
-        Cause::Line(number, LineFault::Requirement(RequireFault::LineTooLong))
-    } else {
-        Cause::TooLarge
-    }
-}
-
-/// What was taken before, and the text on a line, if the line isn't skipped.
-pub(crate) fn take_line<T: Taker>(
-    taker: &T,
-    taken: T::Taken,
-    line: &[u8],
-) -> Result<T::Taken, LineFault>
+// What was taken before, and the text on a line, if the line isn't skipped.
+fn take_line<T: Taker>(taker: &T, taken: T::Taken, line: &[u8]) -> Result<T::Taken, LineFault>
     ensures ok { IfOk result (TakesLine (T.takes taker.now) line.now taken) }
     ensures refused { IfErr result (RefusesLineBytes (T.refuses taker.now) line.now) }
 {
@@ -129,41 +120,189 @@ pub(crate) fn take_line<T: Taker>(
     }
 }
 
-// What was taken before, and the texts on lines. Where the list does not fit its largest size
-// these are its first lines, and the last of them is cut.
-fn take_first_lines<T: Taker>(
+// The line that goes on with this part, which may be no longer than a line is.
+fn grown(held: Vec<u8>, part: &[u8]) -> Result<Vec<u8>, LineFault>
+    requires { length held.items ≤ line_limit }
+    ensures ok { IfOk result (λ line. (line.items ≡ held.items ++ part.now)
+        × (length line.items ≤ line_limit)) }
+    ensures refused { IfErr result (RefusesGrowth (held.items ++ part.now)) }
+{
+    if part.len() > LINE_LIMIT - held.len() {
+        return Err(LineFault::Requirement(RequireFault::LineTooLong));
+    }
+    let mut line = held;
+    line.extend_from_slice(part)?;
+    Ok(line)
+}
+
+// What was taken before, and the text on the line that begins with what is held of it and ends with
+// this part. A line of which nothing is held isn't copied.
+fn take_whole<T: Taker>(
     taker: &T,
     taken: T::Taken,
-    read: &[u8],
-    fits: bool,
-) -> Result<T::Taken, Cause>
-    ensures fits { OnOk result (IsTrue fits) }
-    ensures ok { IfOk result (λ new. length read.now ≤ input_limit →
-        TakesLines (T.takes taker.now) read.now taken new) }
-    ensures refused { IfErr result (λ cause. (bytes : List ℕ) → IsReadOf fits read.now bytes
-        → RefusesList (T.refuses taker.now) bytes cause) }
+    held: Vec<u8>,
+    part: &[u8],
+) -> Result<T::Taken, LineFault>
+    requires { length held.items ≤ line_limit }
+    ensures ok { IfOk result (TakesLine (T.takes taker.now) (held.items ++ part.now) taken) }
+    ensures refused { IfErr result (RefusesWhole (T.refuses taker.now)
+        (held.items ++ part.now)) }
 {
-    let mut taken = taken;
-    let mut rest = Some(read);
-    let mut number: u64 = 0;
-    while let Some(text) = rest {
-        let (line, after) = first_part(text, b'\n');
-        number += 1;
-        if !fits && after.is_none() {
-            return Err(cut_off(number, line));
-        }
-        taken = match take_line(taker, taken, line) {
-            Ok(new) => new,
-            Err(fault) => return Err(line_cause(number, fault)),
-        };
-        rest = after;
+    if held.is_empty() {
+        return take_line(taker, taken, part);
     }
-    Ok(taken)
+    let line = grown(held, part)?;
+    take_line(taker, taken, line.as_slice())
+}
+
+/// What there is of a list whose bytes come in pieces.
+#[derive(Drop)]
+pub(crate) struct LinesSoFar<A> {
+    /// What is taken of the lines that have ended.
+    pub(crate) taken: A,
+    /// How many lines have ended.
+    pub(crate) number: u64,
+    /// What there is of the line that hasn't ended.
+    pub(crate) held: Vec<u8>,
+}
+
+impl<A> LinesSoFar<A> {
+    /// Before the first byte.
+    pub(crate) fn new(alloc: Global, taken: A) -> Self
+        ensures taken { result.taken ≡ taken }
+        ensures number { result.number ≡ 0 }
+        ensures held { result.held.items ≡ [] }
+    {
+        LinesSoFar {
+            taken,
+            number: 0,
+            held: Vec::new(alloc),
+        }
+    }
+}
+
+// The lines with the one that ends with this part.
+fn take_ended<T: Taker>(
+    alloc: Global,
+    taker: &T,
+    so_far: LinesSoFar<T::Taken>,
+    part: &[u8],
+) -> Result<LinesSoFar<T::Taken>, Cause>
+    requires number { so_far.number ≤ input_limit }
+    requires held { length so_far.held.items ≤ line_limit }
+    ensures ok { IfOk result (λ new. TakesLine (T.takes taker.now)
+        (so_far.held.items ++ part.now) so_far.taken new.taken) }
+    ensures number { IfOk result (λ new. new.number ≡ so_far.number + 1) }
+    ensures held { IfOk result (λ new. new.held.items ≡ []) }
+    ensures refused { IfErr result (RefusesEnded (T.refuses taker.now) (so_far.number + 1)
+        (so_far.held.items ++ part.now)) }
+    ensures apart { IfErr result (λ cause. cause ≢ Cause.ReadFault) }
+{
+    let number = so_far.number + 1;
+    match take_whole(taker, so_far.taken, so_far.held, part) {
+        Ok(taken) => Ok(LinesSoFar {
+            taken,
+            number,
+            held: Vec::new(alloc),
+        }),
+        Err(fault) => Err(line_cause(number, fault)),
+    }
+}
+
+// The lines with this part of the one that hasn't ended.
+fn hold_part<A: Drop>(so_far: LinesSoFar<A>, part: &[u8]) -> Result<LinesSoFar<A>, Cause>
+    requires number { so_far.number ≤ input_limit }
+    requires held { length so_far.held.items ≤ line_limit }
+    ensures taken { IfOk result (λ new. new.taken ≡ so_far.taken) }
+    ensures number { IfOk result (λ new. new.number ≡ so_far.number) }
+    ensures held { IfOk result (λ new. new.held.items ≡ so_far.held.items ++ part.now) }
+    ensures bound { IfOk result (λ new. length new.held.items ≤ line_limit) }
+    ensures refused { IfErr result (RefusesHeld (so_far.number + 1)
+        (so_far.held.items ++ part.now)) }
+    ensures apart { IfErr result (λ cause. cause ≢ Cause.ReadFault) }
+{
+    match grown(so_far.held, part) {
+        Ok(held) => Ok(LinesSoFar {
+            taken: so_far.taken,
+            number: so_far.number,
+            held,
+        }),
+        Err(fault) => Err(line_cause(so_far.number + 1, fault)),
+    }
+}
+
+/// The lines with those of a piece. The cause is that of the first fault, in the order of the
+/// bytes.
+pub(crate) fn take_piece<T: Taker>(
+    alloc: Global,
+    taker: &T,
+    so_far: LinesSoFar<T::Taken>,
+    piece: &[u8],
+) -> Result<LinesSoFar<T::Taken>, Cause>
+    requires room { so_far.number + length piece.now ≤ input_limit }
+    requires held { IsHeld so_far.held.items }
+    ensures ok { IfOk result (λ new. HasTaken (T.takes taker.now)
+        (so_far.held.items ++ piece.now) so_far.number so_far.taken new.number new.held.items
+        new.taken) }
+    ensures refused { IfErr result (RefusesPiece (T.refuses taker.now) so_far.number
+        (so_far.held.items ++ piece.now)) }
+    ensures apart { IfErr result (λ cause. cause ≢ Cause.ReadFault) }
+{
+    let mut so_far = so_far;
+    let mut left = Some(piece);
+    while let Some(text) = left {
+        let (part, after) = first_part(text, b'\n');
+        so_far = match after {
+            Some(_) => take_ended(alloc, taker, so_far, part)?,
+            None => hold_part(so_far, part)?,
+        };
+        left = after;
+    }
+    Ok(so_far)
+}
+
+/// What was taken before, and the text on the last line, which ends with the list.
+pub(crate) fn take_last<T: Taker>(
+    alloc: Global,
+    taker: &T,
+    so_far: LinesSoFar<T::Taken>,
+) -> Result<T::Taken, Cause>
+    requires number { so_far.number ≤ input_limit }
+    requires held { length so_far.held.items ≤ line_limit }
+    ensures ok { IfOk result (TakesLine (T.takes taker.now) so_far.held.items so_far.taken) }
+    ensures refused { IfErr result (RefusesEnded (T.refuses taker.now) (so_far.number + 1)
+        so_far.held.items) }
+    ensures apart { IfErr result (λ cause. cause ≢ Cause.ReadFault) }
+{
+    match take_ended(alloc, taker, so_far, b"") {
+        Ok(new) => Ok(new.taken),
+        Err(cause) => Err(cause),
+    }
+}
+
+/// Why a list is refused that goes on behind its largest size, which ends with this piece.
+pub(crate) fn refused_over<T: Taker>(
+    alloc: Global,
+    taker: &T,
+    so_far: LinesSoFar<T::Taken>,
+    piece: &[u8],
+) -> Cause
+    requires room { so_far.number + length piece.now ≤ input_limit }
+    requires held { IsHeld so_far.held.items }
+    ensures refused { (result ≡ Cause.TooLarge) ⊎ RefusesPiece (T.refuses taker.now)
+        so_far.number (so_far.held.items ++ piece.now) result }
+    ensures apart { result ≢ Cause.ReadFault }
+{
+    match take_piece(alloc, taker, so_far, piece) {
+        Ok(_) => Cause::TooLarge,
+        Err(cause) => cause,
+    }
 }
 
 /// What was taken before, and the texts on the lines of a list, one after the other. The cause is
 /// that of the first fault, in the order of the bytes: see [`list_of`](crate::list_of).
 pub(crate) fn take_lines<T: Taker>(
+    alloc: Global,
     taker: &T,
     taken: T::Taken,
     bytes: &[u8],
@@ -171,10 +310,11 @@ pub(crate) fn take_lines<T: Taker>(
     ensures ok { IfOk result (TakesLines (T.takes taker.now) bytes.now taken) }
     ensures refused { IfErr result (RefusesList (T.refuses taker.now) bytes.now) }
 {
+    let so_far = LinesSoFar::new(alloc, taken);
     if bytes.len() <= INPUT_LIMIT {
-        take_first_lines(taker, taken, bytes, true)
-    } else {
-        let (read, _) = bytes.split_at(INPUT_LIMIT);
-        take_first_lines(taker, taken, read, false)
+        let lines = take_piece(alloc, taker, so_far, bytes)?;
+        return take_last(alloc, taker, lines);
     }
+    let (read, _) = bytes.split_at(INPUT_LIMIT);
+    Err(refused_over(alloc, taker, so_far, read))
 }

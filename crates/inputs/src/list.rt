@@ -66,7 +66,7 @@ pub fn list_of(alloc: Global, bytes: &[u8]) -> Result<Vec<Requirement>, Fault>
         ⊎ ((fault.place ≡ Place.Input 1)
         × IsRefusedList bytes.now fault.cause)) }
 {
-    match take_lines(&RequirementTaker { alloc }, Vec::new(alloc), bytes) {
+    match take_lines(alloc, &RequirementTaker { alloc }, Vec::new(alloc), bytes) {
         Ok(requirements) => Ok(requirements),
         Err(cause) => Err(fault_in(Place::Input(1), cause)),
     }

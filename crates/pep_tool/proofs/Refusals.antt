@@ -15,6 +15,7 @@ use Rattle.pep_marker.specs.declared.fault.MarkerFault.TheVariants as marker_fau
 use Rattle.pep_require.specs.Requirement.{RequirementParts}
 use Rattle.demands.specs.Answer.{IsAnswer}
 use Rattle.demands.specs.declared.verdict.Answer.{Answer}
+use Rattle.pep_table.proofs.Exits.{further}
 use Rattle.pep_version.specs.Spelling.{Reads}
 use Rattle.pep_version.specs.Version.{Version}
 use Rattle.pep_version.specs.declared.fault.VersionFault.{VersionFault}
@@ -28,21 +29,25 @@ use Rattle.inputs.specs.declared.input.Kind.TheVariants as kind
 use Rattle.devices.specs.Device.{Device}
 use Rattle.faults.specs.FaultLine.{fault_line}
 use Rattle.devices.specs.Folder.{KnownFile}
-use Rattle.inputs.specs.Gathered.{AcceptsBytes, Gathered, IsAccepted}
+use Rattle.inputs.specs.Gathered.{BytesDemand, Gathered, IsAccepted}
 use Rattle.faults.specs.InnerFault.{fault_of_argument}
 use Rattle.inputs.specs.ListedText.{listed_text}
 use Rattle.inputs.specs.Lists.{Lists}
 use Rattle.inputs.specs.Lists.{input_limit}
 use Rattle.inputs.specs.Merge.{IsMerge}
-use Rattle.inputs.specs.Refusal.{IsRefused, RefusesInputs, no_memory}
+use Rattle.inputs.specs.Refusal.{RefusesInputs, no_memory}
+use Rattle.inputs.specs.Streams.{IsTableOfList, ReadsTable, RefusesReading}
+use Rattle.inputs.proofs.MergeLemmas.{shows_verdicts}
+use Rattle.demands.specs.Table.{TableParts}
+use Rattle.pep_table.specs.TableText.{IsTableText}
 use Rattle.command_line.specs.Plan.{Asks, CheckRequest, Request, check_version}
 use Rattle.pep_tool.specs.Run.{Refuses, Tells, TellsRefusal, by_memory, by_output, by_request}
 use Rattle.pep_tool.specs.Run.{write_fault}
 use Rattle.pep_tool.specs.RunReplies.{IsReply, ChecksFiles, ListsFile, MergesFiles, MergesInput}
-use Rattle.pep_tool.specs.RunReplies.{RefusesCheck, RefusesFiles, answer_line, answer_status}
+use Rattle.pep_tool.specs.RunReplies.{IsAsked, RefusesCheck, RefusesFiles, answer_line}
+use Rattle.pep_tool.specs.RunReplies.{answer_status}
 use Rattle.pep_tool.specs.RunReplies.{by_checked}
-use Rattle.pep_tool.specs.RunReplies.{RefusesInput, RefusesName, RefusesRequest, RefusesVersion}
-use Rattle.pep_tool.specs.RunReplies.{by_bytes}
+use Rattle.pep_tool.specs.RunReplies.{RefusesName, RefusesRequest, RefusesVersion}
 use Rattle.pep_tool.specs.RunReplies.{by_inputs}
 use Rattle.pep_tool.specs.RunFiles.{ReadsEnvironment, ReadsFile, ReadsInputs, kind_of}
 use Rattle.pep_tool.specs.Standard.{standard_environment}
@@ -51,68 +56,36 @@ pub fault_line-no_memory : fault_line no_memory ≡ codes "refused code 60\n"
 unfolding digits
 fault_line-no_memory = refl
 
--- a refusal that isn't want of memory, told in other words
-pub memory_or : {M P Q : Type 0} → (P → Q) → M ⊎ P → M ⊎ Q
-memory_or f (inl memory) = inl memory
-memory_or f (inr h) = inr (f h)
-
 -- ---- the table of the input
 
--- a list that is accepted isn't over the limit
-accepted_size : (i : Input) → i.kind ≡ kind.List → IsAccepted standard_environment i →
-    length i.bytes.items ≤ input_limit
-accepted_size i e h =
-    by (rw e at h)
-  where
-    by : AcceptsBytes standard_environment kind.List i.bytes.items →
-        length i.bytes.items ≤ input_limit
-    by (inl a) = a.1.size
-    by (inr a) = absurd a.1
-
--- the table of a list that was read
-pub MergesInput-from_merge : {A : Type 0} (text_of : A →
-    List ℕ) (r : Result A Fault) (i : Input) (left after : Option (List ℕ)) →
-    i.kind ≡ kind.List → Consumes left after i.bytes.items →
-    (length i.bytes.items ≤ input_limit → IsAtEnd after) →
-    IfOk r (λ text. IsMerge standard_environment (i ∷ []) (text_of text)) →
+-- the text of the table of a list that was read
+pub merges_input : {A : Type 0} (text_of : A → List ℕ) (r : Result A Fault)
+    (left after : Option (List ℕ)) (e : EnvironmentParts) (t : TableParts) →
+    e ≡ standard_environment → ReadsTable e left after t →
+    IfOk r (λ text. IsTableText t (text_of text)) →
     IfOk r (λ text. MergesInput left after (text_of text))
-MergesInput-from_merge text_of (Ok text) i left after e reads whole h = record {
-  input = i;
-  is_list = e;
-  reads = reads;
-  whole = whole (accepted_size i e (All-head (IsAccepted standard_environment) i [] h.accepted));
-  merges = h;
+merges_input text_of (Ok text) left after e t standard read h = record {
+  bytes = read.bytes;
+  reads = read.reads;
+  whole = read.whole;
+  table = t;
+  of_list = of_list;
+  is_text = h;
+  verdicts = shows_verdicts (BytesDemand standard_environment kind.List read.bytes) t
+      of_list.is_table;
 }
-MergesInput-from_merge text_of (Err f) i left after e reads whole h = tt
-
--- the one element of a list
-only : {A : Type 0} (x y : A) (before behind : List A) → x ∷ [] ≡ before ++ y ∷ behind →
-    (before ≡ []) × (y ≡ x)
-only x y [] behind e = (refl, cc e)
-only x y (b ∷ []) behind e = cc e
-only x y (b ∷ d ∷ before) behind e = cc e
+  where
+    of_list : IsTableOfList standard_environment read.bytes t
+    of_list = subst (λ d. IsTableOfList d read.bytes t) standard read.of_list
+merges_input text_of (Err f) left after e t standard read h = tt
 
 -- the refusal of a list that was read
-pub merge_refused : (i : Input) (left after : Option (List ℕ)) (source : Device) (f : Fault) →
-    i.kind ≡ kind.List → Consumes left after i.bytes.items →
-    (length i.bytes.items ≤ input_limit → IsAtEnd after) → source.failed ≡ false →
-    RefusesInputs standard_environment (i ∷ []) f →
-    (f ≡ no_memory) ⊎ RefusesInput left after source f
-merge_refused i left after source f e reads whole ready (inl memory) = inl memory
-merge_refused i left after source f e reads whole ready (inr b) =
-    inr (by_bytes ready (record {
-      bytes = i.bytes.items;
-      reads = reads;
-      whole = whole;
-      lies = b.lies ∙ ap place.Input (b.numbered.counted
-          ∙ ap (λ (l : List Input). length l + 1) one.0);
-      is_refused = subst (λ k. IsRefused standard_environment k i.bytes.items f.cause) e
-          (subst (λ (j : Input). IsRefused standard_environment j.kind j.bytes.items f.cause) one.1
-          b.refused);
-    }))
-  where
-    one : (b.numbered.before ≡ []) × (b.input ≡ i)
-    one = only i b.input b.numbered.before b.numbered.behind b.numbered.whole
+pub reading_refused : (left after : Option (List ℕ)) (source : Device) (e : EnvironmentParts)
+    (f : Fault) → e ≡ standard_environment →
+    (f ≡ no_memory) ⊎ RefusesReading e left after source f →
+    (f ≡ no_memory) ⊎ RefusesReading standard_environment left after source f
+reading_refused left after source e f standard h =
+    subst (λ d. (f ≡ no_memory) ⊎ RefusesReading d left after source f) standard h
 
 -- ---- versions and names among the words
 
@@ -188,7 +161,7 @@ pub files_refuse : {A File : Type 0} (r : Result A Fault) (files : Text → Know
     → IfErr r (λ f. (f ≡ no_memory) ⊎ RefusesFiles files left_of device_of env paths f)
 files_refuse (Ok a) files left_of device_of env paths e inputs given has reads same h = tt
 files_refuse (Err f) files left_of device_of env paths e inputs given has reads same h =
-    memory_or (by_inputs e inputs has reads)
+    further (by_inputs e inputs has reads)
     (subst (λ (is : List Input). RefusesInputs e is f) same h)
 
 -- the answer of a check
@@ -204,9 +177,8 @@ pub checks_files : {File : Type 0} (r : Result Answer Fault) (files : Text → K
 checks_files (Ok a) files left_of device_of c v name e inputs given is named has reads same all h =
     record {
       version = v;
-      is_version = is;
       name = name;
-      is_name = named;
+      asked = asked is named;
       environment = e;
       has_environment = has;
       inputs = inputs;
@@ -217,6 +189,11 @@ checks_files (Ok a) files left_of device_of c v name e inputs given is named has
 checks_files (Err f) files left_of device_of c v name e inputs given is named has reads same all h =
     tt
 
+-- the version and the name that a check asks for
+pub asked : {c : CheckRequest} {v : Version} {name : List ℕ} → Reads c.version (Ok v) →
+    name_of c.name ≡ Some name → IsAsked c v name
+asked version name = record { version = version; name = name }
+
 -- .. and its refusal
 pub check_refused : {A File : Type 0} (r : Result A Fault) (files : Text → KnownFile)
     (left_of : File → Option (List ℕ)) (device_of : File → Device) (c : CheckRequest)
@@ -224,7 +201,8 @@ pub check_refused : {A File : Type 0} (r : Result A Fault) (files : Text → Kno
     IfErr r (λ f. (f ≡ no_memory) ⊎ RefusesFiles files left_of device_of c.env c.files f)
     → IfErr r (λ f. (f ≡ no_memory) ⊎ RefusesCheck files left_of device_of c f)
 check_refused r files left_of device_of c v name is named h =
-    IfErr-weaker r _ _ (λ f refused. memory_or (by_checked v name is named) refused) h
+    IfErr-weaker r _ _
+    (λ f refused. further (by_checked v name (asked is named)) refused) h
 
 Keeps-itself : (a : Option (List ℕ)) → Keeps a a
 Keeps-itself None = tt

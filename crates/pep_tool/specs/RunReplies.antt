@@ -25,11 +25,14 @@ use Rattle.inputs.specs.declared.input.Kind.{Kind}
 use Rattle.inputs.specs.declared.input.Kind.TheVariants as kind
 use Rattle.devices.specs.Device.{Device}
 use Rattle.devices.specs.Folder.{KnownFile}
-use Rattle.inputs.specs.Gathered.{Gathered, IsAccepted}
+use Rattle.inputs.specs.Gathered.{BytesDemand, Gathered, IsAccepted}
 use Rattle.inputs.specs.ListedText.{listed_text}
 use Rattle.inputs.specs.Lists.{Lists}
 use Rattle.inputs.specs.Lists.{input_limit}
-use Rattle.inputs.specs.Merge.{IsMerge}
+use Rattle.inputs.specs.Merge.{IsMerge, ShowsVerdicts}
+use Rattle.inputs.specs.Streams.{IsTableOfList, RefusesReading}
+use Rattle.demands.specs.Table.{TableParts}
+use Rattle.pep_table.specs.TableText.{IsTableText}
 use Rattle.command_line.specs.Plan.{CheckRequest, Request, check_version, merge_files, show_lines}
 use Rattle.command_line.specs.Plan.{show_version, standard}
 use Rattle.inputs.specs.Refusal.{BlamesInput, IsRefused, IsRefusedList, IsRefusedProject}
@@ -40,31 +43,15 @@ use Rattle.pep_tool.specs.Standard.{standard_environment}
 -- ---- the table of the input
 
 -- Of a source that tells its bytes: all that was left was read, and this is the text of the table
--- of these bytes, as one list, in the standard environment.
+-- of these bytes, as one list, in the standard environment, with the verdicts on all demands.
 pub record MergesInput (left after : Option (List ℕ)) (text : List ℕ) : Type 0 where
-  pub input : Input
-  pub is_list : input.kind ≡ kind.List
-  pub reads : Consumes left after input.bytes.items
-  pub whole : IsAtEnd after
-  pub merges : IsMerge standard_environment (input ∷ []) text
-
--- The bytes that were read are refused, as one list, which is input 1: all that was left, or more
--- than a list may have.
-pub record RefusesBytes (left after : Option (List ℕ)) (fault : Fault) : Type 0 where
   pub bytes : List ℕ
   pub reads : Consumes left after bytes
-  pub whole : length bytes ≤ input_limit → IsAtEnd after
-  pub lies : fault.place ≡ place.Input 1
-  pub is_refused : IsRefused standard_environment kind.List bytes fault.cause
-
--- Why the input is refused: reading it failed, and then no byte of it is judged; or what was read
--- is refused.
-pub data RefusesInput (left after : Option (List ℕ)) (input : Device) (fault : Fault) : Type 0
-  where
-    by_failure : IsTrue input.failed → fault ≡ read_fault (place.Input 1) →
-        RefusesInput left after input fault
-    by_bytes : input.failed ≡ false → RefusesBytes left after fault →
-        RefusesInput left after input fault
+  pub whole : IsAtEnd after
+  pub table : TableParts
+  pub of_list : IsTableOfList standard_environment bytes table
+  pub is_text : IsTableText table text
+  pub verdicts : ShowsVerdicts (BytesDemand standard_environment kind.List bytes) table
 
 -- ---- versions and names among the words
 
@@ -93,6 +80,11 @@ pub record RefusesName (text : Text) (fault : Fault) : Type 0 where
   }
 
 -- ---- the answer of a check
+
+-- the version and the name that a check is asked of
+pub record IsAsked (c : CheckRequest) (v : Version) (n : List ℕ) : Type 0 where
+  pub version : Reads c.version (Ok v)
+  pub name : name_of c.name ≡ Some n
 
 abbrev pub answer_line : Answer → List ℕ
 answer_line Yes = codes "yes\n"
@@ -145,9 +137,8 @@ module _ {File : Type 0} (files : Text → KnownFile) (left_of : File → Option
   -- what the files demand in the environment of a file says this of the version of the package
   pub record ChecksFiles (c : CheckRequest) (answer : Answer) : Type 0 where
     pub version : Version
-    pub is_version : Reads c.version (Ok version)
     pub name : List ℕ
-    pub is_name : name_of c.name ≡ Some name
+    pub asked : IsAsked c version name
     pub environment : EnvironmentParts
     pub has_environment : ReadsEnvironment files left_of device_of c.env environment
     pub inputs : List Input
@@ -178,9 +169,8 @@ module _ {File : Type 0} (files : Text → KnownFile) (left_of : File → Option
     by_version : RefusesVersion c.version fault → RefusesCheck c fault
     by_name : (v : Version) → Reads c.version (Ok v) → RefusesName c.name fault →
         RefusesCheck c fault
-    by_checked : (v : Version) (name : List ℕ) → Reads c.version (Ok v) →
-        name_of c.name ≡ Some name
-        → RefusesFiles c.env c.files fault → RefusesCheck c fault
+    by_checked : (v : Version) (name : List ℕ) → IsAsked c v name →
+        RefusesFiles c.env c.files fault → RefusesCheck c fault
 
   -- ---- requests
 
@@ -198,7 +188,8 @@ module _ {File : Type 0} (files : Text → KnownFile) (left_of : File → Option
 
   -- why what is asked for is refused, want of memory apart
   abbrev pub RefusesRequest : Request → Option (List ℕ) → Option (List ℕ) → Device → Fault → Type 0
-  RefusesRequest standard left after input fault = RefusesInput left after input fault
+  RefusesRequest standard left after input fault =
+      RefusesReading standard_environment left after input fault
   RefusesRequest (show_version version) left after input fault = RefusesVersion version fault
   RefusesRequest (show_lines path) left after input fault = RefusesLines path fault
   RefusesRequest (merge_files env paths) left after input fault = RefusesFiles env paths fault

@@ -11,5 +11,6 @@ pub use command_line::{Plan, plan_of};
 pub use devices::{Bytes, Counted, Disk, Failed, Folder, OpenFault, Sink, Source};
 pub use faults::{ArgumentFault, Cause, Fault, LineFault, Place};
 pub use inputs::{
-    Input, Kind, check_bytes, environment_of, gather, laws, list_of, merge_bytes, project_of,
+    Input, Kind, check_bytes, environment_of, gather, gather_reader, laws, list_of, merge_bytes,
+    merge_reader, project_of,
 };

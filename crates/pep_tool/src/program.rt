@@ -39,9 +39,10 @@ const REFUSED: u8 = 2;
 
 /// The program, but for its streams: does what the words ask for, and answers the exit status.
 ///
-/// Without words it reads the whole input as one list and then writes the text of its table to
-/// `output`, status 0: the table in the environment of CPython 3.9.18 on Linux and x86-64, without
-/// an extra. With words nothing of the input is read, and they ask for one of these:
+/// Without words it reads the input as one list, merges it while it is read (see
+/// [`gather_reader`](crate::gather_reader)), and then writes the text of its table to `output`, status
+/// 0: the table in the environment of CPython 3.9.18 on Linux and x86-64, without an extra. With words
+/// nothing of the input is read, and they ask for one of these:
 ///
 /// - `version TEXT`: the normal text of the version (PEP 440, "Normalization") and a line feed,
 ///   status 0.
@@ -65,7 +66,8 @@ const REFUSED: u8 = 2;
 /// - 61 for other words, with the text of `clap`.
 /// - 62 with 1 or 2 for a text that is no version, with 21 for one that is no name.
 /// - 58 where a file can't be opened or reading failed. It lies in the environment, or in the input
-///   with the file's number, and comes before any fault of the bytes of inputs.
+///   with the file's number. A file's comes before any fault of the bytes of inputs; without words
+///   a failed read has its place among the bytes: the fault of a line that ended before it is told.
 /// - The refusals of [`environment_of`](crate::environment_of) and of
 ///   [`merge_bytes`](crate::merge_bytes); for `lines` those of [`list_of`](crate::list_of) and
 ///   [`project_of`](crate::project_of), and 64 for a table file, which has no requirements.

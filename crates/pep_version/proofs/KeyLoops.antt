@@ -1,13 +1,13 @@
 -- Reading the lists in a key element by element.
 use Rattle.std.proofs.Common.{◌≡◌, ◌<◌, ◌≤◌, ◌==◌, ℕ, zero, suc, List, [], ◌∷◌, ◌++◌, length, drop, take, get_or, ◌-◌, length-drop, inl, inr, subst, true, Bool, length-append, refl, sym, ap, ◌∙◌, arith, append_assoc, append-nil, false}
 use Rattle.std.proofs.lemmas.Bool.{cases_lt, le-ltb, lt-ltb}
-use Rattle.std.proofs.lemmas.List.{take_all}
 use Rattle.std.proofs.lemmas.List.{take_at}
 use Rattle.std.proofs.lemmas.Str.{IsUtf8-from_ascii}
 use Rattle.std.specs.List.{AllByRecursion, list_all}
 use Rattle.std.specs.Prelude.{IsUtf8, if◌then◌else◌}
 use Rattle.std.specs.Str.{IsAscii}
 use Rattle.texts.proofs.Connectives.{and_first, and_second}
+use Rattle.texts.proofs.ListLemmas.{to-end}
 use Rattle.pep_version.proofs.SliceLemmas.{word-ascii}
 use Rattle.pep_version.specs.Version.{IsSegment, is_word_byte, number, word}
 use Rattle.pep_version.specs.KeyReading.{read_map, read_segment, read_word, word_count, Reader, put_first, read_ended, read_number, read_release_number}
@@ -82,7 +82,7 @@ module _ {A : Type 0} (read : Reader A) where
 
 -- what stands behind the first byte
 pub behind : (rest : List ℕ) → take (length rest - 1) (drop 1 rest) ≡ drop 1 rest
-behind rest = take_all (length rest - 1) (drop 1 rest) (omega (arith, length-drop 1 rest))
+behind rest = to-end rest 1
 
 -- where nothing is left there is no first byte, and nothing behind it
 pub none_left : (rest : List ℕ) → length rest < 1 → (get_or rest 0 0 ≡ 0) × (drop 1 rest ≡ rest)

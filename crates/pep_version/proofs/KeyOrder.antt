@@ -15,7 +15,7 @@ use Rattle.std.proofs.lemmas.Bool.{and_parts}
 use Rattle.pep_version.specs.Laws.{release_cmp-lists}
 use Rattle.pep_version.proofs.PlaceLemmas.{Same-place_of}
 use Rattle.pep_version.specs.Order.{Same, dev_cmp, phase_rank, place_cmp, pre_number, pre_number_of, release_cmp, segment_cmp, stage, stage_of, suffix_cmp, version_cmp, without_end_zeros}
-use Rattle.pep_version.specs.KeyBytes.{KeysKeepOrder, PartsKeepOrder, dev_bytes, epoch_bytes, key_bytes, label_bytes, phase_byte, place_bytes, post_bytes, release_bytes, release_number_bytes, segment_bytes, stage_bytes, stage_bytes_of, suffix_bytes}
+use Rattle.pep_version.specs.KeyBytes.{KeysKeepOrder, PartsKeepOrder, dev_bytes, epoch_bytes, key_bytes, label_bytes, number_bytes, phase_byte, place_bytes, post_bytes, release_bytes, release_number_bytes, segment_bytes, stage_bytes, stage_bytes_of, suffix_bytes}
 use Rattle.pep_version.proofs.NumberBytes.{number_bytes-leads}
 use Rattle.pep_version.specs.Version.{Fits, IsSegment, IsVersion, Segment, SegmentFits, Version}
 use Rattle.pep_version.specs.Version.{is_word_byte, number, word}
@@ -79,49 +79,67 @@ phase_bytes-cmp Rc Rc = refl
 abbrev stage_step : Option (Phase × ℕ) → Option ℕ → Option ℕ → Option (Phase × ℕ) → Option ℕ → Option ℕ → Ordering
 stage_step p post dev q post' dev' = ordering_then (nat_cmp (stage_of p post dev) (stage_of q post' dev')) (nat_cmp (pre_number_of p) (pre_number_of q))
 
-phase_first : (p : Phase) (n : ℕ) (post dev post' dev' : Option ℕ) (s t : List ℕ)
-    → byte_cmp (stage_bytes_of (Some (p, n)) post dev ++ s) (stage_bytes_of None post' dev' ++ t)
-    ≡ ordering_then (stage_step (Some (p, n)) post dev None post' dev') (byte_cmp s t)
-phase_first Alpha n post dev None None s t = refl
-phase_first Alpha n post dev None (Some m) s t = refl
-phase_first Alpha n post dev (Some m) dev' s t = refl
-phase_first Beta n post dev None None s t = refl
-phase_first Beta n post dev None (Some m) s t = refl
-phase_first Beta n post dev (Some m) dev' s t = refl
-phase_first Rc n post dev None None s t = refl
-phase_first Rc n post dev None (Some m) s t = refl
-phase_first Rc n post dev (Some m) dev' s t = refl
+-- whether a version that is no pre-release is a developmental release of the release itself
+abbrev is_early : Option ℕ → Option ℕ → Bool
+is_early None (Some n) = true
+is_early None None = false
+is_early (Some m) dev = false
 
-phase_last : (p : Phase) (n : ℕ) (post dev post' dev' : Option ℕ) (s t : List ℕ)
-    → byte_cmp (stage_bytes_of None post' dev' ++ s) (stage_bytes_of (Some (p, n)) post dev ++ t)
-    ≡ ordering_then (stage_step None post' dev' (Some (p, n)) post dev) (byte_cmp s t)
-phase_last Alpha n post dev None None s t = refl
-phase_last Alpha n post dev None (Some m) s t = refl
-phase_last Alpha n post dev (Some m) dev' s t = refl
-phase_last Beta n post dev None None s t = refl
-phase_last Beta n post dev None (Some m) s t = refl
-phase_last Beta n post dev (Some m) dev' s t = refl
-phase_last Rc n post dev None None s t = refl
-phase_last Rc n post dev None (Some m) s t = refl
-phase_last Rc n post dev (Some m) dev' s t = refl
+abbrev plain_stage : Bool → ℕ
+plain_stage true = 0
+plain_stage false = 4
 
-no_phase : (post dev post' dev' : Option ℕ) (s t : List ℕ)
-    → byte_cmp (stage_bytes_of None post dev ++ s) (stage_bytes_of None post' dev' ++ t) ≡ ordering_then (stage_step None post dev None post' dev') (byte_cmp s t)
-no_phase None None None None s t = refl
-no_phase None None None (Some n) s t = refl
-no_phase None None (Some n) dev' s t = refl
-no_phase None (Some m) None None s t = refl
-no_phase None (Some m) None (Some n) s t = refl
-no_phase None (Some m) (Some n) dev' s t = refl
-no_phase (Some m) dev None None s t = refl
-no_phase (Some m) dev None (Some n) s t = refl
-no_phase (Some m) dev (Some n) dev' s t = refl
+abbrev plain_bytes : Bool → List ℕ
+plain_bytes true = 0x10 ∷ []
+plain_bytes false = 0x50 ∷ []
+
+record Plain (post dev : Option ℕ) : Type 0 where
+  stage_is : stage_of None post dev ≡ plain_stage (is_early post dev)
+  bytes_are : stage_bytes_of None post dev ≡ plain_bytes (is_early post dev)
+
+plain : (post dev : Option ℕ) → Plain post dev
+plain None None = record { stage_is = refl; bytes_are = refl }
+plain None (Some n) = record { stage_is = refl; bytes_are = refl }
+plain (Some m) dev = record { stage_is = refl; bytes_are = refl }
+
+-- a pre-release beside another version, and the other way
+phase_beside : (p : Phase) (n : ℕ) (early : Bool) (s t : List ℕ)
+    → (byte_cmp ((phase_byte p ∷ number_bytes n) ++ s) (plain_bytes early ++ t)
+    ≡ ordering_then (ordering_then (nat_cmp (phase_rank p) (plain_stage early)) (nat_cmp n 0)) (byte_cmp s t))
+    × (byte_cmp (plain_bytes early ++ t) ((phase_byte p ∷ number_bytes n) ++ s)
+    ≡ ordering_then (ordering_then (nat_cmp (plain_stage early) (phase_rank p)) (nat_cmp 0 n)) (byte_cmp t s))
+phase_beside Alpha n true s t = (refl, refl)
+phase_beside Alpha n false s t = (refl, refl)
+phase_beside Beta n true s t = (refl, refl)
+phase_beside Beta n false s t = (refl, refl)
+phase_beside Rc n true s t = (refl, refl)
+phase_beside Rc n false s t = (refl, refl)
+
+no_phase : (early early' : Bool) (s t : List ℕ) → byte_cmp (plain_bytes early ++ s) (plain_bytes early' ++ t)
+    ≡ ordering_then (ordering_then (nat_cmp (plain_stage early) (plain_stage early')) (nat_cmp 0 0)) (byte_cmp s t)
+no_phase true true s t = refl
+no_phase true false s t = refl
+no_phase false true s t = refl
+no_phase false false s t = refl
 
 stages_lead : (p q : Option (Phase × ℕ)) (post dev post' dev' : Option ℕ) → IfSome p (λ x. Fits x.1) → IfSome q (λ x. Fits x.1) → (s t : List ℕ)
     → byte_cmp (stage_bytes_of p post dev ++ s) (stage_bytes_of q post' dev' ++ t) ≡ ordering_then (stage_step p post dev q post' dev') (byte_cmp s t)
-stages_lead None None post dev post' dev' h g s t = no_phase post dev post' dev' s t
-stages_lead (Some p) None post dev post' dev' h g s t = phase_first p.0 p.1 post dev post' dev' s t
-stages_lead None (Some q) post dev post' dev' h g s t = phase_last q.0 q.1 post' dev' post dev s t
+stages_lead None None post dev post' dev' h g s t =
+    let e = plain post dev in
+    let f = plain post' dev' in
+    (λ i. byte_cmp (e.bytes_are i ++ s) (f.bytes_are i ++ t))
+    ∙ no_phase (is_early post dev) (is_early post' dev') s t
+    ∙ (λ i. ordering_then (ordering_then (nat_cmp (sym e.stage_is i) (sym f.stage_is i)) (nat_cmp 0 0)) (byte_cmp s t))
+stages_lead (Some p) None post dev post' dev' h g s t =
+    let f = plain post' dev' in
+    (λ i. byte_cmp ((phase_byte p.0 ∷ number_bytes p.1) ++ s) (f.bytes_are i ++ t))
+    ∙ (phase_beside p.0 p.1 (is_early post' dev') s t).0
+    ∙ (λ i. ordering_then (ordering_then (nat_cmp (phase_rank p.0) (sym f.stage_is i)) (nat_cmp p.1 0)) (byte_cmp s t))
+stages_lead None (Some q) post dev post' dev' h g s t =
+    let e = plain post dev in
+    (λ i. byte_cmp (e.bytes_are i ++ s) ((phase_byte q.0 ∷ number_bytes q.1) ++ t))
+    ∙ (phase_beside q.0 q.1 (is_early post dev) t s).1
+    ∙ (λ i. ordering_then (ordering_then (nat_cmp (sym e.stage_is i) (phase_rank q.0)) (nat_cmp 0 q.1)) (byte_cmp s t))
 stages_lead (Some p) (Some q) post dev post' dev' h g s t =
     (λ i. ordering_then (phase_bytes-cmp p.0 q.0 i) (number_bytes-leads.by p.1 q.1 h g s t i))
     ∙ sym (then_assoc (nat_cmp (phase_rank p.0) (phase_rank q.0)) (nat_cmp p.1 q.1) (byte_cmp s t))

@@ -1,9 +1,9 @@
 -- Bytes that are a key, and the place that they are the key of.
-use Rattle.std.proofs.Common.{◌≡◌, ◌↔◌, ℕ, Bool, true, false, List, ◌++◌, sym, ap, ◌∙◌, subst}
+use Rattle.std.proofs.Common.{◌≡◌, ◌↔◌, ℕ, Bool, true, false, List, [], ◌++◌, None, sym, ap, ◌∙◌, subst}
 use Rattle.pep_version.proofs.PlaceLemmas.{place-of-place, place-version}
 use Rattle.pep_version.specs.ByteOrder.{ended}
 use Rattle.pep_version.specs.Order.{place_of, without_end_zeros}
-use Rattle.pep_version.specs.KeyBytes.{key_bytes, number_bytes, release_number_bytes, suffix_bytes}
+use Rattle.pep_version.specs.KeyBytes.{dev_bytes, key_bytes, label_bytes, number_bytes, post_bytes, release_number_bytes, stage_bytes_of, suffix_bytes}
 use Rattle.pep_version.proofs.KeyOrder.{keys-keep}
 use Rattle.pep_version.specs.KeyReading.{IsKey, ReadsBack, version_at}
 use Rattle.pep_version.proofs.KeyParts.{version_at-key}
@@ -40,6 +40,16 @@ pub written-key : (v : Version) (release bytes : List ℕ) → release ≡ witho
     → bytes ≡ (number_bytes v.epoch ++ ended release_number_bytes release) ++ suffix_bytes v → bytes ≡ key_bytes v
 written-key v release bytes e h =
     h ∙ ap (λ (xs : List ℕ). (number_bytes v.epoch ++ ended release_number_bytes xs) ++ suffix_bytes v) e
+
+-- .. of a version without a pre-release and a label
+pub written-short : (v : Version) (release bytes : List ℕ) → release ≡ without_end_zeros v.release
+    → v.pre ≡ None → v.label ≡ []
+    → bytes ≡ (number_bytes v.epoch ++ ended release_number_bytes release) ++ (stage_bytes_of None v.post v.dev
+    ++ (post_bytes v.post ++ (dev_bytes v.dev ++ label_bytes []))) → bytes ≡ key_bytes v
+written-short v release bytes e none bare h =
+    written-key v release bytes e
+    (h ∙ λ i. (number_bytes v.epoch ++ ended release_number_bytes release) ++ (stage_bytes_of (sym none i) v.post v.dev
+    ++ (post_bytes v.post ++ (dev_bytes v.dev ++ label_bytes (sym bare i)))))
 
 -- what is kept of a key in store
 pub ReadsBack-own_place : (bytes : List ℕ) → ReadsBack bytes → place_of (version_at bytes) ≡ version_at bytes

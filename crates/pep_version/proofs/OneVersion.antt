@@ -9,7 +9,6 @@ use Rattle.std.specs.List.{list_all, onto_first}
 use Rattle.std.specs.Str.{str_to_ascii_lowercase}
 use Rattle.std.specs.Str.Parse.{digits_value}
 use Rattle.pep_version.specs.declared.parts.Phase.{Phase}
-use Rattle.pep_version.specs.declared.parts.Phase.TheVariants.{Alpha, Beta, Rc}
 use Rattle.pep_version.specs.Version.{Segment, Version}
 use Rattle.pep_version.specs.Spelling.{DevSpelling, EpochSpelling, IsOneOf, IsOptionalSeparator}
 use Rattle.pep_version.specs.Spelling.{LabelSpelling, PostSpelling, PreSpelling, PrecedingVSpelling}
@@ -18,7 +17,8 @@ use Rattle.texts.specs.Space.{trimmed}
 use Rattle.texts.specs.Bytes.{is_separator}
 use Rattle.texts.proofs.Connectives.{and-true, and_first, and_parts, and_second, or-true}
 use Rattle.texts.proofs.Connectives.{or_second}
-use Rattle.pep_version.proofs.Readers.{behind-append, front-append, may_follow}
+use Rattle.pep_version.proofs.Words.{letter-no-digit, pre-letters, starts_letter}
+use Rattle.pep_version.proofs.Readers.{digits-append, may_follow}
 use Rattle.pep_version.proofs.Suffixes.{suffix-read, tail-worded}
 use Rattle.pep_version.proofs.Tails.{Tail, digits-all, digits-start, whole-of}
 use Rattle.pep_version.specs.Reading.{bang, behind, epoch_taken, from_epoch, read_epoch, read_label}
@@ -155,41 +155,20 @@ separator-head c text b s =
     let no : is_ascii_digit c ≡ false = grind arith in
     record { no_digit = no; no_dot = no-dot (c ∷ text) (rw b s); no_bang = rw other refl }
 
+letters-head : (letters text : List ℕ) → starts_letter letters ≡ true → Head (letters ++ text)
+letters-head [] text h = cc h
+letters-head (b ∷ letters) text h =
+    let dot : (b == 46) ≡ false = grind arith in
+    let other : (b == 33) ≡ false = grind arith in
+    record { no_digit = letter-no-digit b h; no_dot = rw dot refl; no_bang = rw other refl }
+
 head-at-pre : (phase : Phase) (before letters text : List ℕ) → IsOptionalSeparator before →
     IsOneOf (pre_words phase) letters → Head (before ++ (letters ++ text))
+head-at-pre phase [] letters text b l = letters-head letters text (pre-letters phase letters l).0
+head-at-pre phase (c ∷ []) letters text b l =
+    separator-head c (letters ++ text) b
+    (letters-head letters text (pre-letters phase letters l).0).no_digit
 head-at-pre phase (c ∷ d ∷ before) letters text b l = absurd b
-head-at-pre Alpha [] letters text b (inl e) =
-    rw e (record { no_digit = refl; no_dot = refl; no_bang = refl })
-head-at-pre Alpha [] letters text b (inr (inl e)) =
-    rw e (record { no_digit = refl; no_dot = refl; no_bang = refl })
-head-at-pre Alpha (c ∷ []) letters text b (inl e) = separator-head c (letters ++ text) b (rw e refl)
-head-at-pre Alpha (c ∷ []) letters text b (inr (inl e)) =
-    separator-head c (letters ++ text) b (rw e refl)
-head-at-pre Alpha before letters text b (inr (inr k)) = absurd k
-head-at-pre Beta [] letters text b (inl e) =
-    rw e (record { no_digit = refl; no_dot = refl; no_bang = refl })
-head-at-pre Beta [] letters text b (inr (inl e)) =
-    rw e (record { no_digit = refl; no_dot = refl; no_bang = refl })
-head-at-pre Beta (c ∷ []) letters text b (inl e) = separator-head c (letters ++ text) b (rw e refl)
-head-at-pre Beta (c ∷ []) letters text b (inr (inl e)) =
-    separator-head c (letters ++ text) b (rw e refl)
-head-at-pre Beta before letters text b (inr (inr k)) = absurd k
-head-at-pre Rc [] letters text b (inl e) =
-    rw e (record { no_digit = refl; no_dot = refl; no_bang = refl })
-head-at-pre Rc [] letters text b (inr (inl e)) =
-    rw e (record { no_digit = refl; no_dot = refl; no_bang = refl })
-head-at-pre Rc [] letters text b (inr (inr (inl e))) =
-    rw e (record { no_digit = refl; no_dot = refl; no_bang = refl })
-head-at-pre Rc [] letters text b (inr (inr (inr (inl e)))) =
-    rw e (record { no_digit = refl; no_dot = refl; no_bang = refl })
-head-at-pre Rc (c ∷ []) letters text b (inl e) = separator-head c (letters ++ text) b (rw e refl)
-head-at-pre Rc (c ∷ []) letters text b (inr (inl e)) =
-    separator-head c (letters ++ text) b (rw e refl)
-head-at-pre Rc (c ∷ []) letters text b (inr (inr (inl e))) =
-    separator-head c (letters ++ text) b (rw e refl)
-head-at-pre Rc (c ∷ []) letters text b (inr (inr (inr (inl e)))) =
-    separator-head c (letters ++ text) b (rw e refl)
-head-at-pre Rc before letters text b (inr (inr (inr (inr k)))) = absurd k
 
 head-post : (pre post dev rest : List ℕ) (vpost vdev : Option ℕ) (label : List Segment) →
     PostSpelling pre post vpost → DevSpelling dev vdev → LabelSpelling rest label →
@@ -227,7 +206,7 @@ v-read «prefix» text (inr e) s = rw e refl
 
 bang-behind : (xs rest : List ℕ) → is_dotted xs ≡ true → Head rest →
     bang (behind (xs ++ rest)) ≡ None
-bang-behind [] rest d h = ap bang (behind-append [] rest refl h.no_digit) ∙ h.no_bang
+bang-behind [] rest d h = ap bang (digits-append [] rest refl h.no_digit).1 ∙ h.no_bang
 bang-behind (x ∷ xs) rest d h =
     let one = and_first (is_ascii_digit x || ((x == 46) && starts_digit xs)) (is_dotted xs) d in
     let more =
@@ -258,11 +237,10 @@ epoch-read epoch release rest n (inr e) d s h =
     let shape : epoch ++ (release ++ rest) ≡ e.0 ++ (33 ∷ (release ++ rest)) =
     ap (λ (x : List ℕ). x ++ (release ++ rest)) e.1
     ∙ append_assoc e.0 (codes "!") (release ++ rest) in
-    let digits = front-append e.0 (33 ∷ (release ++ rest)) all refl in
-    let others = behind-append e.0 (33 ∷ (release ++ rest)) all refl in
+    let taken = digits-append e.0 (33 ∷ (release ++ rest)) all refl in
     let plain : read_epoch (e.0 ++ (33 ∷ (release ++ rest))) ≡ (n, release ++ rest) =
-    (λ i. epoch_taken (bang (others i)) (e.0 ++ (33 ∷ (release ++ rest))))
-    ∙ (λ i. (digits_value 10 (digits i), release ++ rest))
+    (λ i. epoch_taken (bang (taken.1 i)) (e.0 ++ (33 ∷ (release ++ rest))))
+    ∙ (λ i. (digits_value 10 (taken.0 i), release ++ rest))
     ∙ λ i. (sym e.2.1 i, release ++ rest) in (
       ap read_epoch shape ∙ plain,
       ap starts_digit shape

@@ -4,7 +4,8 @@ use Rattle.std.proofs.Common.{[], ◌∷◌, ◌++◌, drop, get_or, None, inl, 
 use Rattle.std.proofs.Common.{append-nil, append_assoc, subst, suc, zero, refl, sym, ap, ◌∙◌, arith}
 use Rattle.std.proofs.lemmas.Bool.{cases_Bool}
 use Rattle.std.proofs.lemmas.Bool.Decides.{nat_tests}
-use Rattle.std.proofs.lemmas.List.{drop_more, map-append, take-append-drop, take_more}
+use Rattle.std.proofs.lemmas.List.{drop_all, drop_more, map-append, take-append-drop, take_all}
+use Rattle.std.proofs.lemmas.List.{take_more}
 use Rattle.std.proofs.lemmas.List.Folds.{list_all-map}
 use Rattle.std.specs.Char.{is_ascii_alphanumeric, is_ascii_digit, to_ascii_lowercase}
 use Rattle.std.specs.List.{All, AllByRecursion, list_all, onto_first}
@@ -18,7 +19,7 @@ use Rattle.pep_version.specs.Version.{Segment, SegmentFits, number, is_word_byte
 use Rattle.texts.specs.Lists.{is_empty}
 use Rattle.texts.proofs.Connectives.{and_first, and_second}
 use Rattle.texts.proofs.SplitLemmas.{split-at, split-whole}
-use Rattle.pep_version.proofs.Readers.{behind-append, front-append}
+use Rattle.pep_version.proofs.Readers.{digits-append}
 
 -- a text has no byte where it has none in lower case
 pub no_byte : (xs : List ℕ) → is_empty (lower xs) ≡ (length xs == 0)
@@ -44,10 +45,20 @@ pub digits-until : (t : List ℕ) (i : ℕ) → list_all is_ascii_digit (take i 
 digits-until t i all none =
     let whole : lower t ≡ take i t ++ lower (drop i t) =
     ap lower (sym (take-append-drop i t)) ∙ map-append to_ascii_lowercase (take i t) (drop i t)
-    ∙ ap (λ (l : List ℕ). l ++ lower (drop i t)) (digits-lower (take i t) all) in (
-      sym (ap front whole ∙ front-append (take i t) (lower (drop i t)) all none),
-      sym (ap behind whole ∙ behind-append (take i t) (lower (drop i t)) all none),
-    )
+    ∙ ap (λ (l : List ℕ). l ++ lower (drop i t)) (digits-lower (take i t) all) in
+    let taken = digits-append (take i t) (lower (drop i t)) all none in
+    (sym (ap front whole ∙ taken.0), sym (ap behind whole ∙ taken.1))
+
+-- .. or with the text
+pub digits-whole : (t : List ℕ) (i : ℕ) → length t ≤ i → list_all is_ascii_digit (take i t) ≡ true
+    → (t ≡ front (lower t)) × (lower (drop (length t) t) ≡ behind (lower t))
+digits-whole t i end all =
+    let past = drop_all i t end in
+    let same : drop (length t) t ≡ drop i t = drop_all (length t) t (omega arith) ∙ sym past in
+    let none : starts_digit (lower (drop i t)) ≡ false =
+    ap (λ (l : List ℕ). starts_digit (lower l)) past in
+    let both = digits-until t i all none in
+    (sym (take_all i t end) ∙ both.0, ap lower same ∙ both.1)
 
 pub no-digit-at : (t : List ℕ) (i : ℕ) → i < length t → is_ascii_digit (get_or t i 0) ≡ false →
     starts_digit (lower (drop i t)) ≡ false

@@ -273,28 +273,24 @@ digits-no-letter (d ∷ ds) h =
 dash-separates : (b : ℕ) → (b == 45) ≡ true → is_separator b ≡ true
 dash-separates b h = rw h refl
 
+-- what ends in a byte that is no letter, and digits, ends in no letter
+ends-digits : (b l : List ℕ) (c : ℕ) (ds : List ℕ) → not (is_ascii_alphabetic c) ≡ true →
+    list_all is_ascii_digit ds ≡ true → ends_in_letter (b ++ (l ++ (c ∷ (ds ++ [])))) ≡ false
+ends-digits b l c ds other digits =
+    ap ends_in_letter (sym (append_assoc b l (c ∷ (ds ++ [])))) ∙ ends-behind (b ++ l) c (ds ++ [])
+    ∙ no-letters (c ∷ (ds ++ [])) (rw (other, digits-no-letter ds digits) refl)
+
 -- where `-` is left, the part does not end in a letter
 kept-dash : (b l u : List ℕ) → starts_dash (behind (without_separator u)) ≡ true
     → ends_in_letter (b ++ (l ++ (separator_of u ++ (front (without_separator u) ++ [])))) ≡ false
 kept-dash b l [] h = cc h
 kept-dash b l (c ∷ u) h = elim (cases_Bool (is_separator c)) [
   | inl separates ↦
-      let ends =
-      no-letters (c ∷ (front u ++ [])) (rw (
-        separator-no-letter c separates,
-        digits-no-letter (front u) (front-digits u),
-      ) refl) in
-      rw separates (ap ends_in_letter (sym (append_assoc b l (c ∷ (front u ++ []))))
-      ∙ ends-behind (b ++ l) c (front u ++ []) ∙ ends)
+      rw separates (ends-digits b l c (front u) (separator-no-letter c separates) (front-digits u))
   | inr other ↦ elim (cases_Bool (is_ascii_digit c)) [
     | inl digit ↦
-        let ends =
-        no-letters (c ∷ (front u ++ [])) (rw (
-          digit-no-letter c digit,
-          digits-no-letter (front u) (front-digits u),
-        ) refl) in
-        rw (other, digit) (ap ends_in_letter (sym (append_assoc b l (c ∷ (front u ++ []))))
-        ∙ ends-behind (b ++ l) c (front u ++ []) ∙ ends)
+        rw (other, digit)
+        (ends-digits b l c (front u) (digit-no-letter c digit) (front-digits u))
     | inr no_digit ↦ let dash : (c == 45) ≡ true =
         rw (other, no_digit) at h in cc (dash-separates c dash, other)
   ]

@@ -1,6 +1,6 @@
 -- The reading of a pre-release and all parts behind it, from their spellings.
 use Rattle.std.proofs.Common.{lit≤, ◌≤◌, ◌≡◌, ◌==◌, ℕ, List, [], ◌∷◌, ◌++◌, Option, Some, None}
-use Rattle.std.proofs.Common.{true, false, refl, sym, ap, subst, ◌∙◌, arith, inl, inr}
+use Rattle.std.proofs.Common.{true, false, refl, sym, ap, append-nil, subst, ◌∙◌, arith, inl, inr}
 use Rattle.std.specs.Char.{is_ascii_digit}
 use Rattle.pep_version.specs.declared.parts.Phase.{Phase}
 use Rattle.pep_version.specs.declared.parts.Phase.TheVariants.{Alpha, Beta, Rc}
@@ -9,10 +9,11 @@ use Rattle.pep_version.specs.Spelling.{DevSpelling, ImplicitPostSpelling, IsOneO
 use Rattle.pep_version.specs.Spelling.{IsOptionalSeparator, LabelSpelling, PostSpelling}
 use Rattle.pep_version.specs.Spelling.{PreSpelling, WordAndNumber, dev_words, ends_in_letter}
 use Rattle.pep_version.specs.Spelling.{post_words, pre_words}
+use Rattle.pep_version.proofs.Words.{letters-plain, pre-letters}
 use Rattle.pep_version.proofs.Readers.{before-gone, dev-plain, left, may_follow, not-c, not-e}
 use Rattle.pep_version.proofs.Readers.{post-plain, tail-follows}
 use Rattle.pep_version.proofs.Tails.{Bare, Tail, Worded, digits-start, implicit-read, label-plain}
-use Rattle.pep_version.proofs.Tails.{opens, tail-at-label, tail-at-post, tail-dev, tail-number}
+use Rattle.pep_version.proofs.Tails.{opens, tail-at, tail-at-label, tail-dev, tail-number}
 use Rattle.pep_version.proofs.Tails.{whole-of, worded-read}
 use Rattle.pep_version.specs.Reading.{behind_phase, pre_taken, read_post_dev, read_pre, read_suffix}
 use Rattle.pep_version.specs.Reading.{starts_digit, table, with_phase, without_separator}
@@ -40,26 +41,12 @@ found-pre Rc letters (b ∷ text) (inr (inr (inl e))) f = rw e (rw (not-v b text
 found-pre Rc letters text (inr (inr (inr (inl e)))) f = rw e refl
 found-pre Rc letters text (inr (inr (inr (inr h)))) f = absurd h
 
-pre-plain : (phase : Phase) (letters text : List ℕ) → IsOneOf (pre_words phase) letters →
-    without_separator (letters ++ text) ≡ letters ++ text
-pre-plain Alpha letters text (inl e) = rw e refl
-pre-plain Alpha letters text (inr (inl e)) = rw e refl
-pre-plain Alpha letters text (inr (inr h)) = absurd h
-pre-plain Beta letters text (inl e) = rw e refl
-pre-plain Beta letters text (inr (inl e)) = rw e refl
-pre-plain Beta letters text (inr (inr h)) = absurd h
-pre-plain Rc letters text (inl e) = rw e refl
-pre-plain Rc letters text (inr (inl e)) = rw e refl
-pre-plain Rc letters text (inr (inr (inl e))) = rw e refl
-pre-plain Rc letters text (inr (inr (inr (inl e)))) = rw e refl
-pre-plain Rc letters text (inr (inr (inr (inr h)))) = absurd h
-
 pre-gone : (phase : Phase) (before letters text : List ℕ) → IsOptionalSeparator before →
     IsOneOf (pre_words phase) letters → without_separator (before ++ (letters ++ text)) ≡ letters
     ++ text
-pre-gone phase [] letters text b l = pre-plain phase letters text l
-pre-gone phase (c ∷ []) letters text b l = rw b refl
-pre-gone phase (c ∷ d ∷ before) letters text b l = absurd b
+pre-gone phase =
+    before-gone (pre_words phase)
+    (λ letters text one. letters-plain letters text (pre-letters phase letters one).0)
 
 pre-worded : (phase : Phase) (text rest : List ℕ) (n : ℕ)
     (p : WordAndNumber (pre_words phase) text n) → may_follow rest ≡ true →
@@ -154,31 +141,19 @@ no-pre-implicit pre post dev rest n p =
 
 -- ---- a bare word ends in a letter
 
+ends-behind : (c : ℕ) (xs : List ℕ) → ends_in_letter xs ≡ true → ends_in_letter (c ∷ xs) ≡ true
+ends-behind c [] h = cc h
+ends-behind c (x ∷ xs) h = h
+
 bare-ends : (phase : Phase) (before letters after digits : List ℕ) → IsOptionalSeparator before →
     IsOneOf (pre_words phase) letters → Bare after digits
     → ends_in_letter (before ++ (letters ++ (after ++ (digits ++ [])))) ≡ true
 bare-ends phase before letters [] (d ∷ digits) b l h = absurd h
 bare-ends phase before letters (c ∷ after) digits b l h = absurd h
 bare-ends phase (c ∷ d ∷ before) letters [] [] b l h = absurd b
-bare-ends Alpha [] letters [] [] b (inl e) h = rw e refl
-bare-ends Alpha [] letters [] [] b (inr (inl e)) h = rw e refl
-bare-ends Alpha (c ∷ []) letters [] [] b (inl e) h = rw e refl
-bare-ends Alpha (c ∷ []) letters [] [] b (inr (inl e)) h = rw e refl
-bare-ends Alpha before letters [] [] b (inr (inr k)) h = absurd k
-bare-ends Beta [] letters [] [] b (inl e) h = rw e refl
-bare-ends Beta [] letters [] [] b (inr (inl e)) h = rw e refl
-bare-ends Beta (c ∷ []) letters [] [] b (inl e) h = rw e refl
-bare-ends Beta (c ∷ []) letters [] [] b (inr (inl e)) h = rw e refl
-bare-ends Beta before letters [] [] b (inr (inr k)) h = absurd k
-bare-ends Rc [] letters [] [] b (inl e) h = rw e refl
-bare-ends Rc [] letters [] [] b (inr (inl e)) h = rw e refl
-bare-ends Rc [] letters [] [] b (inr (inr (inl e))) h = rw e refl
-bare-ends Rc [] letters [] [] b (inr (inr (inr (inl e)))) h = rw e refl
-bare-ends Rc (c ∷ []) letters [] [] b (inl e) h = rw e refl
-bare-ends Rc (c ∷ []) letters [] [] b (inr (inl e)) h = rw e refl
-bare-ends Rc (c ∷ []) letters [] [] b (inr (inr (inl e))) h = rw e refl
-bare-ends Rc (c ∷ []) letters [] [] b (inr (inr (inr (inl e)))) h = rw e refl
-bare-ends Rc before letters [] [] b (inr (inr (inr (inr k)))) h = absurd k
+bare-ends phase [] letters [] [] b l h = rw (append-nil letters) (pre-letters phase letters l).1
+bare-ends phase (c ∷ []) letters [] [] b l h =
+    rw (append-nil letters) (ends-behind c letters (pre-letters phase letters l).1)
 
 -- ---- all parts behind the release
 
@@ -198,7 +173,8 @@ pub tail-worded : (pre post dev rest : List ℕ) (vpost vdev : Option ℕ) (labe
 tail-worded pre post dev rest None vdev label p d l = rw p (tail-dev dev rest vdev label d l)
 tail-worded pre post dev rest (Some n) vdev label p d l =
     let o = opens post_words post (dev ++ rest) n p (tail-dev dev rest vdev label d l).follows in
-    subst Tail (sym o.pieces) (tail-at-post o.before o.letters o.behind_it o.before_is o.letters_is)
+    subst Tail (sym o.pieces)
+    (tail-at post_words refl o.before o.letters o.behind_it o.before_is o.letters_is)
 
 suffix-worded : (pre post dev rest : List ℕ) (vpre : Option (Phase
     × ℕ)) (vpost vdev : Option ℕ) (label : List Segment) → PreSpelling pre vpre →

@@ -46,15 +46,18 @@ stage_bytes_of None (Some n) dev = 0x50 ∷ []
 abbrev pub stage_bytes : Version → List ℕ
 stage_bytes v = stage_bytes_of v.pre v.post v.dev
 
+-- a byte for a part that is absent, or another one and the number behind it
+abbrev pub marked_bytes : ℕ → ℕ → Option ℕ → List ℕ
+marked_bytes absent present None = absent ∷ []
+marked_bytes absent present (Some n) = present ∷ number_bytes n
+
 -- no post-release part is below any
 abbrev pub post_bytes : Option ℕ → List ℕ
-post_bytes None = 0 ∷ []
-post_bytes (Some n) = 1 ∷ number_bytes n
+post_bytes post = marked_bytes 0 1 post
 
 -- no developmental release part is above any
 abbrev pub dev_bytes : Option ℕ → List ℕ
-dev_bytes None = 1 ∷ []
-dev_bytes (Some n) = 0 ∷ number_bytes n
+dev_bytes dev = marked_bytes 1 0 dev
 
 -- a word is its bytes and then 0, and below a number
 abbrev pub segment_bytes : Segment → List ℕ

@@ -26,17 +26,7 @@ ghost use Rattle.std.specs.Cmp.{
 };
 ghost use Rattle.std.specs.Ordering.{as_partial_cmp, eq_by_cmp};
 ghost use Rattle.pep_version.specs.Feed.{key_feed, key_feed-alike};
-ghost use Rattle.pep_version.specs.ByteOrder.{ended};
-ghost use Rattle.pep_version.specs.KeyBytes.{
-  dev_bytes,
-  key_bytes,
-  label_bytes,
-  number_bytes,
-  place_bytes,
-  post_bytes,
-  release_number_bytes,
-  stage_bytes_of,
-};
+ghost use Rattle.pep_version.specs.KeyBytes.{key_bytes, place_bytes};
 ghost use Rattle.pep_version.specs.KeyReading.{IsKey};
 ghost use Rattle.pep_version.specs.Laws.{version_total};
 ghost use Rattle.pep_version.specs.Order.{
@@ -155,7 +145,14 @@ impl Key {
         ensures faults { IfErr result (λ e. e ≡ VersionFault.NoMemory) }
     {
         let release = without_end_zeros(release);
-        let bytes = bytes_of_parts(alloc, epoch, release, pre, post, dev, label)?;
+        if pre.is_none() && label.is_empty() {
+            if let Some(bytes) = short_bytes(alloc, epoch, release, post, dev) {
+                return Ok(Key { bytes });
+            }
+        }
+        let mut bytes = KeyBytes::new(alloc);
+        push_place(&mut bytes, epoch, release)?;
+        push_suffix(&mut bytes, pre, post, dev, label)?;
         Ok(Key { bytes })
     }
 
@@ -232,53 +229,7 @@ impl Key {
         let bytes = KeyBytes::from_slice(alloc, self.bytes())?;
         Ok(Key { bytes })
     }
-}
 
-// The bytes of the key with these parts, whose release has no zeros at its end.
-fn bytes_of_parts(
-    alloc: Global,
-    epoch: u64,
-    release: &[u64],
-    pre: Option<(Phase, u64)>,
-    post: Option<u64>,
-    dev: Option<u64>,
-    label: &[Label],
-) -> Result<KeyBytes, VersionFault>
-    ensures bytes { IfOk result (λ b. b.items ≡ (number_bytes epoch
-        ++ ended release_number_bytes release.now) ++ (stage_bytes_of pre post dev
-        ++ (post_bytes post ++ (dev_bytes dev ++ label_bytes (map segment_of label.now))))) }
-    ensures faults { IfErr result (λ e. e ≡ VersionFault.NoMemory) }
-{
-    if pre.is_none() && label.is_empty() {
-        if let Some(bytes) = short_bytes(alloc, epoch, release, post, dev) {
-            return Ok(bytes);
-        }
-    }
-    long_bytes(alloc, epoch, release, pre, post, dev, label)
-}
-
-// The same bytes, however many they are.
-fn long_bytes(
-    alloc: Global,
-    epoch: u64,
-    release: &[u64],
-    pre: Option<(Phase, u64)>,
-    post: Option<u64>,
-    dev: Option<u64>,
-    label: &[Label],
-) -> Result<KeyBytes, VersionFault>
-    ensures bytes { IfOk result (λ b. b.items ≡ (number_bytes epoch
-        ++ ended release_number_bytes release.now) ++ (stage_bytes_of pre post dev
-        ++ (post_bytes post ++ (dev_bytes dev ++ label_bytes (map segment_of label.now))))) }
-    ensures faults { IfErr result (λ e. e ≡ VersionFault.NoMemory) }
-{
-    let mut bytes = KeyBytes::new(alloc);
-    push_place(&mut bytes, epoch, release)?;
-    push_suffix(&mut bytes, pre, post, dev, label)?;
-    Ok(bytes)
-}
-
-impl Key {
     /// The order of the two by their epochs and releases alone (PEP 440, "Version epochs", "Final
     /// releases").
     pub fn cmp_release(&self, other: &Key) -> Ordering

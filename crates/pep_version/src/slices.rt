@@ -336,13 +336,12 @@ pub(crate) fn slices_of(text: &[u8]) -> Option<Slices<'_>>
     let (pre, text) = split_pre(text);
     let (post, text) = split_post(text);
     let (dev, text) = split_dev(text);
-    let label = split_label(text)?;
     Some(Slices {
         epoch,
         release,
         pre,
         post,
         dev,
-        label,
+        label: split_label(text)?,
     })
 }

@@ -34,7 +34,7 @@ use Rattle.specifiers.specs.Clause.{is_final, operator_of, operator_text, prefix
 use Rattle.specifiers.specs.Clause.{prefix_clause, prefix_of, prefix_text, version_answer}
 use Rattle.specifiers.specs.Clause.{version_clause}
 use Rattle.specifiers.specs.Clause.{final_version}
-use Rattle.specifiers.specs.Valid.{IsPrefix, IsValidClause}
+use Rattle.specifiers.specs.Valid.{IsPrefix, IsPublic, IsValidClause}
 use Rattle.specifiers.proofs.OneAnswer.{one-clause-of}
 use Rattle.specifiers.proofs.Written.{clause-ink, ink-end, is_ink, written}
 use Rattle.specifiers.proofs.ReadLemmas.{lower-demanded, lowered-none}
@@ -60,24 +60,24 @@ public-answer : (c : Clause) (label : List Segment) (answer : Result Clause Clau
 public-answer c [] answer h = (refl, h)
 public-answer c (s ∷ label) answer h = (cc h, cc h)
 
+-- a clause that is made of a version without a label alone
+public-valid : (v : Version) (c made : Clause) → IsVersion v →
+    Ok c ≡ (if is_empty v.label then Ok made else Err fault.LocalNotAllowed)
+    → (IsPublic v → IsValidClause made) → IsValidClause c
+public-valid v c made is h valid =
+    let both = public-answer c v.label (Ok made) h in
+    let same : c ≡ made = cc (both.1) in subst IsValidClause (sym same) (valid (is, both.0))
+
 version-valid : (o : Op) (v : Version) (c : Clause) → IsVersion v → Ok c ≡ version_clause o v →
     IsValidClause c
 version-valid op.Equal v c is h =
     let same : c ≡ matching v = cc h in subst IsValidClause (sym same) is
 version-valid op.NotEqual v c is h =
     let same : c ≡ excluding v = cc h in subst IsValidClause (sym same) is
-version-valid op.AtMost v c is h =
-    let both = public-answer c v.label (Ok (at_most v)) h in
-    let same : c ≡ at_most v = cc (both.1) in subst IsValidClause (sym same) (is, both.0)
-version-valid op.AtLeast v c is h =
-    let both = public-answer c v.label (Ok (at_least v)) h in
-    let same : c ≡ at_least v = cc (both.1) in subst IsValidClause (sym same) (is, both.0)
-version-valid op.Less v c is h =
-    let both = public-answer c v.label (Ok (less_than v)) h in
-    let same : c ≡ less_than v = cc (both.1) in subst IsValidClause (sym same) (is, both.0)
-version-valid op.More v c is h =
-    let both = public-answer c v.label (Ok (greater_than v)) h in
-    let same : c ≡ greater_than v = cc (both.1) in subst IsValidClause (sym same) (is, both.0)
+version-valid op.AtMost v c is h = public-valid v c (at_most v) is h (λ both. both)
+version-valid op.AtLeast v c is h = public-valid v c (at_least v) is h (λ both. both)
+version-valid op.Less v c is h = public-valid v c (less_than v) is h (λ both. both)
+version-valid op.More v c is h = public-valid v c (greater_than v) is h (λ both. both)
 version-valid op.Compatible v c is h =
     let both =
     public-answer c v.label _ h in numbers (nat_lt 1 (length v.release)) refl both.0 both.1

@@ -3,22 +3,4 @@
 #![tactic(auto)]
 
 #[cfg(test)]
-mod calls;
-#[cfg(test)]
-mod environments;
-#[cfg(test)]
-mod example;
-#[cfg(test)]
-mod fault_lines;
-#[cfg(test)]
-mod folders;
-#[cfg(test)]
-mod joins;
-#[cfg(test)]
-mod laws;
-#[cfg(test)]
-mod lines;
-#[cfg(test)]
-mod plans;
-#[cfg(test)]
-mod streams;
+mod tests;

@@ -2,12 +2,4 @@
 #![tactic(auto)]
 
 #[cfg(test)]
-mod codes;
-#[cfg(test)]
-mod large_tables;
-#[cfg(test)]
-mod lines;
-#[cfg(test)]
-mod printed;
-#[cfg(test)]
-mod tables;
+mod tests;

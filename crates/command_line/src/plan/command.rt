@@ -3,8 +3,8 @@
 
 ghost use Rattle.std.specs.Prelude.{◌≡◌, IfOk, false};
 ghost use Rattle.clap.specs.Words.{app_of, rule_of};
-ghost use Rattle.clap.specs.declared.builder.command.Command.TheViews.{out-Command};
 ghost use Rattle.command_line.specs.Plan.{
+  IsLocal,
   check_command,
   environment_option,
   files_argument,
@@ -83,8 +83,7 @@ fn pre_flag<'a>(alloc: Global) -> Arg<'a>
 }
 
 fn version_command<'a>(alloc: Global) -> Result<Command<'a>, AllocError>
-    ensures shape { IfOk result (λ c. app_of c ≡ version_command) }
-    ensures local { IfOk result (λ c. (out-Command c).has_globals ≡ false) }
+    ensures { IfOk result (λ c. IsLocal c version_command) }
 {
     let text = text_argument(alloc, "TEXT", "A version, in any spelling of PEP 440");
     Command::new(alloc, "version")
@@ -93,8 +92,7 @@ fn version_command<'a>(alloc: Global) -> Result<Command<'a>, AllocError>
 }
 
 fn lines_command<'a>(alloc: Global) -> Result<Command<'a>, AllocError>
-    ensures shape { IfOk result (λ c. app_of c ≡ lines_command) }
-    ensures local { IfOk result (λ c. (out-Command c).has_globals ≡ false) }
+    ensures { IfOk result (λ c. IsLocal c lines_command) }
 {
     let file = text_argument(
         alloc,
@@ -107,8 +105,7 @@ fn lines_command<'a>(alloc: Global) -> Result<Command<'a>, AllocError>
 }
 
 fn merge_command<'a>(alloc: Global) -> Result<Command<'a>, AllocError>
-    ensures shape { IfOk result (λ c. app_of c ≡ merge_command) }
-    ensures local { IfOk result (λ c. (out-Command c).has_globals ≡ false) }
+    ensures { IfOk result (λ c. IsLocal c merge_command) }
 {
     let environment = environment_option(alloc);
     let files = files_argument(alloc);
@@ -119,8 +116,7 @@ fn merge_command<'a>(alloc: Global) -> Result<Command<'a>, AllocError>
 }
 
 fn check_command<'a>(alloc: Global) -> Result<Command<'a>, AllocError>
-    ensures shape { IfOk result (λ c. app_of c ≡ check_command) }
-    ensures local { IfOk result (λ c. (out-Command c).has_globals ≡ false) }
+    ensures { IfOk result (λ c. IsLocal c check_command) }
 {
     let environment = environment_option(alloc);
     let pre = pre_flag(alloc);

@@ -1,7 +1,8 @@
 //! The plan of the command that `clap` met in the words.
 
-ghost use Rattle.std.specs.Prelude.{◌≡◌, IfOk, map, option_and_then, option_map, string_bytes};
-ghost use Rattle.clap.specs.Words.{found_of, rows_of, subcommand_rows_of};
+ghost use Rattle.std.specs.Prelude.{◌≡◌, IfOk, IfSome, None, Some};
+ghost use Rattle.std.specs.Prelude.{map, option_and_then, option_map, string_bytes};
+ghost use Rattle.clap.specs.Words.{first_of, found_of, rows_of, subcommand_rows_of};
 ghost use Rattle.command_line.specs.Plan.{
   check_of,
   flag_of,
@@ -35,17 +36,32 @@ fn is_given(found: &ArgMatches<'_>, flag: &str) -> bool
     found.get_one::<bool>(flag).unwrap_or(false)
 }
 
+// The text of an argument, as a string of its own.
+fn text_given(
+    alloc: Global,
+    found: &ArgMatches<'_>,
+    name: &str,
+) -> Result<Option<String>, AllocError>
+    ensures some { IfOk result (λ given. IfSome given (λ text.
+        first_of name.now (rows_of (found_of found.now)) ≡ Some (string_bytes text))) }
+    ensures none { IfOk result (λ given. given ≡ None →
+        first_of name.now (rows_of (found_of found.now)) ≡ None) }
+{
+    match found.get_str(name) {
+        Some(text) => Ok(Some(String::from_str(alloc, text)?)),
+        None => Ok(None),
+    }
+}
+
 // What `version` was given.
 fn version_met(alloc: Global, found: &ArgMatches<'_>) -> Result<Option<Plan>, AllocError>
     ensures { IfOk result (λ plan.
         option_map request plan ≡ version_of (rows_of (found_of found.now))) }
 {
-    let Some(text) = found.get_str("TEXT") else {
-        return Ok(None);
-    };
-    Ok(Some(Plan::ShowVersion {
-        text: String::from_str(alloc, text)?,
-    }))
+    match text_given(alloc, found, "TEXT")? {
+        Some(text) => Ok(Some(Plan::ShowVersion { text })),
+        None => Ok(None),
+    }
 }
 
 // What `lines` was given.
@@ -53,12 +69,10 @@ fn lines_met(alloc: Global, found: &ArgMatches<'_>) -> Result<Option<Plan>, Allo
     ensures { IfOk result (λ plan.
         option_map request plan ≡ lines_of (rows_of (found_of found.now))) }
 {
-    let Some(file) = found.get_str("FILE") else {
-        return Ok(None);
-    };
-    Ok(Some(Plan::ShowLines {
-        file: String::from_str(alloc, file)?,
-    }))
+    match text_given(alloc, found, "FILE")? {
+        Some(file) => Ok(Some(Plan::ShowLines { file })),
+        None => Ok(None),
+    }
 }
 
 // What `merge` was given.

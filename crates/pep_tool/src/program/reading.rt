@@ -3,6 +3,7 @@
 ghost use Rattle.std.specs.Prelude.{
   ◌≡◌,
   ◌⊎◌,
+  ◌<◌,
   ◌≤◌,
   ◌+◌,
   ◌↔◌,
@@ -35,8 +36,8 @@ use inputs::{Input, Kind, environment_of};
 use pep_marker::Environment;
 use std::alloc::Global;
 
-// How many bytes are asked for at once.
-const PIECE: usize = 65_536;
+/// How many bytes are asked for at once.
+pub(crate) const PIECE: usize = 65_536;
 
 // How many bytes of an input or a file are read: one more than it may have.
 const READ_LIMIT: usize = 16_777_217;
@@ -51,13 +52,17 @@ fn read_fault(place: Place) -> Fault
     }
 }
 
-/// The bytes of a source in this place, and no more than the limit and one.
-pub(crate) fn read_all<S: Source>(
+// The bytes of a source in this place, and no more than the limit and one. As many are asked for at
+// once as the buffer has.
+fn read_all<S: Source>(
     alloc: Global,
     source: &mut S,
     place: Place,
+    buffer: &mut [u8],
 ) -> Result<Vec<u8>, Fault>
-    requires { IsFresh (S.device source.old) }
+    requires source { IsFresh (S.device source.old) }
+    requires buffer { 0 < length buffer.old }
+    ensures buffer { length buffer.new ≡ length buffer.old }
     ensures bytes { IfOk result (λ bytes. Consumes (S.left source.old)
         (S.left source.new) bytes.items) }
     ensures whole { IfOk result (λ bytes. length bytes.items ≤ input_limit →
@@ -68,10 +73,9 @@ pub(crate) fn read_all<S: Source>(
     ensures failed { IsTrue (S.device source.new).failed ↔ IsErrOf result (read_fault place) }
     ensures faults { IfErr result (λ fault. (fault ≡ read_fault place) ⊎ (fault ≡ no_memory)) }
 {
-    let mut buffer = [0u8; PIECE];
     let mut bytes = Vec::new(alloc);
     while bytes.len() < READ_LIMIT {
-        let room = PIECE.min(READ_LIMIT - bytes.len());
+        let room = buffer.len().min(READ_LIMIT - bytes.len());
         let piece = &mut buffer[..room];
         match source.pull(piece) {
             Ok(0) => return Ok(bytes),
@@ -82,14 +86,17 @@ pub(crate) fn read_all<S: Source>(
     Ok(bytes)
 }
 
-/// The bytes of the file with this path, and no more than the limit and one. A fault lies in this
-/// place.
+/// The bytes of the file with this path, and no more than the limit and one. As many are asked for at
+/// once as the buffer has. A fault lies in this place.
 pub(crate) fn read_file<D: Folder>(
     alloc: Global,
     folder: &D,
     path: &str,
     place: Place,
+    buffer: &mut [u8],
 ) -> Result<Vec<u8>, Fault>
+    requires { 0 < length buffer.old }
+    ensures buffer { length buffer.new ≡ length buffer.old }
     ensures bytes { IfOk result (λ bytes. ReadsFile (D.file_at folder.now) D.File.left
         D.File.device path.now bytes.items) }
     ensures refused { IfErr result (λ fault. (fault ≡ no_memory)
@@ -100,7 +107,7 @@ pub(crate) fn read_file<D: Folder>(
         Err(OpenFault::NoMemory) => return Err(Fault::no_memory()),
         Err(OpenFault::CannotOpen) => return Err(read_fault(place)),
     };
-    read_all(alloc, &mut file, place)
+    read_all(alloc, &mut file, place, buffer)
 }
 
 /// The environment that the file with this path has.
@@ -114,7 +121,8 @@ pub(crate) fn read_environment<D: Folder>(
     ensures refused { IfErr result (λ fault. (fault ≡ no_memory)
         ⊎ RefusesEnvironment (D.file_at folder.now) D.File.left D.File.device path.now fault) }
 {
-    let bytes = read_file(alloc, folder, path, Place::Environment)?;
+    let mut buffer = [0u8; PIECE];
+    let bytes = read_file(alloc, folder, path, Place::Environment, &mut buffer)?;
     environment_of(alloc, bytes.as_slice())
 }
 
@@ -145,11 +153,13 @@ pub(crate) fn read_inputs<D: Folder>(
         (map string_bytes paths.now) fault) }
 {
     let mut inputs = Vec::with_capacity(alloc, paths.len())?;
+    // One for all: to set 64 KiB to zero takes longer than to read a small file.
+    let mut buffer = [0u8; PIECE];
     let mut number: u64 = 0;
     for path in paths {
         number += 1;
         let path = path.as_str();
-        let bytes = read_file(alloc, folder, path, Place::Input(number))?;
+        let bytes = read_file(alloc, folder, path, Place::Input(number), &mut buffer)?;
         inputs.push(Input {
             kind: kind_of(path),
             bytes,

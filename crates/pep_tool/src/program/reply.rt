@@ -6,9 +6,7 @@ ghost use Rattle.std.specs.Prelude.{
   ◌⊎◌,
   ◌≤◌,
   ◌+◌,
-  ◌∷◌,
   [],
-  All,
   IfOk,
   IfErr,
   OnOk,
@@ -21,13 +19,12 @@ ghost use Rattle.std.specs.Prelude.{
 ghost use Rattle.pep_marker.specs.Name.{name_of};
 ghost use Rattle.pep_require.specs.View.{requirement_parts};
 ghost use Rattle.pep_version.specs.Spelling.{Reads};
-ghost use Rattle.demands.specs.Table.{HasExactPoints, IsTable};
 ghost use Rattle.devices.specs.Device.{Device, IsFresh};
-ghost use Rattle.inputs.specs.Gathered.{Gathered, IsAccepted};
 ghost use Rattle.inputs.specs.Lists.{Lists};
 ghost use Rattle.inputs.specs.Lists.{input_limit};
 ghost use Rattle.command_line.specs.Plan.{request, standard};
-ghost use Rattle.inputs.specs.Refusal.{RefusesInputs, no_memory};
+ghost use Rattle.inputs.specs.Refusal.{no_memory};
+ghost use Rattle.inputs.specs.Streams.{RefusesReading};
 ghost use Rattle.pep_tool.specs.RunReplies.{
   IsReply,
   ChecksFiles,
@@ -38,7 +35,6 @@ ghost use Rattle.pep_tool.specs.RunReplies.{
   MergesInput,
   RefusesCheck,
   RefusesFiles,
-  RefusesInput,
   RefusesLines,
   RefusesName,
   RefusesRequest,
@@ -48,17 +44,17 @@ ghost use Rattle.pep_tool.specs.RunReplies.{
 };
 ghost use Rattle.pep_tool.specs.Standard.{standard_environment};
 
-use crate::program::reading::{kind_of, read_all, read_environment, read_file, read_inputs};
+use crate::program::reading::{PIECE, kind_of, read_environment, read_file, read_inputs};
 use crate::standard::standard_environment;
 use command_line::Plan;
 use devices::{Folder, Source};
 use faults::{ArgumentFault, Cause, Fault, Place};
 use inputs::{
-    Input, Kind, check_bytes, gather, lines_text, list_of, merge_bytes, project_of, text_of,
+    Kind, check_bytes, gather_reader, lines_text, list_of, merge_bytes, project_of, text_of,
 };
 use pep_marker::Name;
 use pep_require::Requirement;
-use pep_table::{Answer, Gathering};
+use pep_table::Answer;
 use pep_version::Version;
 use std::alloc::Global;
 
@@ -156,27 +152,7 @@ fn version_line(alloc: Global, text: &str) -> Result<String, Fault>
     Ok(line)
 }
 
-// What the bytes demand as one list, in the standard environment. They are dropped: the text of
-// the table needs no more of them than what is gathered.
-fn gather_list(alloc: Global, bytes: Vec<u8>) -> Result<Gathering, Fault>
-    ensures accepted { IfOk result (λ gathering. All (IsAccepted standard_environment)
-        (record { kind = Kind.List; bytes = bytes } ∷ [])) }
-    ensures table { IfOk result (IsTable
-        (Gathered standard_environment (record { kind = Kind.List; bytes = bytes } ∷ []))) }
-    ensures points { IfOk result (HasExactPoints
-        (Gathered standard_environment (record { kind = Kind.List; bytes = bytes } ∷ []))) }
-    ensures refused { IfErr result (RefusesInputs standard_environment
-        (record { kind = Kind.List; bytes = bytes } ∷ [])) }
-{
-    let environment = standard_environment(alloc)?;
-    let inputs = [Input {
-        kind: Kind::List,
-        bytes,
-    }];
-    gather(alloc, &inputs, &environment)
-}
-
-// The text of the table of the input, in the standard environment.
+// The text of the table of the input, in the standard environment: merged while it is read.
 fn merge_input<S: Source>(alloc: Global, source: &mut S) -> Result<String, Fault>
     requires { IsFresh (S.device source.old) }
     ensures merged { IfOk result
@@ -184,10 +160,11 @@ fn merge_input<S: Source>(alloc: Global, source: &mut S) -> Result<String, Fault
     ensures no_failure { OnOk result ((S.device source.new).failed ≡ false) }
     ensures calls { (S.device source.new).calls ≤ input_limit + 1 }
     ensures refused { IfErr result (λ fault. (fault ≡ no_memory)
-        ⊎ RefusesInput (S.left source.old) (S.left source.new) (S.device source.new) fault) }
+        ⊎ RefusesReading standard_environment (S.left source.old) (S.left source.new)
+        (S.device source.new) fault) }
 {
-    let bytes = read_all(alloc, source, Place::Input(1))?;
-    let gathering = gather_list(alloc, bytes)?;
+    let environment = standard_environment(alloc)?;
+    let gathering = gather_reader(alloc, source, &environment)?;
     text_of(alloc, gathering)
 }
 
@@ -220,7 +197,8 @@ fn file_lines<D: Folder>(alloc: Global, folder: &D, path: &str) -> Result<String
             cause: Cause::NoRequirements,
         });
     }
-    let bytes = read_file(alloc, folder, path, Place::Input(1))?;
+    let mut buffer = [0u8; PIECE];
+    let bytes = read_file(alloc, folder, path, Place::Input(1), &mut buffer)?;
     let requirements = requirements_to_show(alloc, kind, bytes.as_slice())?;
     lines_text(alloc, requirements.as_slice())
 }
@@ -278,25 +256,16 @@ fn check_files<D: Folder>(
     check_bytes(alloc, inputs.as_slice(), &environment, &name, &version, pre)
 }
 
-// How an answer is printed.
-fn answer_line(answer: Answer) -> &'static str
-    ensures { result.now ≡ answer_line answer }
+// How an answer is printed, and the exit status at it.
+fn answer_printed(answer: Answer) -> (&'static str, u8)
+    ensures line { result.0.now ≡ answer_line answer }
+    ensures status { result.1 ≡ answer_status answer }
+    ensures bound { result.1 ≤ 1 }
 {
     match answer {
-        Answer::Yes => "yes\n",
-        Answer::No => "no\n",
-        Answer::Conflict => "conflict\n",
-    }
-}
-
-// The exit status at an answer.
-fn answer_status(answer: Answer) -> u8
-    ensures status { result ≡ answer_status answer }
-    ensures bound { result ≤ 1 }
-{
-    match answer {
-        Answer::Yes => 0,
-        Answer::No | Answer::Conflict => 1,
+        Answer::Yes => ("yes\n", 0),
+        Answer::No => ("no\n", 1),
+        Answer::Conflict => ("conflict\n", 1),
     }
 }
 
@@ -307,8 +276,9 @@ fn answer_reply(alloc: Global, answer: Answer) -> Result<Reply, Fault>
     ensures bound { IfOk result (λ reply. reply.status ≤ 1) }
     ensures faults { IfErr result (λ fault. fault ≡ no_memory) }
 {
+    let (line, status) = answer_printed(answer);
     Ok(Reply {
-        text: String::from_str(alloc, answer_line(answer))?,
-        status: answer_status(answer),
+        text: String::from_str(alloc, line)?,
+        status,
     })
 }

@@ -5,6 +5,7 @@ ghost use Rattle.pep_version.specs.ByteOrder.{ended};
 ghost use Rattle.pep_version.specs.KeyBytes.{
   dev_bytes,
   label_bytes,
+  marked_bytes,
   number_bytes,
   phase_byte,
   post_bytes,
@@ -86,26 +87,20 @@ fn push_stage(
     Ok(())
 }
 
-// Appends a post-release part.
-fn push_post(bytes: &mut KeyBytes, post: Option<u64>) -> Result<(), VersionFault>
-    ensures ok { OnOk result (bytes.new.items ≡ bytes.old.items ++ post_bytes post) }
+// Appends a part that may be absent: a byte for its absence, or another one and its number.
+fn push_part(
+    bytes: &mut KeyBytes,
+    absent: u8,
+    present: u8,
+    part: Option<u64>,
+) -> Result<(), VersionFault>
+    ensures ok { OnOk result (bytes.new.items
+        ≡ bytes.old.items ++ marked_bytes absent present part) }
     ensures faults { IfErr result (λ e. e ≡ VersionFault.NoMemory) }
 {
-    match post {
-        None => bytes.push(0)?,
-        Some(n) => push_marked(bytes, 1, n)?,
-    }
-    Ok(())
-}
-
-// Appends a developmental release part.
-fn push_dev(bytes: &mut KeyBytes, dev: Option<u64>) -> Result<(), VersionFault>
-    ensures ok { OnOk result (bytes.new.items ≡ bytes.old.items ++ dev_bytes dev) }
-    ensures faults { IfErr result (λ e. e ≡ VersionFault.NoMemory) }
-{
-    match dev {
-        None => bytes.push(1)?,
-        Some(n) => push_marked(bytes, 0, n)?,
+    match part {
+        None => bytes.push(absent)?,
+        Some(n) => push_marked(bytes, present, n)?,
     }
     Ok(())
 }
@@ -183,7 +178,7 @@ pub(crate) fn push_suffix(
     ensures faults { IfErr result (λ e. e ≡ VersionFault.NoMemory) }
 {
     push_stage(bytes, pre, post, dev)?;
-    push_post(bytes, post)?;
-    push_dev(bytes, dev)?;
+    push_part(bytes, 0, 1, post)?;
+    push_part(bytes, 1, 0, dev)?;
     push_label(bytes, label)
 }

@@ -18,6 +18,7 @@ ghost use Rattle.pep_version.specs.ByteOrder.{ended};
 ghost use Rattle.pep_version.specs.KeyBytes.{
   dev_bytes,
   label_bytes,
+  marked_bytes,
   number_bytes,
   post_bytes,
   release_number_bytes,
@@ -92,31 +93,24 @@ fn put_stage(
     put(buffer, at, &[stage])
 }
 
-// A post-release part.
-fn put_post(buffer: &mut [u8; INLINE], at: usize, post: Option<u64>) -> Option<usize>
+// A part that may be absent: a byte for its absence, or another one and its number.
+fn put_part(
+    buffer: &mut [u8; INLINE],
+    at: usize,
+    absent: u8,
+    present: u8,
+    part: Option<u64>,
+) -> Option<usize>
     ensures front { IfSome result (λ end. take end buffer.new
-        ≡ take at buffer.old ++ post_bytes post) }
-    ensures end { IfSome result (λ end. end ≡ at + length (post_bytes post)) }
+        ≡ take at buffer.old ++ marked_bytes absent present part) }
+    ensures end { IfSome result (λ end. end ≡ at + length (marked_bytes absent present part)) }
     ensures within { IfSome result (λ end. end ≤ length buffer.new) }
-    ensures room { at + length (post_bytes post) ≤ length buffer.old → IsSome result }
+    ensures room { at + length (marked_bytes absent present part) ≤ length buffer.old
+        → IsSome result }
 {
-    match post {
-        None => put(buffer, at, &[0]),
-        Some(n) => put_marked(buffer, at, 1, n),
-    }
-}
-
-// A developmental release part.
-fn put_dev(buffer: &mut [u8; INLINE], at: usize, dev: Option<u64>) -> Option<usize>
-    ensures front { IfSome result (λ end. take end buffer.new
-        ≡ take at buffer.old ++ dev_bytes dev) }
-    ensures end { IfSome result (λ end. end ≡ at + length (dev_bytes dev)) }
-    ensures within { IfSome result (λ end. end ≤ length buffer.new) }
-    ensures room { at + length (dev_bytes dev) ≤ length buffer.old → IsSome result }
-{
-    match dev {
-        None => put(buffer, at, &[1]),
-        Some(n) => put_marked(buffer, at, 0, n),
+    match part {
+        None => put(buffer, at, &[absent]),
+        Some(n) => put_marked(buffer, at, present, n),
     }
 }
 
@@ -138,8 +132,8 @@ fn put_suffix(
         return put(buffer, at, &[0x50, 0, 1, 0]);
     }
     let end = put_stage(buffer, at, post, dev)?;
-    let end = put_post(buffer, end, post)?;
-    let end = put_dev(buffer, end, dev)?;
+    let end = put_part(buffer, end, 0, 1, post)?;
+    let end = put_part(buffer, end, 1, 0, dev)?;
     put(buffer, end, &[0])
 }
 

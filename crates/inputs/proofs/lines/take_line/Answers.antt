@@ -20,7 +20,11 @@ returns-in-Ok-Some-clause-ok g c =
 pub returns-in-Ok-Some-clause-refused : goal.returns-in-Ok-Some-clause-refused
 returns-in-Ok-Some-clause-refused g c =
     let has = has_text g (goal.at.returns-in-Ok-Some-clause-refused g c).In-Ok-Some in
-    IfErr-weaker c.take.result _ _ (λ fault r. inr (c.in-Ok-Some.text.now, has, r))
+    IfErr-weaker c.take.result _ _ (λ fault r. inr (record {
+      text = c.in-Ok-Some.text.now;
+      has = has;
+      refused = r;
+    }))
     c.take.ensures.refused
 
 pub returns-in-Err-clause-refused : goal.returns-in-Err-clause-refused

@@ -18,5 +18,5 @@ returns-clause-right c =
       pre = c.split_pre.ensures.digits;
       post = c.split_post.ensures.digits;
       dev = c.split_dev.ensures.digits;
-      label = c.in_ok-label.ensures.runs;
+      label = c.in_ok-split_label.ensures.runs;
     }

@@ -1,5 +1,5 @@
-use Rattle.std.proofs.Common.{◌∙◌, ◌-◌, ap, arith, drop, length, length-drop, sym}
-use Rattle.std.proofs.lemmas.List.{take_all}
+use Rattle.std.proofs.Common.{◌∙◌, ap, sym}
+use Rattle.texts.proofs.ListLemmas.{to-end}
 use Rattle.pep_version.specs.Slices.{lower}
 use Rattle.pep_version.specs.Reading.{goes_on}
 use Rattle.pep_version.proofs.SliceLemmas.{release-more}
@@ -8,10 +8,6 @@ use Rattle.pep_version.proofs.slices.split_release.Goals as goal
 pub bytes-preserved : goal.bytes-preserved
 bytes-preserved c =
     let t = c.args.text.now in
-    let all =
-    take_all (length t - c.bytes.i) (drop c.bytes.i t) (omega (
-      arith,
-      length-drop c.bytes.i t,
-    )) in
     release-more t c.bytes.i c.bytes-test.true c.bytes.invariant
-    (ap (λ l. goes_on (lower l)) (sym all) ∙ sym c.goes_on.ensures ∙ c.if-not-goes_on.false)
+    (ap (λ l. goes_on (lower l)) (sym (to-end t c.bytes.i)) ∙ sym c.goes_on.ensures
+    ∙ c.if-not-goes_on.false)

@@ -1,8 +1,8 @@
 use Rattle.std.proofs.Common.{[], ◌∷◌, codes, rules}
 use Rattle.std.proofs.lemmas.Result.{IfOk-weaker}
-use Rattle.command_line.specs.Plan.{command_with, environment_option, pre_flag}
+use Rattle.command_line.specs.Plan.{IsLocal, command_with, environment_option, pre_flag}
 use Rattle.command_line.specs.Plan.{text_argument}
-use Rattle.command_line.proofs.PlanLemmas.{IsLocal, more_arguments}
+use Rattle.command_line.proofs.PlanLemmas.{more_arguments}
 use Rattle.command_line.proofs.plan.command.check_command.Goals as goal
 
 -- the command with all its arguments but the files
@@ -24,14 +24,8 @@ before_files c =
     pre.ensures.rule pre.ensures.local) name.ensures.rule name.ensures.local)
     version.ensures.rule version.ensures.local
 
-pub returns-clause-shape : goal.returns-clause-shape
-returns-clause-shape c =
+pub returns : goal.returns
+returns c =
     let files = c.files_argument-files in
-    IfOk-weaker c.arg-5.result _ _ (λ r h. (more_arguments _ r files.result _ _ h (before_files c)
-    files.ensures.rule files.ensures.local).0) c.arg-5.ensures
-
-pub returns-clause-local : goal.returns-clause-local
-returns-clause-local c =
-    let files = c.files_argument-files in
-    IfOk-weaker c.arg-5.result _ _ (λ r h. (more_arguments _ r files.result _ _ h (before_files c)
-    files.ensures.rule files.ensures.local).1) c.arg-5.ensures
+    IfOk-weaker c.arg-5.result _ _ (λ r h. more_arguments _ r files.result _ _ h (before_files c)
+    files.ensures.rule files.ensures.local) c.arg-5.ensures

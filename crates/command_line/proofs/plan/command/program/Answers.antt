@@ -13,13 +13,10 @@ returns c =
     let merge = c.in_ok-merge_command in
     let check = c.in_ok-check_command in
     let with_version =
-    more_commands _ _ version.field-0 _ _ c.in_ok-subcommand.ensures bare version.ensures.shape
-    version.ensures.local in
+    more_commands _ _ version.field-0 _ _ c.in_ok-subcommand.ensures bare version.ensures in
     let with_lines =
-    more_commands _ _ lines.field-0 _ _ c.in_ok-subcommand-2.ensures with_version
-    lines.ensures.shape lines.ensures.local in
+    more_commands _ _ lines.field-0 _ _ c.in_ok-subcommand-2.ensures with_version lines.ensures in
     let with_merge =
-    more_commands _ _ merge.field-0 _ _ c.in_ok-subcommand-3.ensures with_lines
-    merge.ensures.shape merge.ensures.local in
-    IfOk-weaker c.subcommand-4.result _ _ (λ r h. more_commands _ r check.field-0 _ _ h with_merge
-    check.ensures.shape check.ensures.local) c.subcommand-4.ensures
+    more_commands _ _ merge.field-0 _ _ c.in_ok-subcommand-3.ensures with_lines merge.ensures in
+    IfOk-weaker c.subcommand-4.result _ _
+    (λ r h. more_commands _ r check.field-0 _ _ h with_merge check.ensures) c.subcommand-4.ensures

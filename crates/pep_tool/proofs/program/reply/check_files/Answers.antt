@@ -1,30 +1,28 @@
 use Rattle.std.proofs.Common.{map, string_bytes}
-use Rattle.std.proofs.lemmas.Result.{err_from_is_err_and}
+use Rattle.pep_table.proofs.Exits.{further, handed_on}
 use Rattle.pep_tool.specs.RunReplies.{by_checked, by_environment, by_files, by_name}
-use Rattle.pep_tool.proofs.Refusals.{check_refused, checks_files, files_refuse, memory_or}
+use Rattle.pep_tool.proofs.Refusals.{asked, check_refused, checks_files, files_refuse}
 use Rattle.pep_tool.proofs.program.reply.check_files.Goals as goal
 
 pub returns-in_err-name-clause-refused : goal.returns-in_err-name-clause-refused
 returns-in_err-name-clause-refused g c =
     let exit = c.from_residual-in_err-name in
-    let p = err_from_is_err_and exit.result exit.ensures.1 in
-    rw (p.1, p.2) (memory_or (by_name _ c.in_ok-version.ensures.version)
-    c.in_err-name.ensures.refused)
+    handed_on _ exit.result _ exit.ensures.1
+    (further (by_name _ c.in_ok-version.ensures.version) c.in_err-name.ensures.refused)
 
 pub returns-in_err-environment-clause-refused : goal.returns-in_err-environment-clause-refused
 returns-in_err-environment-clause-refused g c =
     let exit = c.from_residual-in_err-environment in
-    let p = err_from_is_err_and exit.result exit.ensures.1 in
-    rw (p.1, p.2) (memory_or (λ h. by_checked _ _ c.in_ok-version.ensures.version
-    c.in_ok-name.ensures.name (by_environment h)) c.in_err-environment.ensures.refused)
+    handed_on _ exit.result _ exit.ensures.1
+    (further (λ h. by_checked _ _
+    (asked c.in_ok-version.ensures.version c.in_ok-name.ensures.name) (by_environment h)) c.in_err-environment.ensures.refused)
 
 pub returns-in_err-inputs-clause-refused : goal.returns-in_err-inputs-clause-refused
 returns-in_err-inputs-clause-refused g c =
     let exit = c.from_residual-in_err-inputs in
-    let p = err_from_is_err_and exit.result exit.ensures.1 in
-    rw (p.1, p.2) (memory_or (λ h. by_checked _ _ c.in_ok-version.ensures.version
-    c.in_ok-name.ensures.name (by_files _ c.in_ok-environment.ensures.environment h))
-    c.in_err-inputs.ensures.refused)
+    handed_on _ exit.result _ exit.ensures.1
+    (further (λ h. by_checked _ _
+    (asked c.in_ok-version.ensures.version c.in_ok-name.ensures.name) (by_files _ c.in_ok-environment.ensures.environment h)) c.in_err-inputs.ensures.refused)
 
 pub returns-clause-checked : goal.returns-clause-checked
 returns-clause-checked g c =

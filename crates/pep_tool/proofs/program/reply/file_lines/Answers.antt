@@ -5,7 +5,8 @@ use Rattle.faults.specs.declared.fault.Place.TheVariants.{Input}
 use Rattle.inputs.specs.declared.input.Kind.TheVariants as kind
 use Rattle.pep_tool.specs.RunReplies.{IsUnlisted, by_listing}
 use Rattle.pep_tool.specs.RunFiles.{kind_of}
-use Rattle.pep_tool.proofs.Refusals.{lists_file, memory_or}
+use Rattle.pep_table.proofs.Exits.{further}
+use Rattle.pep_tool.proofs.Refusals.{lists_file}
 use Rattle.pep_tool.proofs.RunFiles.{file_refuses, file_unread_refuses}
 use Rattle.pep_tool.proofs.program.reply.file_lines.Goals as goal
 
@@ -14,7 +15,7 @@ returns-in_err-bytes-clause-refused g c =
     let exit = c.from_residual in
     let p = err_from_is_err_and exit.result exit.ensures.1 in
     let other : kind_of c.args.path.now ≢ kind.Table = search rules in
-    rw (p.1, p.2) (memory_or (by_listing other)
+    rw (p.1, p.2) (further (by_listing other)
     (file_unread_refuses (IsUnlisted (kind_of c.args.path.now)) _ _ _ c.args.path.now (Input 1) _
     c.in_err-bytes.ensures.refused))
 
@@ -24,7 +25,7 @@ returns-in_err-requirements-clause-refused g c =
     let p = err_from_is_err_and exit.result exit.ensures.1 in
     let told = rw c.kind_of-kind.ensures at c.in_err-requirements.ensures.refused in
     let other : kind_of c.args.path.now ≢ kind.Table = search rules in
-    rw (p.1, p.2) (memory_or (by_listing other)
+    rw (p.1, p.2) (further (by_listing other)
     (file_refuses (IsUnlisted (kind_of c.args.path.now)) _ _ _ c.args.path.now (Input 1)
     c.in_ok-bytes.bytes.items c.as_slice.result.now _ c.in_ok-bytes.ensures.bytes
     c.as_slice.ensures.value told))

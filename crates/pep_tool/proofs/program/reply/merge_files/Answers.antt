@@ -1,21 +1,19 @@
 use Rattle.std.proofs.Common.{map, string_bytes}
-use Rattle.std.proofs.lemmas.Result.{err_from_is_err_and}
+use Rattle.pep_table.proofs.Exits.{further, handed_on}
 use Rattle.pep_tool.specs.RunReplies.{by_environment, by_files}
-use Rattle.pep_tool.proofs.Refusals.{files_refuse, memory_or, merges_files}
+use Rattle.pep_tool.proofs.Refusals.{files_refuse, merges_files}
 use Rattle.pep_tool.proofs.program.reply.merge_files.Goals as goal
 
 pub returns-in_err-environment-clause-refused : goal.returns-in_err-environment-clause-refused
 returns-in_err-environment-clause-refused g c =
-    let exit = c.from_residual in
-    let p = err_from_is_err_and exit.result exit.ensures.1 in
-    rw (p.1, p.2) (memory_or by_environment c.in_err-environment.ensures.refused)
+    handed_on _ c.from_residual.result _ c.from_residual.ensures.1
+    (further by_environment c.in_err-environment.ensures.refused)
 
 pub returns-in_err-inputs-clause-refused : goal.returns-in_err-inputs-clause-refused
 returns-in_err-inputs-clause-refused g c =
     let exit = c.from_residual-in_err-inputs in
-    let p = err_from_is_err_and exit.result exit.ensures.1 in
-    rw (p.1, p.2) (memory_or (by_files _ c.in_ok-environment.ensures.environment)
-    c.in_err-inputs.ensures.refused)
+    handed_on _ exit.result _ exit.ensures.1
+    (further (by_files _ c.in_ok-environment.ensures.environment) c.in_err-inputs.ensures.refused)
 
 pub returns-clause-merged : goal.returns-clause-merged
 returns-clause-merged g c =

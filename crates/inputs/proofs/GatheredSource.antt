@@ -1,0 +1,150 @@
+-- What a list demands that was read, and why it is refused.
+use Rattle.std.proofs.Common.{◌≡◌, ◌≢◌, ◌≤◌, ℕ, ◌⊎◌, Bool, true, false, List, [], ◌∷◌, ◌++◌, length, ap}
+use Rattle.std.proofs.Common.{subst, sym, refl, ◌∙◌, inl, inr, Option}
+use Rattle.std.specs.Prelude.{IsUtf8}
+use Rattle.std.specs.List.{AllByRecursion}
+use Rattle.std.proofs.lemmas.List.Elements.{All-from_recursion}
+use Rattle.devices.specs.Device.{Device}
+use Rattle.texts.specs.Limits.{line_limit}
+use Rattle.pep_marker.specs.Environment.{EnvironmentParts}
+use Rattle.pep_table.proofs.SameDemands.{same_demands}
+use Rattle.pep_table.proofs.Taking.{applying_is_table, no_demands}
+use Rattle.demands.specs.Demand.{ApplyingDemands, Demand, Together}
+use Rattle.demands.specs.Table.{HasExactPoints, IsTable, TableParts}
+use Rattle.faults.specs.declared.fault.Cause.{Cause}
+use Rattle.faults.specs.declared.fault.Cause.TheVariants as cause
+use Rattle.faults.specs.declared.fault.Fault.{Fault}
+use Rattle.faults.specs.declared.fault.Place.TheVariants as place
+use Rattle.inputs.specs.declared.input.Kind.TheVariants as kind
+use Rattle.inputs.specs.Gathered.{BytesDemand}
+use Rattle.inputs.specs.GatheredLines.{GathersBytes, RefusesAsInput}
+use Rattle.inputs.specs.LineReading.{HasTaken, RefusesSource, TakesInTurn, TakesSource}
+use Rattle.inputs.specs.LineReading as reading
+use Rattle.pep_require.specs.Requirement.{RequirementParts}
+use Rattle.pep_marker.specs.Environment.{extra_in}
+use Rattle.std.specs.Prelude.{◌↔◌}
+use Rattle.inputs.specs.Lists.{Lists, content, is_skipped, requirements_among}
+use Rattle.inputs.specs.Refusal.{IsRefused, no_memory}
+use Rattle.inputs.specs.Streams.{HasGoodLines, IsGoodLine, IsTableOfList, MayFollow, ReadsDefined}
+use Rattle.inputs.specs.Streams.{ReadsTable, RefusesReading, by_bytes, by_failure, failed_read}
+use Rattle.inputs.specs.TakenTexts.{GathersText, RefusesTextIn}
+use Rattle.inputs.proofs.AcceptedInputs.{bytes_demand_in, defined_all, refused_bytes}
+use Rattle.inputs.proofs.Placed.{memory_or_other}
+use Rattle.inputs.proofs.TakenTexts.{list_gathered, list_refused_in}
+
+-- ---- the table
+
+module _ (e : EnvironmentParts) (bytes : List ℕ) where
+  -- the demands of the bytes, from nothing
+  from_nothing : (rs : List RequirementParts) (name : List ℕ) (d : Demand) →
+      Lists (extra_in e) kind.List bytes rs →
+      Together (λ name d. ⊥) (ApplyingDemands e rs) name d ↔ BytesDemand e kind.List bytes name d
+  from_nothing rs name d is = (there, λ h. inr (same.1 h))
+    where
+      same : ApplyingDemands e rs name d ↔ BytesDemand e kind.List bytes name d
+      same = bytes_demand_in e kind.List bytes rs name d is
+
+      there : ⊥ ⊎ ApplyingDemands e rs name d → BytesDemand e kind.List bytes name d
+      there (inl never) = absurd never
+      there (inr h) = same.0 h
+
+  table_of_list : (t : TableParts) → GathersBytes e kind.List bytes [] t → IsTableOfList e bytes t
+  table_of_list t (inl (rs, is, takes)) =
+      let one = applying_is_table e (λ name d. ⊥) [] rs t no_demands.0 no_demands.1 takes in
+      let all = same_demands (Together (λ name d. ⊥) (ApplyingDemands e rs))
+      (BytesDemand e kind.List bytes) t (λ name d. from_nothing rs name d is) one.0 one.1 in
+      record {
+        accepted = inl (rs, is, defined_all e [] rs t takes);
+        is_table = all.0;
+        points = all.1;
+      }
+  table_of_list t (inr h) = absurd h.1
+
+-- the table of a list that was read
+pub reads_table : (e : EnvironmentParts) (left after : Option (List ℕ)) (start t : TableParts) →
+    start ≡ [] → TakesSource (GathersText e) left after start t → ReadsTable e left after t
+reads_table e left after start t none h = record {
+  bytes = h.bytes;
+  reads = h.reads;
+  whole = h.whole;
+  of_list = table_of_list e h.bytes t (subst (λ old. GathersBytes e kind.List h.bytes old t) none
+      (list_gathered e h.bytes start t h.taken));
+}
+
+-- ---- refusals
+
+-- lines whose texts are taken are lines that a list in the environment may have
+good_lines : (e : EnvironmentParts) (done : List (List ℕ)) (old new : TableParts) →
+    AllByRecursion (λ line. length line ≤ line_limit) done → AllByRecursion IsUtf8 done →
+    TakesInTurn (GathersText e) (requirements_among done) old new →
+    AllByRecursion (IsGoodLine (ReadsDefined e)) done
+good_lines e [] old new short texts t = tt
+good_lines e (line ∷ done) old new short texts t =
+    by (is_skipped (content line)) refl
+    (λ old left. good_lines e done old new short.1 texts.1 left)
+  where
+    by : (skipped : Bool) → is_skipped (content line) ≡ skipped →
+        ((old : TableParts) → TakesInTurn (GathersText e) (requirements_among done) old new →
+        AllByRecursion (IsGoodLine (ReadsDefined e)) done) →
+        AllByRecursion (IsGoodLine (ReadsDefined e)) (line ∷ done)
+    by true seen more = (
+      record { short = short.0; text = texts.0; requirement = λ kept. cc (seen, kept) },
+      more old (rw seen at t),
+    )
+    by false seen more =
+        let taken = rw seen at t in (
+          record {
+            short = short.0;
+            text = texts.0;
+            requirement = λ kept. (taken.1.0, (taken.1.1, (taken.1.2.1, taken.1.2.2)));
+          },
+          more taken.0 taken.2,
+        )
+
+-- why a list is refused that is read
+pub reading_refused : (e : EnvironmentParts) (left after : Option (List ℕ)) (source : Device)
+    (start : TableParts) (c : Cause) (f : Fault) → start ≡ [] →
+    RefusesSource (GathersText e) (RefusesTextIn e) left after source.failed start c →
+    f.cause ≡ c → (c ≡ cause.NoMemory → f ≡ no_memory) →
+    (c ≢ cause.NoMemory → f.place ≡ place.Input 1) →
+    (f ≡ no_memory) ⊎ RefusesReading e left after source f
+reading_refused e left after source start c f nothing (reading.by_memory is) same none at =
+    inl (none is)
+reading_refused e left after source start c f nothing
+    (reading.by_failure bytes held number new did is reads room has) same none at =
+    let told : c ≢ cause.NoMemory = λ memory. cc (is, memory) in
+    inr (by_failure did (λ i. record { place = at told i; cause = (same ∙ is) i }) (record {
+      bytes = bytes;
+      reads = reads;
+      bound = room;
+      ended = has.lines.done;
+      held = held;
+      split = has.lines.split;
+      good = All-from_recursion (IsGoodLine (ReadsDefined e)) has.lines.done
+          (good_lines e has.lines.done start new has.lines.short has.lines.texts has.lines.taken);
+      short = has.is_held.short;
+    }))
+reading_refused e left after source start c f nothing
+    (reading.by_bytes bytes ready reads room refuses) same none at =
+    by (memory_or_other c)
+  where
+    refused : c ≢ cause.NoMemory → (more : List ℕ) → MayFollow after more →
+        IsRefused e kind.List (bytes ++ more) f.cause
+    refused told more follows =
+        elim (list_refused_in e (bytes ++ more) c (refuses more follows)) [
+          | inl memory ↦ absurd (told memory)
+          | inr h ↦ subst (IsRefused e kind.List (bytes ++ more)) (sym same) h
+        ]
+
+    by : (c ≡ cause.NoMemory) ⊎ (c ≢ cause.NoMemory) →
+        (f ≡ no_memory) ⊎ RefusesReading e left after source f
+    by (inl memory) = inl (none memory)
+    by (inr told) = inr (by_bytes ready (record {
+      bytes = bytes;
+      reads = reads;
+      bound = room;
+      lies = at told;
+      is_refused = refused told;
+      not_accepted = λ overflow more follows. refused_bytes e kind.List (bytes ++ more) f.cause
+          overflow (refused told more follows);
+    }))

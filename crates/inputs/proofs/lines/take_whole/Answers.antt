@@ -1,0 +1,18 @@
+use Rattle.std.proofs.Common.{◌≡◌, ◌==◌, ◌∙◌, [], ap, inr, subst, sym}
+use Rattle.std.proofs.lemmas.Result.{IfErr-weaker}
+use Rattle.texts.proofs.ListLemmas.{nothing_in}
+use Rattle.inputs.specs.LineReading.{RefusesLineBytes}
+use Rattle.inputs.proofs.lines.take_whole.Goals as goal
+
+pub returns-then-is_empty-clause-refused : goal.returns-then-is_empty-clause-refused
+returns-then-is_empty-clause-refused g c =
+    let none : c.args.held.items ≡ [] =
+    nothing_in c.args.held.items
+    (ap (λ n. n == 0) (sym c.args.held.ok.0) ∙ sym c.is_empty.ensures ∙ c.if-is_empty.true) in
+    rw none (IfErr-weaker c.take_line.result _ _ (λ fault h. inr h) c.take_line.ensures.refused)
+
+pub returns-clause-refused : goal.returns-clause-refused
+returns-clause-refused g c =
+    IfErr-weaker c.take_line-2.result _ _
+    (λ fault h. inr (subst (λ l. RefusesLineBytes (g.T.Taker.refuses c.args.taker.now) l fault)
+    (c.as_slice.ensures.value ∙ c.in_ok-line.ensures.ok.0) h)) c.take_line-2.ensures.refused

@@ -1,0 +1,14 @@
+//! One module a subject.
+
+mod clauses;
+mod codes;
+mod cuts;
+mod environments;
+mod large;
+mod markers;
+mod names;
+mod ordered;
+mod packed;
+mod requirements;
+mod sets;
+mod versions;

@@ -1,0 +1,200 @@
+//! Environments of markers: which pairs make one, what is wrong with others, and the normal form of
+//! texts beside `extra`.
+
+use pep_marker::{Environment, MarkerFault, Variable, norm_of};
+use std::alloc::{AllocError, Global};
+use std::process::Abort;
+use std::test::Fail;
+use tests_kit::{MACHINE, expect, expect_row, expect_same, repeated};
+
+const VARIABLES: [Variable; 11] = [
+    Variable::OsName,
+    Variable::SysPlatform,
+    Variable::PlatformMachine,
+    Variable::PlatformPythonImplementation,
+    Variable::PlatformRelease,
+    Variable::PlatformSystem,
+    Variable::PlatformVersion,
+    Variable::PythonVersion,
+    Variable::PythonFullVersion,
+    Variable::ImplementationName,
+    Variable::ImplementationVersion,
+];
+
+// The pairs of the machine but those at two places, from the last to the first.
+fn pairs_without(
+    alloc: Global,
+    first: usize,
+    second: usize,
+) -> Result<Vec<(&'static str, &'static str)>, AllocError> {
+    let mut pairs = Vec::new(alloc);
+    for i in (0..11).rev() {
+        if i != first && i != second {
+            pairs.push(MACHINE[i])?;
+        }
+    }
+    Ok(pairs)
+}
+
+// Names that no variable has.
+const NO_VARIABLES: [&str; 5] = ["", "os.name", "OS_NAME", "os_name ", "python_versions"];
+
+fn expect_machine(rt: &impl Abort, environment: &Environment, extra: &str) {
+    for &(name, text) in &MACHINE {
+        expect_same(rt, name, environment.value(name), Some(text));
+    }
+    expect_same(rt, "extra", environment.value("extra"), Some(extra));
+}
+
+#[test]
+fn values(rt: HostRuntime) -> Result<(), Fail> {
+    let environment = Environment::of(rt.alloc(), &MACHINE)?;
+    expect_machine(&rt, &environment, "");
+    for name in &NO_VARIABLES {
+        expect(&rt, name, environment.value(name).is_none());
+    }
+    Ok(())
+}
+
+// The environment of the machine from the last variable to the first, with an extra.
+fn machine_from_behind(alloc: Global) -> Result<Environment, MarkerFault> {
+    let mut pairs = pairs_without(alloc, 11, 11)?;
+    pairs.push(("extra", "Dev_Tools"))?;
+    Environment::of(alloc, &pairs)
+}
+
+#[test]
+fn extra_and_order(rt: HostRuntime) -> Result<(), Fail> {
+    let environment = machine_from_behind(rt.alloc())?;
+    expect_machine(&rt, &environment, "Dev_Tools");
+    Ok(())
+}
+
+const FAULTY_PAIRS: [(&[(&str, &str)], MarkerFault); 10] = [
+    (&[], MarkerFault::MissingVariable(Variable::OsName)),
+    (&[("os.name", "posix")], MarkerFault::UnknownVariable),
+    (&[("OS_NAME", "posix")], MarkerFault::UnknownVariable),
+    (&[("nothing", "\t")], MarkerFault::UnknownVariable),
+    (
+        &[("os_name", "a"), ("os_name", "a")],
+        MarkerFault::RepeatedVariable,
+    ),
+    (
+        &[("extra", ""), ("extra", "")],
+        MarkerFault::RepeatedVariable,
+    ),
+    (
+        &[("os_name", "a"), ("os_name", "\t")],
+        MarkerFault::RepeatedVariable,
+    ),
+    (&[("os_name", "\t")], MarkerFault::BadValue),
+    (&[("os_name", "\n"), ("nothing", "")], MarkerFault::BadValue),
+    (
+        &[("os_name", "a"), ("nothing", "")],
+        MarkerFault::UnknownVariable,
+    ),
+];
+
+fn fault_of(alloc: Global, pairs: &[(&str, &str)]) -> Option<MarkerFault> {
+    Environment::of(alloc, pairs).err()
+}
+
+#[test]
+fn faulty_pairs(rt: HostRuntime) {
+    for &(pairs, fault) in &FAULTY_PAIRS {
+        let found = fault_of(rt.alloc(), pairs);
+        expect(&rt, pairs, found == Some(fault));
+    }
+}
+
+// What is wrong with the pairs of the machine but those at two places.
+fn fault_without(
+    alloc: Global,
+    first: usize,
+    second: usize,
+) -> Result<Option<MarkerFault>, AllocError> {
+    let pairs = pairs_without(alloc, first, second)?;
+    Ok(fault_of(alloc, pairs.as_slice()))
+}
+
+// The first of the missing variables is told.
+fn expect_missing(
+    rt: &(impl Abort + AllocGlobal),
+    place: usize,
+    variable: Variable,
+) -> Result<(), AllocError> {
+    for other in place..11 {
+        let found = fault_without(rt.alloc(), place, other)?;
+        expect_same(
+            rt,
+            other,
+            found,
+            Some(MarkerFault::MissingVariable(variable)),
+        );
+    }
+    Ok(())
+}
+
+#[test]
+fn missing_variables(rt: HostRuntime) -> Result<(), Fail> {
+    for (place, variable) in VARIABLES.iter().enumerate() {
+        expect_missing(&rt, place, *variable)?;
+    }
+    Ok(())
+}
+
+// What is wrong with a value of `a` and this character, alone.
+fn fault_of_character(alloc: Global, code: u8) -> Result<Option<MarkerFault>, AllocError> {
+    let mut text = String::from_str(alloc, "a")?;
+    text.push(char::from(code))?;
+    Ok(fault_of(alloc, &[("os_name", text.as_str())]))
+}
+
+fn wanted_fault(code: u8) -> MarkerFault {
+    if code < 32 || code == 127 {
+        MarkerFault::BadValue
+    } else {
+        MarkerFault::MissingVariable(Variable::SysPlatform)
+    }
+}
+
+#[test]
+fn characters_of_values(rt: HostRuntime) -> Result<(), Fail> {
+    for code in 0..=160u8 {
+        let fault = fault_of_character(rt.alloc(), code)?;
+        expect_same(&rt, code, fault, Some(wanted_fault(code)));
+    }
+    Ok(())
+}
+
+const NORMAL_TEXTS: [(&str, &str); 8] = [
+    ("", ""),
+    ("A__b.C", "a-b-c"),
+    ("Dev_Tools", "dev-tools"),
+    ("_.-", "-"),
+    ("-a.", "-a-"),
+    ("a b\t", "a b\t"),
+    ("\u{e9}_X", "\u{e9}-x"),
+    ("\u{c9}..\u{20ac}-\u{1f40d}Z", "\u{c9}-\u{20ac}-\u{1f40d}z"),
+];
+
+#[test]
+fn normal_texts(rt: HostRuntime) -> Result<(), Fail> {
+    for &(text, want) in &NORMAL_TEXTS {
+        let found = norm_of(rt.alloc(), text)?;
+        expect_row(&rt, text, found.as_str(), want);
+    }
+    Ok(())
+}
+
+fn long_normal_text(alloc: Global) -> Result<String, MarkerFault> {
+    let text = repeated(alloc, "", "\u{c9}A_.", 20_000, "")?;
+    norm_of(alloc, text.as_str())
+}
+
+#[test]
+fn a_long_normal_text(rt: HostRuntime) -> Result<(), Fail> {
+    let found = long_normal_text(rt.alloc())?;
+    assert!(rt; found == repeated(rt.alloc(), "", "\u{c9}a-", 20_000, "")?);
+    Ok(())
+}

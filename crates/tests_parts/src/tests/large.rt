@@ -1,0 +1,103 @@
+//! Versions, names and sets that are larger than a body that gives up early would take.
+
+use crate::tests::sets::shown;
+use pep_clause::{Clause, ClauseFault, VersionSet};
+use pep_marker::{MarkerFault, Name};
+use pep_version::{Key, Version, VersionFault};
+use std::alloc::{AllocError, Global};
+use std::test::Fail;
+use tests_kit::{push_numbered, repeated};
+
+// A version of 20,002 release numbers and a label of 1,000 segments.
+fn long_text(alloc: Global) -> Result<String, AllocError> {
+    let mut text = repeated(alloc, "1", ".0", 20_000, ".7+0")?;
+    push_numbered(alloc, &mut text, ".", 1..1000, "")?;
+    Ok(text)
+}
+
+fn normal(alloc: Global, text: &str) -> Result<String, VersionFault> {
+    Version::read(alloc, text)?.text(alloc)
+}
+
+fn copied(alloc: Global, text: &str) -> Result<String, VersionFault> {
+    Version::read(alloc, text)?.copied(alloc)?.text(alloc)
+}
+
+fn placed(alloc: Global, text: &str) -> Result<String, VersionFault> {
+    let place = Key::of(alloc, &Version::read(alloc, text)?)?;
+    place.version(alloc)?.text(alloc)
+}
+
+#[test]
+fn long_versions(rt: HostRuntime) -> Result<(), Fail> {
+    let text = long_text(rt.alloc())?;
+    assert!(rt; normal(rt.alloc(), text.as_str())? == text);
+    assert!(rt; copied(rt.alloc(), text.as_str())? == text);
+    assert!(rt; placed(rt.alloc(), text.as_str())? == text);
+    Ok(())
+}
+
+// Whether the text is its own name, and that of the name's copy.
+fn is_name(alloc: Global, text: &str) -> Result<bool, MarkerFault> {
+    let name = Name::read(alloc, text)?;
+    Ok(name.text() == text && name.copied(alloc)? == name)
+}
+
+#[test]
+fn long_names(rt: HostRuntime) -> Result<(), Fail> {
+    let text = repeated(rt.alloc(), "", "a-b", 20_000, "")?;
+    assert!(rt; is_name(rt.alloc(), text.as_str())?);
+    Ok(())
+}
+
+// The set of all versions but that of a number.
+fn without(alloc: Global, number: u32) -> Result<VersionSet, ClauseFault> {
+    let clause = format!(in alloc; "!={number}")?;
+    VersionSet::of(alloc, &Clause::read(alloc, clause.as_str())?)
+}
+
+// The set of all versions but every second number from the first one on, below 201.
+fn without_each_second(alloc: Global, first: u32) -> Result<VersionSet, ClauseFault> {
+    let mut set = VersionSet::all(alloc)?;
+    for number in 1..201 {
+        if number % 2 == first % 2 {
+            set.join(alloc, &without(alloc, number)?)?;
+        }
+    }
+    Ok(set)
+}
+
+#[test]
+fn sets_of_many_ranges(rt: HostRuntime) -> Result<(), Fail> {
+    for first in 0..2 {
+        let set = without_each_second(rt.alloc(), first)?;
+        assert!(rt; set.ranges().len() == 101);
+    }
+    Ok(())
+}
+
+// The set of both, each joined to the other.
+fn joins(alloc: Global) -> Result<(VersionSet, VersionSet), ClauseFault> {
+    let odd = without_each_second(alloc, 1)?;
+    let even = without_each_second(alloc, 0)?;
+    Ok((odd.joined(alloc, &even)?, even.joined(alloc, &odd)?))
+}
+
+// Its ranges: from what lies behind one of the numbers to the next.
+fn ranges_of_joins(alloc: Global) -> Result<String, AllocError> {
+    let mut text = String::from_str(alloc, "[before 0.dev0")?;
+    for number in 1..201 {
+        let cuts = format!(in alloc; " to before {number}][before {number}.post0.dev0")?;
+        text.push_str(cuts.as_str())?;
+    }
+    text.push_str(" to end]")?;
+    Ok(text)
+}
+
+#[test]
+fn ranges_of_a_large_join(rt: HostRuntime) -> Result<(), Fail> {
+    let (joined, other) = joins(rt.alloc())?;
+    assert!(rt; joined == other && joined.ranges().len() == 201);
+    assert!(rt; shown(rt.alloc(), &joined)? == ranges_of_joins(rt.alloc())?);
+    Ok(())
+}

@@ -1,0 +1,191 @@
+//! Names of packages, and the runs of bytes that they are found by.
+
+use pep_marker::{MarkerFault, Name};
+use std::alloc::Global;
+use std::cmp::Ordering;
+use std::hash::{DefaultHasher, Hash, Hasher};
+use std::process::Abort;
+use std::test::Fail;
+use texts::{
+    blank_end, blank_run, is_blank_byte, is_name_byte, name_run, without_leading_blanks,
+    without_outer_blanks,
+};
+use tests_kit::{expect, expect_line, expect_same};
+
+// Names in their order, by the bytes of their normal texts. Some share their first eight bytes.
+const IN_ORDER: [&str; 14] = [
+    "0",
+    "0-a",
+    "00",
+    "a",
+    "a-b",
+    "a0",
+    "aa",
+    "abcdefg",
+    "abcdefgh",
+    "abcdefgh-z",
+    "abcdefgh0",
+    "abcdefgha",
+    "abcdefghb",
+    "b",
+];
+
+fn hash_of(name: &Name) -> u64 {
+    let mut state = DefaultHasher::new();
+    name.hash(&mut state);
+    state.finish()
+}
+
+// Texts, and the normal texts of the names that they are.
+const NAMES: [(&str, &str); 6] = [
+    ("Flask", "flask"),
+    ("A_.-b--C.9", "a-b-c-9"),
+    ("0", "0"),
+    ("a-b", "a-b"),
+    ("a_b", "a-b"),
+    ("Zope.Interface", "zope-interface"),
+];
+
+const NO_NAMES: [&str; 11] = [
+    "", "-", "a-", "_a", "a b", " a", "a ", "a\n", "a+b", "\u{e9}", "a\u{e9}b",
+];
+
+fn name_line(alloc: Global, text: &str) -> Result<String, MarkerFault> {
+    Ok(String::from_str(alloc, Name::read(alloc, text)?.text())?)
+}
+
+fn fault_of(alloc: Global, text: &str) -> Option<MarkerFault> {
+    Name::read(alloc, text).err()
+}
+
+#[test]
+fn names(rt: HostRuntime) -> Result<(), Fail> {
+    for &(text, want) in &NAMES {
+        let line = name_line(rt.alloc(), text)?;
+        expect_line(&rt, line.as_str(), want);
+    }
+    for text in &NO_NAMES {
+        expect_same(
+            &rt,
+            text,
+            fault_of(rt.alloc(), text),
+            Some(MarkerFault::BadName),
+        );
+    }
+    Ok(())
+}
+
+fn names_in_order(alloc: Global) -> Result<Vec<Name>, MarkerFault> {
+    let mut names = Vec::new(alloc);
+    for text in &IN_ORDER {
+        names.push(Name::read(alloc, text)?)?;
+    }
+    Ok(names)
+}
+
+fn is_equal(first: &Name, second: &Name) -> bool {
+    first == second && hash_of(first) == hash_of(second)
+}
+
+fn is_different(first: &Name, second: &Name) -> bool {
+    first != second && hash_of(first) != hash_of(second)
+}
+
+fn is_order(first: &Name, second: &Name, wanted: Ordering) -> bool {
+    first.cmp(second) == wanted
+        && first.partial_cmp(second) == Some(wanted)
+        && if wanted == Ordering::Equal {
+            is_equal(first, second)
+        } else {
+            is_different(first, second)
+        }
+}
+
+fn compare_names(rt: &impl Abort, names: &[Name]) {
+    for (i, first) in names.iter().enumerate() {
+        for (j, second) in names.iter().enumerate() {
+            expect(rt, (i, j), is_order(first, second, i.cmp(&j)));
+        }
+    }
+}
+
+#[test]
+fn order_of_names(rt: HostRuntime) -> Result<(), Fail> {
+    let names = names_in_order(rt.alloc())?;
+    compare_names(&rt, names.as_slice());
+    Ok(())
+}
+
+const EQUAL: [(&str, &str); 3] = [
+    ("Flask", "flask"),
+    ("a_.-b", "A-B"),
+    ("Abcdefgh.I", "abcdefgh-i"),
+];
+
+// Whether two texts are one name.
+fn is_one_name(alloc: Global, one: &str, other: &str) -> Result<bool, MarkerFault> {
+    let (one, other) = (Name::read(alloc, one)?, Name::read(alloc, other)?);
+    Ok(is_order(&one, &other, Ordering::Equal))
+}
+
+// Whether the copy of a name is equal to it, with its text.
+fn has_copy(alloc: Global, text: &str) -> Result<bool, MarkerFault> {
+    let name = Name::read(alloc, text)?;
+    let copy = name.copied(alloc)?;
+    Ok(copy == name && copy.text() == name.text())
+}
+
+#[test]
+fn equal_names(rt: HostRuntime) -> Result<(), Fail> {
+    for &(one, other) in &EQUAL {
+        expect(&rt, (one, other), is_one_name(rt.alloc(), one, other)?);
+        expect(&rt, one, has_copy(rt.alloc(), one)?);
+    }
+    Ok(())
+}
+
+#[test]
+fn bytes_of_names_and_white_space(rt: HostRuntime) {
+    for b in 0..=255u8 {
+        let is_of_names = b.is_ascii_alphanumeric() || b"-_.".contains(&b);
+        expect(&rt, b, is_name_byte(b) == is_of_names);
+        expect(&rt, b, is_blank_byte(b) == (b == 9 || b == 32));
+    }
+}
+
+// Texts, and how many bytes are white space in front, white space behind, and of a name in front.
+const RUNS: [(&[u8], (usize, usize, usize)); 6] = [
+    (b"", (0, 0, 0)),
+    (b" \t", (2, 2, 0)),
+    (b"Flask_1.x-2>=3", (0, 0, 11)),
+    (b" a b\t ", (1, 2, 0)),
+    (b"\r a", (0, 0, 0)),
+    (b"a\n", (0, 0, 1)),
+];
+
+#[test]
+fn runs(rt: HostRuntime) {
+    for &(text, wanted) in &RUNS {
+        let front = blank_run(text);
+        expect(
+            &rt,
+            text,
+            (front, blank_end(text), name_run(text)) == wanted,
+        );
+        expect(&rt, text, without_leading_blanks(text) == &text[front..]);
+    }
+}
+
+const TRIMMED: [(&[u8], &[u8]); 4] = [
+    (b" a b\t ", b"a b"),
+    (b"\t ", b""),
+    (b"", b""),
+    (b"\ra ", b"\ra"),
+];
+
+#[test]
+fn trims_names(rt: HostRuntime) {
+    for &(text, want) in &TRIMMED {
+        expect(&rt, text, without_outer_blanks(text) == want);
+    }
+}

@@ -1,0 +1,516 @@
+//! Sets of clauses: their cuts, with carries at the largest number, and which versions they hold.
+
+use crate::tests::ordered::ORDERED;
+use pep_clause::{Clause, ClauseFault, Range, Turns, VersionSet, laws};
+use pep_version::{Key, Phase, Version, VersionFault};
+use std::alloc::Global;
+use std::process::Abort;
+use std::test::Fail;
+use tests_kit::{expect, expect_line, expect_row};
+
+const OPERATORS: [&str; 8] = ["~=", "==", "!=", "<=", ">=", "<", ">", "==="];
+
+// What stands behind the operators, also with `.*`.
+const OPERANDS: [&str; 27] = [
+    "0",
+    "1.0",
+    "1.7",
+    "1.0a5",
+    "1.0rc1",
+    "1.0.dev1",
+    "1.0a1.dev1",
+    "1.0.post1",
+    "1.0.post1.dev3",
+    "1.0a1.post0",
+    "1.0+x",
+    "1.0+x.5",
+    "3.1",
+    "2.2.post3",
+    "2.2.0",
+    "1!0.dev0",
+    "18446744073709551615",
+    "1.18446744073709551615",
+    "18446744073709551615!18446744073709551615",
+    "1.0a18446744073709551615",
+    "1.0b18446744073709551615",
+    "1.0rc18446744073709551615",
+    "1.0.post18446744073709551615",
+    "1.0a1.post18446744073709551615",
+    "1.0.dev18446744073709551615",
+    "1.0a1.dev18446744073709551615",
+    "1.0.post1.dev18446744073709551615",
+];
+
+// Behind each operand, where that is a spelling: the operand itself, and versions near it.
+const ENDINGS: [&str; 6] = ["", ".dev0", ".post0", ".post0.dev0", "+a", ".0.1"];
+
+// Where ranges begin or end beside the operands.
+const NEAR: [&str; 15] = [
+    "0.dev1",
+    "1.0a0.dev0",
+    "1.0a0",
+    "1.0a1.dev2",
+    "1.0a1.post1.dev0",
+    "1.0a6.dev0",
+    "1.0b0.dev0",
+    "1.0rc0.dev0",
+    "1.0.post1.dev4",
+    "1.0.post2.dev0",
+    "1.8.dev0",
+    "2.dev0",
+    "2.2.post4.dev0",
+    "3.dev0",
+    "1!0.dev1",
+];
+
+fn set(alloc: Global, text: &str) -> Result<VersionSet, ClauseFault> {
+    VersionSet::of(alloc, &Clause::read(alloc, text)?)
+}
+
+/// Each range of a set in brackets, behind `none` where the set says that it is empty.
+pub(crate) fn shown(alloc: Global, set: &VersionSet) -> Result<String, ClauseFault> {
+    let mut line = String::from_str(alloc, if set.is_empty() { "none" } else { "" })?;
+    for range in set.ranges() {
+        push_range(alloc, &mut line, range)?;
+    }
+    Ok(line)
+}
+
+fn push_range(alloc: Global, line: &mut String, range: &Range) -> Result<(), ClauseFault> {
+    line.push_str("[")?;
+    range.low().push_text(line)?;
+    line.push_str(" to ")?;
+    range.high().push_text(line)?;
+    line.push_str("]")?;
+    Ok(())
+}
+
+// Numbers of a release, the parts behind them, and whether `>=1.0` and `<1.0` hold the version.
+type Held = (
+    [u64; 2],
+    Option<(Phase, u64)>,
+    Option<u64>,
+    Option<u64>,
+    (bool, bool),
+);
+
+const HELD: [Held; 11] = [
+    ([1, 0], None, None, None, (true, false)),
+    ([1, 1], None, None, None, (true, false)),
+    ([1, 0], None, Some(1), None, (true, false)),
+    ([1, 0], None, Some(1), Some(0), (true, false)),
+    ([1, 1], Some((Phase::Beta, 1)), None, None, (true, false)),
+    ([1, 0], Some((Phase::Beta, 1)), None, None, (false, false)),
+    ([1, 0], None, None, Some(0), (false, false)),
+    ([0, 9], None, None, None, (false, true)),
+    ([0, 9], None, Some(3), None, (false, true)),
+    ([0, 9], Some((Phase::Beta, 1)), None, None, (false, true)),
+    ([0, 0], None, None, Some(0), (false, true)),
+];
+
+// The place of a version of two release numbers.
+fn place(
+    alloc: Global,
+    release: &[u64],
+    pre: Option<(Phase, u64)>,
+    post: Option<u64>,
+    dev: Option<u64>,
+) -> Result<Key, VersionFault> {
+    let numbers = Vec::from_slice(alloc, release)?;
+    let version = Version::of_parts(0, numbers, pre, post, dev, Vec::new(alloc));
+    Key::of(alloc, &version.ok_or(VersionFault::NotAVersion)?)
+}
+
+#[test]
+fn holds_what_a_clause_admits(rt: HostRuntime) -> Result<(), Fail> {
+    let (from, below) = (set(rt.alloc(), ">=1.0")?, set(rt.alloc(), "<1.0")?);
+    for &(release, pre, post, dev, want) in &HELD {
+        let key = place(rt.alloc(), release.as_slice(), pre, post, dev)?;
+        let held = (from.contains(&key), below.contains(&key));
+        expect(&rt, release, held == want);
+    }
+    Ok(())
+}
+
+// Clauses, and their ranges.
+const RANGES: [(&str, &str); 13] = [
+    (">=1.0", "[before 1 to end]"),
+    ("<0.10", "[before 0.dev0 to before 0.10.dev0]"),
+    ("~=1.4.5a4", "[before 1.4.5a4 to before 1.5.dev0]"),
+    (
+        "==1.18446744073709551615.*",
+        "[before 1.18446744073709551615.dev0 to before 2.dev0]",
+    ),
+    (
+        "==18446744073709551615!18446744073709551615.*",
+        "[before 18446744073709551615!18446744073709551615.dev0 to end]",
+    ),
+    ("==1.0+x", "[before 1+x to after 1+x]"),
+    ("===1.0", "[before 0.dev0 to end]"),
+    ("!=0.dev0", "[before 0.dev1 to end]"),
+    (
+        "<=1.0.post18446744073709551615",
+        "[before 0.dev0 to past 1]",
+    ),
+    ("<1.0.post1", "[before 0.dev0 to before 1.post1.dev0]"),
+    (">1.7", "[past 1.7 to end]"),
+    (">1.0rc18446744073709551615", "[before 1 to end]"),
+    (
+        "!=1.0",
+        "[before 0.dev0 to before 1][before 1.post0.dev0 to end]",
+    ),
+];
+
+fn ranges_line(alloc: Global, clause: &str) -> Result<String, ClauseFault> {
+    shown(alloc, &set(alloc, clause)?)
+}
+
+#[test]
+fn ranges_of_clauses(rt: HostRuntime) -> Result<(), Fail> {
+    for &(clause, want) in &RANGES {
+        let line = ranges_line(rt.alloc(), clause)?;
+        expect_row(&rt, clause, line.as_str(), want);
+    }
+    Ok(())
+}
+
+fn all_line(alloc: Global) -> Result<String, ClauseFault> {
+    shown(alloc, &VersionSet::all(alloc)?)
+}
+
+#[test]
+fn ranges_of_all_and_none(rt: HostRuntime) -> Result<(), Fail> {
+    let line = all_line(rt.alloc())?;
+    expect_line(&rt, line.as_str(), "[before 0.dev0 to end]");
+    let line = shown(rt.alloc(), &VersionSet::none(rt.alloc()))?;
+    expect_line(&rt, line.as_str(), "none");
+    Ok(())
+}
+
+// The set of all these clauses, each joined to those before it.
+fn joined(alloc: Global, clauses: &[&str]) -> Result<VersionSet, ClauseFault> {
+    let mut joined = VersionSet::all(alloc)?;
+    for clause in clauses {
+        joined = joined.joined(alloc, &set(alloc, clause)?)?;
+    }
+    Ok(joined)
+}
+
+// The same, in place.
+fn kept(alloc: Global, clauses: &[&str]) -> Result<VersionSet, ClauseFault> {
+    let mut kept = VersionSet::all(alloc)?;
+    for clause in clauses {
+        kept.join(alloc, &set(alloc, clause)?)?;
+    }
+    Ok(kept)
+}
+
+// The same of sets that are used up.
+fn common(alloc: Global, clauses: &[&str]) -> Result<VersionSet, ClauseFault> {
+    let mut common = VersionSet::all(alloc)?;
+    for clause in clauses {
+        common = common.common(alloc, set(alloc, clause)?)?;
+    }
+    Ok(common)
+}
+
+// Clauses, and the ranges of their set.
+const JOINED: [(&[&str], &str); 11] = [
+    (
+        &["!=1.0"],
+        "[before 0.dev0 to before 1][before 1.post0.dev0 to end]",
+    ),
+    (&["<0"], "none"),
+    (&[">=1"], "[before 1 to end]"),
+    (&[">=1", ">=0.5"], "[before 1 to end]"),
+    (&[">=1", "<2"], "[before 1 to before 2.dev0]"),
+    (&[">=1", ">=0.5", "<2"], "[before 1 to before 2.dev0]"),
+    (&[">=1", "<2", "<3"], "[before 1 to before 2.dev0]"),
+    (&[">=1", "<2", ">=1.5"], "[before 1.5 to before 2.dev0]"),
+    (&[">=1", "<2", "<3", ">=2"], "none"),
+    (&[">=1", "<2", ">=1.5", ">=2"], "none"),
+    (
+        &[">=1", "<2", ">=1.5", "===x"],
+        "[before 1.5 to before 2.dev0]",
+    ),
+];
+
+fn joined_line(alloc: Global, clauses: &[&str]) -> Result<String, ClauseFault> {
+    shown(alloc, &joined(alloc, clauses)?)
+}
+
+fn kept_line(alloc: Global, clauses: &[&str]) -> Result<String, ClauseFault> {
+    shown(alloc, &kept(alloc, clauses)?)
+}
+
+fn common_line(alloc: Global, clauses: &[&str]) -> Result<String, ClauseFault> {
+    shown(alloc, &common(alloc, clauses)?)
+}
+
+// The sweep over the join and all versions, whose turns no one sees here.
+fn swept_line(alloc: Global, clauses: &[&str]) -> Result<String, ClauseFault> {
+    let (set, all) = (joined(alloc, clauses)?, VersionSet::all(alloc)?);
+    shown(alloc, &set.swept(alloc, &all, &mut Turns::none())?)
+}
+
+fn copied_line(alloc: Global, clauses: &[&str]) -> Result<String, ClauseFault> {
+    shown(alloc, &joined(alloc, clauses)?.copied(alloc)?)
+}
+
+#[test]
+fn joins(rt: HostRuntime) -> Result<(), Fail> {
+    for &(clauses, want) in &JOINED {
+        let line = joined_line(rt.alloc(), clauses)?;
+        expect_row(&rt, "joined", line.as_str(), want);
+        let line = kept_line(rt.alloc(), clauses)?;
+        expect_row(&rt, "in place", line.as_str(), want);
+        let line = swept_line(rt.alloc(), clauses)?;
+        expect_row(&rt, "swept with all versions", line.as_str(), want);
+    }
+    Ok(())
+}
+
+#[test]
+fn uses_up_and_copies(rt: HostRuntime) -> Result<(), Fail> {
+    for &(clauses, want) in &JOINED {
+        let line = common_line(rt.alloc(), clauses)?;
+        expect_row(&rt, "used up", line.as_str(), want);
+        let line = copied_line(rt.alloc(), clauses)?;
+        expect_row(&rt, "copied", line.as_str(), want);
+    }
+    Ok(())
+}
+
+// The ranges of the join of two sets, whether it is that of none, and whether the two differ.
+fn between_line(alloc: Global, above: &str, below: &str) -> Result<String, ClauseFault> {
+    let (above, below) = (set(alloc, above)?, set(alloc, below)?);
+    let both = above.joined(alloc, &below)?;
+    let (is_none, differ) = (both == VersionSet::none(alloc), above != below);
+    let ranges = shown(alloc, &both)?;
+    Ok(format!(in alloc; "{ranges} {is_none} {differ}")?)
+}
+
+// `>1.0a5` leaves the post-releases of `1.0a5` out, so nothing is left below `1.0a6.dev0`.
+#[test]
+fn none_between(rt: HostRuntime) -> Result<(), Fail> {
+    let line = between_line(rt.alloc(), ">1.0a5", "<1.0a6.dev0")?;
+    expect_line(&rt, line.as_str(), "none true true");
+    Ok(())
+}
+
+fn expect_all_and_none(rt: &impl Abort, all: &VersionSet, none: &VersionSet, keys: &[Key]) {
+    for key in keys {
+        assert!(rt; all.contains(key) && !none.contains(key));
+    }
+    assert!(rt; none.is_empty() && !all.is_empty() && all != none);
+}
+
+// Every version is in the set of all, and none in the set of none.
+#[test]
+fn all_and_none(rt: HostRuntime) -> Result<(), Fail> {
+    let keys = keys(rt.alloc())?;
+    let (all, none) = (VersionSet::all(rt.alloc())?, VersionSet::none(rt.alloc()));
+    expect_all_and_none(&rt, &all, &none, keys.as_slice());
+    Ok(())
+}
+
+// A range, whether its copy begins below its end, and whether the copy is equal to it.
+fn copied_range_line(alloc: Global, range: &Range) -> Result<String, ClauseFault> {
+    let copy = range.copied(alloc)?;
+    let (is_below, is_same) = (copy.low() < range.high(), copy == *range);
+    Ok(format!(in alloc; "{is_below} {is_same}")?)
+}
+
+#[test]
+fn copies_ranges(rt: HostRuntime) -> Result<(), Fail> {
+    let set = set(rt.alloc(), ">=3.8")?;
+    assert!(rt; set.ranges().len() == 1);
+    for range in set.ranges() {
+        let line = copied_range_line(rt.alloc(), range)?;
+        expect_line(&rt, line.as_str(), "true true");
+    }
+    Ok(())
+}
+
+#[test]
+fn laws_of_sets() {
+    laws::one_list();
+    laws::one_list_of_versions();
+    laws::place_is_in();
+}
+
+// ---- all clauses of the operands, and versions near them
+
+// Appends the clause with this text, if there is one.
+fn push_clause(alloc: Global, clauses: &mut Vec<Clause>, text: &str) -> Result<(), ClauseFault> {
+    if let Ok(clause) = Clause::read(alloc, text) {
+        clauses.push(clause)?;
+    }
+    Ok(())
+}
+
+// Appends the clauses of an operator and an operand, alone and with `.*`.
+fn push_both(
+    alloc: Global,
+    clauses: &mut Vec<Clause>,
+    operator: &str,
+    operand: &str,
+) -> Result<(), ClauseFault> {
+    let text = format!(in alloc; "{operator}{operand}")?;
+    push_clause(alloc, clauses, text.as_str())?;
+    let text = format!(in alloc; "{operator}{operand}.*")?;
+    push_clause(alloc, clauses, text.as_str())
+}
+
+fn clauses(alloc: Global) -> Result<Vec<Clause>, ClauseFault> {
+    let mut clauses = Vec::new(alloc);
+    for operator in &OPERATORS {
+        for operand in &OPERANDS {
+            push_both(alloc, &mut clauses, operator, operand)?;
+        }
+    }
+    Ok(clauses)
+}
+
+// Appends the version with this text, if there is one.
+fn push_version(
+    alloc: Global,
+    versions: &mut Vec<Version>,
+    text: &str,
+) -> Result<(), VersionFault> {
+    if let Ok(version) = Version::read(alloc, text) {
+        versions.push(version)?;
+    }
+    Ok(())
+}
+
+fn push_near(
+    alloc: Global,
+    versions: &mut Vec<Version>,
+    operand: &str,
+) -> Result<(), VersionFault> {
+    for ending in &ENDINGS {
+        let text = format!(in alloc; "{operand}{ending}")?;
+        push_version(alloc, versions, text.as_str())?;
+    }
+    Ok(())
+}
+
+fn candidates(alloc: Global) -> Result<Vec<Version>, VersionFault> {
+    let mut versions = Vec::new(alloc);
+    for text in ORDERED.iter().chain(NEAR.iter()) {
+        versions.push(Version::read(alloc, text)?)?;
+    }
+    for operand in &OPERANDS {
+        push_near(alloc, &mut versions, operand)?;
+    }
+    Ok(versions)
+}
+
+fn keys(alloc: Global) -> Result<Vec<Key>, VersionFault> {
+    let mut keys = Vec::new(alloc);
+    for version in &candidates(alloc)? {
+        keys.push(Key::of(alloc, version)?)?;
+    }
+    Ok(keys)
+}
+
+// Whether the clause admits a version; where it demands a text, all.
+fn is_wanted(alloc: Global, clause: &Clause, version: &Version) -> Result<bool, ClauseFault> {
+    Ok(clause.exact_text().is_some() || clause.admits(alloc, version)?)
+}
+
+// Whether the set holds the version where the clause admits it.
+fn is_held(
+    alloc: Global,
+    set: &VersionSet,
+    clause: &Clause,
+    version: &Version,
+) -> Result<bool, ClauseFault> {
+    let is_held = set.contains(&Key::of(alloc, version)?);
+    Ok(is_held == is_wanted(alloc, clause, version)?)
+}
+
+// The clause's set holds the versions that it admits.
+fn expect_admitted(
+    rt: &(impl Abort + AllocGlobal),
+    clause: &Clause,
+    versions: &[Version],
+) -> Result<(), ClauseFault> {
+    let set = VersionSet::of(rt.alloc(), clause)?;
+    for (i, version) in versions.iter().enumerate() {
+        expect(rt, i, is_held(rt.alloc(), &set, clause, version)?);
+    }
+    Ok(())
+}
+
+// `==` and `!=` take all 27 operands and 8 prefixes, `~=` the 21 of two numbers or more without
+// a label, `===` all of both forms, the others the 25 without a label.
+const CLAUSES: usize = 2 * (27 + 8) + 21 + 2 * 27 + 4 * 25;
+
+// 8 operands take all 6 endings, 5 pre-releases and 2 labels 5, 5 post-releases 3, 7
+// developmental releases 2.
+const CANDIDATES: usize = 41 + 8 * 6 + 7 * 5 + 5 * 3 + 7 * 2;
+
+#[test]
+fn sets_hold_what_clauses_admit(rt: HostRuntime) -> Result<(), Fail> {
+    let (clauses, versions) = (clauses(rt.alloc())?, candidates(rt.alloc())?);
+    assert!(rt; clauses.len() == CLAUSES && versions.len() == CANDIDATES);
+    for clause in &clauses {
+        expect_admitted(&rt, clause, versions.as_slice())?;
+    }
+    Ok(())
+}
+
+// The set of both holds the versions that both sets hold.
+fn expect_joined(
+    rt: &impl Abort,
+    (first, second): (&VersionSet, &VersionSet),
+    both: &VersionSet,
+    keys: &[Key],
+) {
+    for key in keys {
+        let is_wanted = first.contains(key) && second.contains(key);
+        assert!(rt; both.contains(key) == is_wanted);
+    }
+}
+
+// Whether two sets have this join where copies of them are used up.
+fn is_common(
+    alloc: Global,
+    (first, second): (&VersionSet, &VersionSet),
+    both: &VersionSet,
+) -> Result<bool, ClauseFault> {
+    let common = first.copied(alloc)?.common(alloc, second.copied(alloc)?)?;
+    Ok(common == *both)
+}
+
+// Asserts what three ways of joining the sets of two clauses give.
+fn expect_joins(
+    rt: &(impl Abort + AllocGlobal),
+    (first, second): (&str, &str),
+    keys: &[Key],
+) -> Result<(), ClauseFault> {
+    let (mut first, second) = (set(rt.alloc(), first)?, set(rt.alloc(), second)?);
+    let both = first.joined(rt.alloc(), &second)?;
+    expect_joined(rt, (&first, &second), &both, keys);
+    assert!(rt; is_common(rt.alloc(), (&first, &second), &both)?);
+    first.join(rt.alloc(), &second)?;
+    assert!(rt; first == both);
+    Ok(())
+}
+
+const PAIRS: [(&str, &str); 3] = [
+    ("!=1.0", "!=1.0a1.post0"),
+    (">=1.0a1.dev1", "!=1.0.*"),
+    ("!=1.0+x", "~=1.0rc1"),
+];
+
+#[test]
+fn joined_sets_hold_what_both_hold(rt: HostRuntime) -> Result<(), Fail> {
+    let keys = keys(rt.alloc())?;
+    for &pair in &PAIRS {
+        expect_joins(&rt, pair, keys.as_slice())?;
+    }
+    Ok(())
+}

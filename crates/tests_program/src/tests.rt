@@ -1,0 +1,12 @@
+//! One module a subject.
+
+mod calls;
+mod environments;
+mod example;
+mod fault_lines;
+mod folders;
+mod joins;
+mod laws;
+mod pieces;
+mod plans;
+mod streams;

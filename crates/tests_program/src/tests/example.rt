@@ -1,0 +1,42 @@
+//! The example of README, as it stands there.
+
+use crate::tests::calls::machine;
+use pep_marker::Environment;
+use pep_tool::{Fault, Input, Kind, merge_bytes};
+use std::alloc::Global;
+use std::test::Fail;
+use tests_kit::expect_line;
+
+fn merged(alloc: Global, list: &str, environment: &Environment) -> Result<String, Fault> {
+    let bytes = Vec::from_slice(alloc, list.as_bytes())?;
+    let kind = Kind::List;
+    merge_bytes(alloc, &[Input { kind, bytes }], environment)
+}
+
+// The table of a list on the machine, or the line of the fault.
+fn merged_line(alloc: Global, list: &str) -> Result<String, Fault> {
+    match merged(alloc, list, &machine(alloc)?) {
+        Ok(text) => Ok(text),
+        Err(fault) => fault.text(alloc),
+    }
+}
+
+const EXAMPLES: [(&str, &str); 2] = [
+    (
+        "flask>=2.0\nFlask<3\n",
+        "flask open\n  range before 2 to before 3.dev0\n",
+    ),
+    (
+        "flask>=2.0\nFlask<\n",
+        "refused input 1 line 2 code 57 33 12\n",
+    ),
+];
+
+#[test]
+fn example(rt: HostRuntime) -> Result<(), Fail> {
+    for &(list, want) in &EXAMPLES {
+        let found = merged_line(rt.alloc(), list)?;
+        expect_line(&rt, found.as_str(), want);
+    }
+    Ok(())
+}

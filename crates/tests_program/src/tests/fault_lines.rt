@@ -1,0 +1,191 @@
+//! Codes of the faults of a run, and their texts.
+
+use pep_clause::ClauseFault;
+use pep_marker::MarkerFault;
+use pep_require::RequireFault;
+use pep_tool::{ArgumentFault, Cause, Failed, Fault, LineFault, OpenFault, Place};
+use pep_version::VersionFault;
+use std::alloc::{AllocError, Global};
+use std::fmt::Display;
+use std::test::Fail;
+use tests_kit::{REQUIRE_FAULTS, expect_line};
+
+// A fault of a line: its code, the code inside it and its text.
+fn line_fault_line(alloc: Global, fault: LineFault) -> Result<String, AllocError> {
+    let code = fault.code();
+    match fault.inner_code() {
+        Some(inner) => format!(in alloc; "{code} {inner} {fault}"),
+        None => format!(in alloc; "{code} {fault}"),
+    }
+}
+
+// Faults of lines that are not those of requirements.
+const OF_LINES: [(LineFault, &str); 3] = [
+    (LineFault::NotUtf8, "51 not UTF-8"),
+    (
+        LineFault::Undefined,
+        "28 a marker is undefined in the environment",
+    ),
+    (LineFault::BadTable, "41 not a line that a table has there"),
+];
+
+#[test]
+fn faults_of_lines(rt: HostRuntime) -> Result<(), Fail> {
+    for &(fault, want) in &REQUIRE_FAULTS {
+        let found = line_fault_line(rt.alloc(), LineFault::from(fault))?;
+        expect_line(&rt, found.as_str(), want);
+    }
+    for &(fault, want) in &OF_LINES {
+        let found = line_fault_line(rt.alloc(), fault)?;
+        expect_line(&rt, found.as_str(), want);
+    }
+    Ok(())
+}
+
+// A cause: its code and its text.
+fn cause_line(alloc: Global, cause: &Cause) -> Result<String, AllocError> {
+    format!(in alloc; "{} {cause}", cause.code())
+}
+
+const CAUSES: [(Cause, &str); 14] = [
+    (Cause::NotUtf8, "51 not UTF-8"),
+    (Cause::NotToml, "52 not a TOML document"),
+    (Cause::NoProject, "53 no `project`"),
+    (Cause::Dynamic, "54 dynamic dependencies"),
+    (Cause::WrongShape, "55 a value of the wrong shape"),
+    (Cause::TooLarge, "56 more than 16,777,216 bytes"),
+    (Cause::ReadFault, "58 a read failed"),
+    (
+        Cause::BadEnvironment(MarkerFault::BadValue),
+        "59 a faulty environment: a value with a control character",
+    ),
+    (Cause::NoMemory, "60 out of memory"),
+    (
+        Cause::BadArgument(ArgumentFault::Name(MarkerFault::BadName)),
+        "62 a faulty argument: not a name",
+    ),
+    (
+        Cause::BadArgument(ArgumentFault::Version(VersionFault::NotAVersion)),
+        "62 a faulty argument: not a version",
+    ),
+    (Cause::WriteFault, "63 a write failed"),
+    (Cause::NoRequirements, "64 a table has no requirements"),
+    (Cause::Line(1, LineFault::NotUtf8), "57 line 1: not UTF-8"),
+];
+
+#[test]
+fn causes(rt: HostRuntime) -> Result<(), Fail> {
+    for (cause, want) in &CAUSES {
+        let found = cause_line(rt.alloc(), cause)?;
+        expect_line(&rt, found.as_str(), want);
+    }
+    Ok(())
+}
+
+// A fault: the line that tells it to a program, and behind it what people are told.
+fn fault_line(alloc: Global, fault: &Fault) -> Result<String, Fault> {
+    let line = fault.text(alloc)?;
+    Ok(format!(in alloc; "{line}{fault}")?)
+}
+
+const BAD_VERSION: LineFault = LineFault::Requirement(RequireFault::BadClause(
+    ClauseFault::BadVersion,
+));
+
+const FAULTS: [(Fault, &str); 4] = [
+    (
+        Fault {
+            place: Place::Input(2),
+            cause: Cause::Line(7, BAD_VERSION),
+        },
+        "refused input 2 line 7 code 57 33 12\ninput 2: line 7: a faulty clause: not a version",
+    ),
+    (
+        Fault {
+            place: Place::Environment,
+            cause: Cause::NotToml,
+        },
+        "refused environment code 52\nenvironment: not a TOML document",
+    ),
+    (
+        Fault {
+            place: Place::Input(18446744073709551615),
+            cause: Cause::TooLarge,
+        },
+        "refused input 18446744073709551615 code 56\n\
+         input 18446744073709551615: more than 16,777,216 bytes",
+    ),
+    (
+        Fault {
+            place: Place::Nowhere,
+            cause: Cause::NoMemory,
+        },
+        "refused code 60\nout of memory",
+    ),
+];
+
+// Faults of versions, and what they are told as where a version is an argument.
+const OF_VERSIONS: [(VersionFault, &str); 3] = [
+    (
+        VersionFault::NotAVersion,
+        "refused code 62 1\na faulty argument: not a version",
+    ),
+    (
+        VersionFault::NumberTooLarge,
+        "refused code 62 2\na faulty argument: a number of the version is too large",
+    ),
+    (VersionFault::NoMemory, "refused code 60\nout of memory"),
+];
+
+#[test]
+fn faults(rt: HostRuntime) -> Result<(), Fail> {
+    for (fault, want) in &FAULTS {
+        let found = fault_line(rt.alloc(), fault)?;
+        expect_line(&rt, found.as_str(), want);
+    }
+    Ok(())
+}
+
+#[test]
+fn faults_of_versions(rt: HostRuntime) -> Result<(), Fail> {
+    for &(fault, want) in &OF_VERSIONS {
+        let found = fault_line(
+            rt.alloc(),
+            &Fault::of_argument(ArgumentFault::Version(fault)),
+        )?;
+        expect_line(&rt, found.as_str(), want);
+    }
+    Ok(())
+}
+
+#[test]
+fn bad_words(rt: HostRuntime) -> Result<(), Fail> {
+    let words = String::from_str(rt.alloc(), "no such word\n")?;
+    let fault = Fault {
+        place: Place::Nowhere,
+        cause: Cause::BadWords(words),
+    };
+    assert!(rt; fault.cause.code() == 61);
+    let line = fault.text(rt.alloc())?;
+    expect_line(&rt, line.as_str(), "refused code 61\nno such word\n");
+    Ok(())
+}
+
+// What is told of a fault that is no more than its text.
+fn text_line(alloc: Global, fault: &impl Display) -> Result<String, AllocError> {
+    format!(in alloc; "{fault}")
+}
+
+#[test]
+fn faults_of_devices(rt: HostRuntime) -> Result<(), Fail> {
+    let failed = text_line(rt.alloc(), &Failed)?;
+    expect_line(&rt, failed.as_str(), "a read or a write failed");
+    for &(fault, want) in &[
+        (OpenFault::CannotOpen, "a file can't be opened"),
+        (OpenFault::NoMemory, "out of memory"),
+    ] {
+        let found = text_line(rt.alloc(), &fault)?;
+        expect_line(&rt, found.as_str(), want);
+    }
+    Ok(())
+}

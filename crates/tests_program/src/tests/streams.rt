@@ -1,0 +1,407 @@
+//! The program over readers and writers that fail at a call, that give bytes without end, or that
+//! take none.
+
+use crate::tests::plans::owned;
+use pep_tool::{Bytes, Counted, Failed, Sink, Source, run, write_text};
+use std::alloc::{AllocError, Global};
+use std::io;
+use std::io::Write;
+use std::test::Fail;
+use tests_kit::expect_line;
+
+const LIST: &[u8] = b"flask>=2.0\nFlask<3\n";
+
+// How many bytes a call moves at most.
+const PIECE: usize = 7;
+
+// A call with a number that no run reaches.
+pub(crate) const NEVER: u64 = u64::MAX;
+
+// A reader with a name that gives a few bytes at a time, and whose call of this number fails.
+#[derive(Drop)]
+pub(crate) struct Reader<'a> {
+    name: &'a str,
+    bytes: Bytes<'a>,
+    piece: usize,
+    failed: bool,
+    fails_at: u64,
+}
+
+impl<'a> Reader<'a> {
+    ghost use Rattle.std.specs.Prelude.{◌≡◌, false};
+
+    fn new(bytes: &'a [u8], fails_at: u64) -> Self
+        ensures calls { result.bytes.calls ≡ 0 }
+        ensures failed { result.failed ≡ false }
+    {
+        Reader::named("", bytes, fails_at)
+    }
+
+    pub(crate) fn in_pieces(bytes: &'a [u8], piece: usize, fails_at: u64) -> Self
+        ensures calls { result.bytes.calls ≡ 0 }
+        ensures failed { result.failed ≡ false }
+    {
+        Reader {
+            piece,
+            ..Reader::new(bytes, fails_at)
+        }
+    }
+
+    pub(crate) fn named(name: &'a str, bytes: &'a [u8], fails_at: u64) -> Self
+        ensures name { result.name.now ≡ name.now }
+        ensures calls { result.bytes.calls ≡ 0 }
+        ensures failed { result.failed ≡ false }
+    {
+        Reader {
+            name,
+            bytes: Bytes::new(bytes),
+            piece: PIECE,
+            failed: false,
+            fails_at,
+        }
+    }
+}
+
+impl Source for Reader<'_> {
+    ghost use Rattle.std.specs.Prelude.{Some};
+
+    ghost device = { λ s. record {
+      calls = s.bytes.calls;
+      failed = s.failed;
+      identity = Some s.name.now;
+    } };
+
+    fn pull(&mut self, buf: &mut [u8]) -> Result<usize, Failed> {
+        let room = buf.len().min(self.piece);
+        let pulled = self.bytes.pull(&mut buf[..room]);
+        if self.bytes.calls() == self.fails_at {
+            self.failed = true;
+            return Err(Failed);
+        }
+        pulled
+    }
+
+    fn calls(&self) -> u64 {
+        self.bytes.calls()
+    }
+
+    fn failed(&self) -> bool {
+        self.failed
+    }
+}
+
+// A reader of comments that never ends, and counts the bytes that it gave.
+#[derive(Drop)]
+struct Endless {
+    given: u64,
+    calls: u64,
+}
+
+impl Endless {
+    ghost use Rattle.std.specs.Prelude.{◌≡◌};
+
+    fn new() -> Self
+        ensures { result.calls ≡ 0 }
+    {
+        Endless { given: 0, calls: 0 }
+    }
+}
+
+impl Source for Endless {
+    ghost use Rattle.std.specs.Prelude.{None, false};
+
+    ghost device = { λ s. record { calls = s.calls; failed = false; identity = None } };
+
+    fn pull(&mut self, buf: &mut [u8]) -> Result<usize, Failed> {
+        self.calls += 1;
+        for (place, byte) in buf.iter_mut().enumerate() {
+            *byte = if place % 1024 == 0 { b'\n' } else { b'#' };
+        }
+        self.given = self.given.saturating_add(buf.len() as u64);
+        Ok(buf.len())
+    }
+
+    fn calls(&self) -> u64 {
+        self.calls
+    }
+
+    fn failed(&self) -> bool {
+        false
+    }
+}
+
+// A writer that takes a few bytes at a time, and whose call of this number fails.
+#[derive(Drop)]
+struct Writer {
+    bytes: Vec<u8>,
+    calls: u64,
+    failed: bool,
+    fails_at: u64,
+}
+
+impl Writer {
+    ghost use Rattle.std.specs.Prelude.{◌≡◌, false};
+
+    fn new(alloc: Global, fails_at: u64) -> Self
+        ensures calls { result.calls ≡ 0 }
+        ensures failed { result.failed ≡ false }
+    {
+        Writer {
+            bytes: Vec::new(alloc),
+            calls: 0,
+            failed: false,
+            fails_at,
+        }
+    }
+}
+
+impl Sink for Writer {
+    ghost use Rattle.std.specs.Prelude.{None};
+
+    ghost device = { λ s. record { calls = s.calls; failed = s.failed; identity = None } };
+
+    fn push(&mut self, buf: &[u8]) -> Result<usize, Failed> {
+        self.calls += 1;
+        let count = buf.len().min(PIECE);
+        if self.calls == self.fails_at || self.bytes.extend_from_slice(&buf[..count]).is_err() {
+            self.failed = true;
+            return Err(Failed);
+        }
+        Ok(count)
+    }
+
+    fn calls(&self) -> u64 {
+        self.calls
+    }
+
+    fn failed(&self) -> bool {
+        self.failed
+    }
+}
+
+// A writer of std that takes no byte.
+#[derive(Drop)]
+struct Full;
+
+impl Write for Full {
+    fn write(&mut self, _buf: &[u8]) -> io::Result<usize> {
+        Ok(0)
+    }
+
+    fn flush(&mut self) -> io::Result<()> {
+        Ok(())
+    }
+}
+
+// What stands behind the calls of a device that failed.
+fn mark(failed: bool) -> &'static str {
+    if failed { "!" } else { "" }
+}
+
+// The bytes as a text, where they are one.
+fn text(bytes: &[u8]) -> &str {
+    str::from_utf8(bytes).unwrap_or("?")
+}
+
+// Of the devices of a run: the calls of its reader and of the writer of its output, what is printed
+// and what is told.
+fn devices_line(
+    alloc: Global,
+    input: &Reader,
+    output: &Writer,
+    faults: &Writer,
+) -> Result<String, AllocError> {
+    let (reads, writes) = (input.calls(), output.calls);
+    let (read, written) = (mark(input.failed), mark(output.failed));
+    let (printed, told) = (text(output.bytes.as_slice()), text(faults.bytes.as_slice()));
+    format!(in alloc; "{reads}{read} {writes}{written} [{printed}] [{told}]")
+}
+
+// A run over a reader and two writers whose calls of these numbers fail: its status, and what the
+// devices are behind it.
+fn run_line(
+    rt: &HostRuntime,
+    words: &[&str],
+    list: &[u8],
+    fails_at: [u64; 3],
+) -> Result<String, AllocError> {
+    let words = owned(rt.alloc(), words)?;
+    let mut input = Reader::new(list, fails_at[0]);
+    let mut output = Writer::new(rt.alloc(), fails_at[1]);
+    let mut faults = Writer::new(rt.alloc(), fails_at[2]);
+    let status = run(rt, words.as_slice(), &mut input, &mut output, &mut faults);
+    let devices = devices_line(rt.alloc(), &input, &output, &faults)?;
+    format!(in rt.alloc(); "{status} {devices}")
+}
+
+// A list, the number of the call of its reader that fails, and what the run is. The list comes in
+// three pieces, and the fourth call finds its end.
+const READS: [(&[u8], u64, &str); 9] = [
+    (LIST, 1, "2 1! 0 [] [refused input 1 code 58\n]"),
+    (LIST, 2, "2 2! 0 [] [refused input 1 code 58\n]"),
+    (LIST, 3, "2 3! 0 [] [refused input 1 code 58\n]"),
+    (LIST, 4, "2 4! 0 [] [refused input 1 code 58\n]"),
+    (
+        LIST,
+        5,
+        "0 4 7 [flask open\n  range before 2 to before 3.dev0\n] []",
+    ),
+    // The first line is faulty, and the read behind it would fail.
+    (
+        b"-e .\na>=1\n",
+        2,
+        "2 1 0 [] [refused input 1 line 1 code 57 37\n]",
+    ),
+    (
+        b"a>=\n",
+        2,
+        "2 1 0 [] [refused input 1 line 1 code 57 33 12\n]",
+    ),
+    (b"a>=1", 2, "2 2! 0 [] [refused input 1 code 58\n]"),
+    (
+        b"a>=",
+        NEVER,
+        "2 2 0 [] [refused input 1 line 1 code 57 33 12\n]",
+    ),
+];
+
+#[test]
+fn reads_that_fail(rt: HostRuntime) -> Result<(), Fail> {
+    for &(list, fails_at, want) in &READS {
+        let found = run_line(&rt, &[], list, [fails_at, NEVER, NEVER])?;
+        expect_line(&rt, found.as_str(), want);
+    }
+    Ok(())
+}
+
+// The number of the call of the writer of the output that fails, and what the run is. The table goes
+// in seven pieces.
+const WRITES: [(u64, &str); 8] = [
+    (1, "2 4 1! [] [refused code 63\n]"),
+    (2, "2 4 2! [flask o] [refused code 63\n]"),
+    (3, "2 4 3! [flask open\n  r] [refused code 63\n]"),
+    (4, "2 4 4! [flask open\n  range be] [refused code 63\n]"),
+    (
+        5,
+        "2 4 5! [flask open\n  range before 2 ] [refused code 63\n]",
+    ),
+    (
+        6,
+        "2 4 6! [flask open\n  range before 2 to befo] [refused code 63\n]",
+    ),
+    (
+        7,
+        "2 4 7! [flask open\n  range before 2 to before 3.de] [refused code 63\n]",
+    ),
+    (
+        8,
+        "0 4 7 [flask open\n  range before 2 to before 3.dev0\n] []",
+    ),
+];
+
+#[test]
+fn writes_that_fail(rt: HostRuntime) -> Result<(), Fail> {
+    for &(fails_at, want) in &WRITES {
+        let found = run_line(&rt, &[], LIST, [NEVER, fails_at, NEVER])?;
+        expect_line(&rt, found.as_str(), want);
+    }
+    Ok(())
+}
+
+// The number of the call of the writer of faults that fails, and what the run is. The line goes in
+// three pieces, and the text of clap behind it.
+const TELLS: [(u64, &str); 7] = [
+    (1, "2 0 0 [] []"),
+    (2, "2 0 0 [] [refused]"),
+    (3, "2 0 0 [] [refused code 6]"),
+    (4, "2 0 0 [] [refused code 61\nerror]"),
+    (5, "2 0 0 [] [refused code 61\nerror: unrec]"),
+    (6, "2 0 0 [] [refused code 61\nerror: unrecognized]"),
+    (7, "2 0 0 [] [refused code 61\nerror: unrecognized subcom]"),
+];
+
+#[test]
+fn faults_that_cannot_be_told(rt: HostRuntime) -> Result<(), Fail> {
+    for &(fails_at, want) in &TELLS {
+        let found = run_line(&rt, &["table"], LIST, [1, NEVER, fails_at])?;
+        expect_line(&rt, found.as_str(), want);
+    }
+    Ok(())
+}
+
+// A run over a reader without end: its status, how many bytes it read, and what it told.
+fn endless_line(rt: &HostRuntime) -> Result<String, AllocError> {
+    let mut input = Endless::new();
+    let mut output = Writer::new(rt.alloc(), NEVER);
+    let mut faults = Writer::new(rt.alloc(), NEVER);
+    let status = run(rt, &[], &mut input, &mut output, &mut faults);
+    let told = text(faults.bytes.as_slice());
+    format!(in rt.alloc(); "{status} {} [{told}]", input.given)
+}
+
+#[test]
+fn a_reader_without_end(rt: HostRuntime) -> Result<(), Fail> {
+    let line = endless_line(&rt)?;
+    expect_line(&rt, line.as_str(), "2 16777217 [refused input 1 code 56\n]");
+    Ok(())
+}
+
+// A run over a list and writers of std: its status, the calls of its reader, what is printed and what
+// is told.
+fn std_line(rt: &HostRuntime) -> Result<String, AllocError> {
+    let mut printed = Vec::new(rt.alloc());
+    let mut told = Vec::new(rt.alloc());
+    let mut input = Counted::new(LIST);
+    let status = run(
+        rt,
+        &[],
+        &mut input,
+        &mut Counted::new(&mut printed),
+        &mut Counted::new(&mut told),
+    );
+    let (reads, read) = (input.calls(), mark(input.failed()));
+    let (printed, told) = (text(printed.as_slice()), text(told.as_slice()));
+    format!(in rt.alloc(); "{status} {reads}{read} [{printed}] [{told}]")
+}
+
+#[test]
+fn devices_over_std(rt: HostRuntime) -> Result<(), Fail> {
+    let line = std_line(&rt)?;
+    expect_line(
+        &rt,
+        line.as_str(),
+        "0 2 [flask open\n  range before 2 to before 3.dev0\n] []",
+    );
+    Ok(())
+}
+
+// Whether the text is written to a full writer, whether the writer failed, and its calls.
+fn written_to_full(text: &str) -> (bool, bool, u64) {
+    let mut full = Counted::new(Full);
+    let is_written = write_text(&mut full, text).is_ok();
+    (is_written, full.failed(), full.calls())
+}
+
+// What a full writer takes of no bytes, and whether it failed.
+fn taken_of_none() -> (Option<usize>, bool) {
+    let mut full = Counted::new(Full);
+    let taken = full.push(b"").ok();
+    (taken, full.failed())
+}
+
+#[test]
+fn a_writer_that_takes_no_byte(rt: HostRuntime) {
+    assert!(rt; written_to_full("x") == (false, true, 1));
+    assert!(rt; written_to_full("") == (true, false, 0));
+    assert!(rt; taken_of_none() == (Some(0), false));
+}
+
+#[test]
+fn bytes_at_hand(rt: HostRuntime) {
+    let mut source = Bytes::new(b"abc");
+    let mut buffer = [0u8; 2];
+    assert!(rt; source.pull(&mut buffer).ok() == Some(2) && buffer == *b"ab");
+    assert!(rt; source.pull(&mut buffer).ok() == Some(1) && buffer == *b"cb");
+    assert!(rt; source.pull(&mut buffer).ok() == Some(0));
+    assert!(rt; source.calls() == 3 && !source.failed());
+}

@@ -1,0 +1,381 @@
+//! Tables that are larger than a body that gives up early would take.
+
+use crate::tests::tables::{
+    answer, entry, gathered, machine, name, requirement, table, table_of, verdict,
+};
+use pep_clause::ClauseFault;
+use pep_marker::Environment;
+use pep_require::Requirement;
+use pep_table::{Answer, Entry, Gathering, Join, Table, TableFault, Verdict, join_all};
+use std::alloc::{AllocError, Global};
+use std::ops::Range;
+use std::process::Abort;
+use std::test::Fail;
+use tests_kit::{expect_line, expect_same, push_numbered};
+
+// Appends a requirement for each number, which stands between the two texts, from the last to the first.
+fn push_lines(
+    alloc: Global,
+    lines: &mut Vec<Requirement>,
+    before: &str,
+    numbers: Range<u32>,
+    after: &str,
+) -> Result<(), TableFault> {
+    for number in numbers.rev() {
+        let line = format!(in alloc; "{before}{number}{after}")?;
+        lines.push(requirement(alloc, line.as_str())?)?;
+    }
+    Ok(())
+}
+
+// Whether what is gathered of the table is the same.
+fn is_gathered(alloc: Global, table: &Table) -> Result<bool, TableFault> {
+    let gathering = Gathering::new(alloc).take_table(alloc, table)?;
+    Ok(gathering.finish(alloc)? == *table)
+}
+
+// Whether its copy is the same, and its join with itself.
+fn is_copied_and_joined(alloc: Global, table: &Table) -> Result<bool, TableFault> {
+    Ok(table.copied(alloc)? == *table && table.joined(alloc, table)? == *table)
+}
+
+// Whether this is its text, and the text is read as it.
+fn is_text(alloc: Global, table: &Table, text: &str) -> Result<bool, TableFault> {
+    Ok(table.text(alloc)?.as_str() == text && Table::read(alloc, text)? == *table)
+}
+
+// The table has the text, and so has what is made of it.
+fn expect_table(
+    rt: &(impl Abort + AllocGlobal),
+    table: &Table,
+    wanted: &str,
+) -> Result<(), TableFault> {
+    assert!(rt; is_text(rt.alloc(), table, wanted)?);
+    assert!(rt; is_gathered(rt.alloc(), table)?);
+    assert!(rt; is_copied_and_joined(rt.alloc(), table)?);
+    Ok(())
+}
+
+// Whether what is copied of the entry of `a`, and joined to it, is the same.
+fn is_entry(alloc: Global, table: &Table) -> Result<bool, TableFault> {
+    let entry = entry(alloc, table, "a")?;
+    Ok(entry.copied(alloc)? == *entry && entry.joined(alloc, entry)? == *entry)
+}
+
+// ---- requirements of different names
+
+fn names(alloc: Global) -> Result<Vec<Requirement>, TableFault> {
+    let mut lines = Vec::new(alloc);
+    push_lines(alloc, &mut lines, "N", 1_000..3_000, ">=1")?;
+    Ok(lines)
+}
+
+fn table_of_names(alloc: Global) -> Result<Table, TableFault> {
+    table_of(alloc, names(alloc)?.as_slice())
+}
+
+fn names_text(alloc: Global) -> Result<String, AllocError> {
+    let mut text = String::new(alloc);
+    let rest = " open\n  range before 1 to end\n";
+    push_numbered(alloc, &mut text, "n", 1_000..3_000, rest)?;
+    Ok(text)
+}
+
+#[test]
+fn table_of_many_names(rt: HostRuntime) -> Result<(), Fail> {
+    let table = table_of_names(rt.alloc())?;
+    expect_table(&rt, &table, names_text(rt.alloc())?.as_str())?;
+    Ok(())
+}
+
+// Why there is no table of these names and another line behind them.
+fn fault_behind_names(alloc: Global, line: &str) -> Result<Option<TableFault>, TableFault> {
+    let mut lines = names(alloc)?;
+    lines.push(requirement(alloc, line)?)?;
+    Ok(table_of(alloc, lines.as_slice()).err())
+}
+
+#[test]
+fn undefined_behind_many_names(rt: HostRuntime) -> Result<(), Fail> {
+    let fault = fault_behind_names(rt.alloc(), "b; 'dog' ~= 'fred'")?;
+    assert!(rt; fault == Some(TableFault::Undefined(2_001)));
+    Ok(())
+}
+
+// ---- demands on one name
+
+fn demands(alloc: Global) -> Result<Vec<Requirement>, TableFault> {
+    let mut lines = Vec::new(alloc);
+    push_lines(alloc, &mut lines, "a @ https://x.test/", 1_000..2_500, "")?;
+    push_lines(alloc, &mut lines, "a===1.", 1_000..2_500, "")?;
+    push_lines(alloc, &mut lines, "a[x", 1_000..3_000, "]")?;
+    Ok(lines)
+}
+
+fn table_of_demands(alloc: Global) -> Result<Table, TableFault> {
+    table_of(alloc, demands(alloc)?.as_slice())
+}
+
+fn demands_text(alloc: Global) -> Result<String, AllocError> {
+    let mut text = String::from_str(alloc, "a conflict\n")?;
+    push_numbered(alloc, &mut text, "  extra x", 1_000..3_000, "\n")?;
+    push_numbered(
+        alloc,
+        &mut text,
+        "  url https://x.test/",
+        1_000..2_500,
+        "\n",
+    )?;
+    push_numbered(alloc, &mut text, "  text 1.", 1_000..2_500, "\n")?;
+    text.push_str("  range before 0.dev0 to end\n")?;
+    Ok(text)
+}
+
+#[test]
+fn table_of_many_demands(rt: HostRuntime) -> Result<(), Fail> {
+    let table = table_of_demands(rt.alloc())?;
+    expect_table(&rt, &table, demands_text(rt.alloc())?.as_str())?;
+    assert!(rt; is_entry(rt.alloc(), &table)?);
+    Ok(())
+}
+
+// ---- one requirement with many extras and clauses
+
+fn long_line(alloc: Global) -> Result<String, AllocError> {
+    let mut line = String::from_str(alloc, "a[x1199")?;
+    push_numbered(alloc, &mut line, ",x", 1_000..1_199, "")?;
+    line.push_str("]")?;
+    push_numbered(alloc, &mut line, "!=", 1_000..1_200, ",")?;
+    Ok(line)
+}
+
+// From what lies behind one of the numbers to the next.
+fn push_ranges(alloc: Global, text: &mut String) -> Result<(), AllocError> {
+    text.push_str("  range before 0.dev0 to ")?;
+    for number in 1_000u32..1_200 {
+        let cuts = format!(in alloc; "before {number}\n  range before {number}.post0.dev0 to ")?;
+        text.push_str(cuts.as_str())?;
+    }
+    text.push_str("end\n")
+}
+
+fn long_line_text(alloc: Global) -> Result<String, AllocError> {
+    let mut text = String::from_str(alloc, "a open\n")?;
+    push_numbered(alloc, &mut text, "  extra x", 1_000..1_200, "\n")?;
+    push_ranges(alloc, &mut text)?;
+    Ok(text)
+}
+
+fn table_of_line(alloc: Global) -> Result<Table, TableFault> {
+    table(alloc, &[long_line(alloc)?.as_str()])
+}
+
+#[test]
+fn table_of_a_long_line(rt: HostRuntime) -> Result<(), Fail> {
+    let table = table_of_line(rt.alloc())?;
+    expect_table(&rt, &table, long_line_text(rt.alloc())?.as_str())?;
+    assert!(rt; is_entry(rt.alloc(), &table)?);
+    Ok(())
+}
+
+#[test]
+fn verdict_of_many_ranges(rt: HostRuntime) -> Result<(), Fail> {
+    let table = table_of_line(rt.alloc())?;
+    assert!(rt; verdict(rt.alloc(), &table)? == Some(Verdict::Possible));
+    Ok(())
+}
+
+fn long_line_answer(alloc: Global, version: &str) -> Result<Answer, TableFault> {
+    answer(alloc, &[long_line(alloc)?.as_str()], version, false)
+}
+
+const ANSWERS: [(&str, Answer); 2] = [("1199", Answer::No), ("1199.1", Answer::Yes)];
+
+#[test]
+fn answers_of_many_ranges(rt: HostRuntime) -> Result<(), Fail> {
+    for &(version, wanted) in &ANSWERS {
+        let answer = long_line_answer(rt.alloc(), version)?;
+        expect_same(&rt, version, answer, wanted);
+    }
+    Ok(())
+}
+
+// ---- many tables
+
+fn numbered_table(alloc: Global, number: u32) -> Result<Table, TableFault> {
+    let own = format!(in alloc; "n{number}")?;
+    let shared = format!(in alloc; "a[x{number}]>={number}")?;
+    table(alloc, &[own.as_str(), shared.as_str()])
+}
+
+// Of each number one table.
+fn tables(alloc: Global) -> Result<Vec<Table>, TableFault> {
+    let mut tables = Vec::new(alloc);
+    for number in 100u32..300 {
+        tables.push(numbered_table(alloc, number)?)?;
+    }
+    Ok(tables)
+}
+
+fn tables_text(alloc: Global) -> Result<String, AllocError> {
+    let mut text = String::from_str(alloc, "a open\n")?;
+    push_numbered(alloc, &mut text, "  extra x", 100..300, "\n")?;
+    text.push_str("  range before 299 to end\n")?;
+    let rest = " open\n  range before 0.dev0 to end\n";
+    push_numbered(alloc, &mut text, "n", 100..300, rest)?;
+    Ok(text)
+}
+
+// The join of all tables.
+fn joined(alloc: Global) -> Result<Table, TableFault> {
+    join_all(alloc, Table::empty(alloc), tables(alloc)?.iter())
+}
+
+// The same from the last to the first.
+fn joined_back(alloc: Global) -> Result<Table, TableFault> {
+    join_all(alloc, Table::empty(alloc), tables(alloc)?.iter().rev())
+}
+
+#[test]
+fn join_of_many_tables(rt: HostRuntime) -> Result<(), Fail> {
+    let joined = joined(rt.alloc())?;
+    assert!(rt; joined.text(rt.alloc())? == tables_text(rt.alloc())?);
+    assert!(rt; joined_back(rt.alloc())? == joined);
+    Ok(())
+}
+
+fn gathered_text(alloc: Global) -> Result<String, TableFault> {
+    gathered(alloc, tables(alloc)?.as_slice())?.text(alloc)
+}
+
+#[test]
+fn many_tables_are_gathered(rt: HostRuntime) -> Result<(), Fail> {
+    let text = gathered_text(rt.alloc())?;
+    assert!(rt; text == tables_text(rt.alloc())?);
+    Ok(())
+}
+
+// ---- requirements one by one
+
+// What is demanded so far, and by the line.
+fn taken(
+    alloc: Global,
+    gathering: Gathering,
+    machine: &Environment,
+    line: &str,
+) -> Result<Gathering, TableFault> {
+    let requirement = requirement(alloc, line)?;
+    match gathering.take_applying(alloc, &requirement, machine) {
+        Ok(more) => Ok(more),
+        Err(_) => Err(TableFault::NoMemory),
+    }
+}
+
+// What is demanded so far, and of the name with the number.
+fn taken_name(
+    alloc: Global,
+    gathering: Gathering,
+    machine: &Environment,
+    number: u32,
+) -> Result<Gathering, TableFault> {
+    let line = format!(in alloc; "N{number}>={number}")?;
+    taken(alloc, gathering, machine, line.as_str())
+}
+
+fn gathered_names(alloc: Global) -> Result<Table, TableFault> {
+    let machine = machine(alloc)?;
+    let mut gathering = Gathering::new(alloc);
+    for number in 10_000u32..30_000 {
+        gathering = taken_name(alloc, gathering, &machine, number)?;
+    }
+    gathering.finish(alloc)
+}
+
+fn gathered_names_text(alloc: Global) -> Result<String, AllocError> {
+    let mut text = String::new(alloc);
+    for number in 10_000u32..30_000 {
+        let entry = format!(in alloc; "n{number} open\n  range before {number} to end\n")?;
+        text.push_str(entry.as_str())?;
+    }
+    Ok(text)
+}
+
+#[test]
+fn many_names(rt: HostRuntime) -> Result<(), Fail> {
+    let table = gathered_names(rt.alloc())?;
+    assert!(rt; table.text(rt.alloc())? == gathered_names_text(rt.alloc())?);
+    assert!(rt; entry(rt.alloc(), &table, "n29999").is_ok());
+    Ok(())
+}
+
+// A line with the number, of one of three kinds.
+fn line_of_kind(alloc: Global, kind: u32, number: u32) -> Result<String, AllocError> {
+    match kind {
+        0 => format!(in alloc; "a[x{number}]>={number}"),
+        1 => format!(in alloc; "a===1.{number}"),
+        _ => format!(in alloc; "a @ https://x.test/{number}"),
+    }
+}
+
+// What is demanded so far, and by that line.
+fn taken_kind(
+    alloc: Global,
+    gathering: Gathering,
+    machine: &Environment,
+    kind: u32,
+    number: u32,
+) -> Result<Gathering, TableFault> {
+    let line = line_of_kind(alloc, kind, number)?;
+    taken(alloc, gathering, machine, line.as_str())
+}
+
+// What is demanded so far, and by a line of each kind with the number.
+fn taken_with(
+    alloc: Global,
+    gathering: Gathering,
+    machine: &Environment,
+    number: u32,
+) -> Result<Gathering, TableFault> {
+    let mut all = gathering;
+    for kind in 0u32..3 {
+        all = taken_kind(alloc, all, machine, kind, number)?;
+    }
+    Ok(all)
+}
+
+fn gathered_demands(alloc: Global) -> Result<Table, TableFault> {
+    let machine = machine(alloc)?;
+    let mut gathering = Gathering::new(alloc);
+    for number in 0u32..5_000 {
+        gathering = taken_with(alloc, gathering, &machine, number)?;
+    }
+    gathering.finish(alloc)
+}
+
+// How many extras, texts, URLs and ranges there are.
+fn counts(entry: &Entry) -> (usize, usize, usize, usize) {
+    (
+        entry.extras().items().len(),
+        entry.texts().items().len(),
+        entry.urls().items().len(),
+        entry.versions().ranges().len(),
+    )
+}
+
+// Where the first range of an entry begins.
+fn low_line(alloc: Global, entry: &Entry) -> Result<String, ClauseFault> {
+    match entry.versions().ranges().first() {
+        Some(range) => range.low().text(alloc),
+        None => Ok(String::from_str(alloc, "no range")?),
+    }
+}
+
+#[test]
+fn many_demands_of_one_name(rt: HostRuntime) -> Result<(), Fail> {
+    let table = gathered_demands(rt.alloc())?;
+    let entry = entry(rt.alloc(), &table, "a")?;
+    assert!(rt; counts(entry) == (5_000, 5_000, 5_000, 1));
+    let low = low_line(rt.alloc(), entry)?;
+    expect_line(&rt, low.as_str(), "before 4999");
+    Ok(())
+}

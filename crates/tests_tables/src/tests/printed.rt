@@ -1,0 +1,587 @@
+//! Tables that are read from their texts.
+
+use crate::tests::tables::{requirement, table, table_of};
+use pep_require::Requirement;
+use pep_table::{Join, Table, TableFault};
+use std::alloc::{AllocError, Global};
+use std::process::Abort;
+use std::test::Fail;
+use tests_kit::{Numbers, expect, expect_line, expect_same, push_numbered, repeated};
+
+// A table with all kinds of lines and verdicts.
+const LINES: [&str; 11] = [
+    "a conflict",
+    "  extra x",
+    "  extra y",
+    "  url https://x.test/1",
+    "  url https://x.test/2",
+    "  text 1.0",
+    "  range before 0.dev0 to before 1",
+    "  range after 1+x to end",
+    "a-b open",
+    "  range past 1 to end",
+    "b none",
+];
+
+// A table of one name, 45 bytes.
+const FLASK: &str = "flask open\n  range before 2 to before 3.dev0\n";
+
+// The line that can't stand in the text, or 0 where it is the text of the table that is read.
+fn bad_line(alloc: Global, text: &str) -> Result<usize, TableFault> {
+    match Table::read(alloc, text) {
+        Ok(table) => line_of(alloc, &table, text),
+        Err(TableFault::BadTable(line)) => Ok(line),
+        Err(fault) => Err(fault),
+    }
+}
+
+// Stands for the line where a table is read of the text, but has another text.
+const ANOTHER: usize = usize::MAX;
+
+// No line where this is the text of the table.
+fn line_of(alloc: Global, table: &Table, text: &str) -> Result<usize, TableFault> {
+    let is_own = table.text(alloc)?.as_str() == text;
+    Ok(if is_own { 0 } else { ANOTHER })
+}
+
+fn expect_lines(rt: &(impl Abort + AllocGlobal), rows: &[(&str, usize)]) -> Result<(), TableFault> {
+    for &(text, wanted) in rows {
+        let line = bad_line(rt.alloc(), text)?;
+        expect_same(rt, text, line, wanted);
+    }
+    Ok(())
+}
+
+// Texts of tables.
+const WHOLE: [(&str, usize); 7] = [
+    ("", 0),
+    (FLASK, 0),
+    ("a none\n", 0),
+    ("a open\n  range before 0.dev0 to end\n", 0),
+    (
+        "a none\n  text 1.0\n  text 1.00\n  range before 1 to end\n",
+        0,
+    ),
+    ("a open\n  text 1.0\n  range before 1 to end\n", 0),
+    ("a none\n  text 1.0\n  range before 2 to end\n", 0),
+];
+
+// Texts whose names or verdicts cannot stand, and the line.
+const NAMES_AND_VERDICTS: [(&str, usize); 21] = [
+    ("\n", 1),
+    ("a open", 1),
+    ("a\n", 1),
+    ("a  none\n", 1),
+    ("a none \n", 1),
+    ("A none\n", 1),
+    ("a_b none\n", 1),
+    ("-a none\n", 1),
+    ("a None\n", 1),
+    ("a none\na none\n", 2),
+    ("b none\na none\n", 2),
+    ("b none\na open\n  range end to end\n", 2),
+    ("a none\n  range before 1 to end\n", 1),
+    ("a open\n", 1),
+    ("a open\nb none\n", 1),
+    ("a open\na none\n", 2),
+    ("a open\n\n", 2),
+    ("a conflict\n  url u\n  range before 1 to end\n", 1),
+    ("a open\n  url u\n  url v\n  range before 1 to end\n", 1),
+    ("a open\n  text 1.0\n  range before 2 to end\n", 1),
+    ("a none\n  text 1.0\n  range before 1 to end\n", 1),
+];
+
+// The first of the lines that cannot stand.
+const FIRST_LINES: [(&str, usize); 27] = [
+    ("b open\na none\n", 2),
+    ("a open\nb dog\n", 2),
+    ("a open\nb none", 2),
+    ("a open\n  range before 2 to end\nb open\n", 3),
+    ("a open\nb none\n  extra y\n  extra x\n", 1),
+    ("a conflict\n  url u\n  text 1\n", 1),
+    ("a open\n  rang before 1 to end\n", 2),
+    ("a none\n  range before 1 to end\n  junk\n", 3),
+    ("a none\n  extra x\n  extra w", 3),
+    ("a none\n  range before 1 to end\n  url u\n", 3),
+    ("a conflict\n  url u\n  range before 1 to end\nb", 4),
+    ("a open\n  range before 1 to end\r\n", 2),
+    ("a open\r\n  range before 1 to end\r\n", 1),
+    ("a open\n  range before 1 to end\n\n", 3),
+    ("a open\n  range before 1 to end\n \n", 3),
+    ("\u{feff}a none\n", 1),
+    ("a none\n  range before 99999999999999999999 to end\n", 2),
+    ("a none\n  text \u{e9}\n", 2),
+    ("a none\n  extra a--b\n", 2),
+    ("a none\n  extra -b\n", 2),
+    ("a open\n  range before 0.dev0 to before 0.dev0\n", 2),
+    (
+        "a open\n  range before 0.dev0 to end\n  range before 1 to end\n",
+        3,
+    ),
+    ("a none\n  text 1.0", 2),
+    ("a none\n  url u\n  url u", 3),
+    ("a open\n  url u\n  url v\n  junk\n", 4),
+    ("a none\nb open\nc none\n", 2),
+    ("a none\nb open\nc open\n", 2),
+];
+
+const ITEMS: [(&str, usize); 17] = [
+    ("a none\n  extra y\n  extra x\n", 3),
+    ("a none\n  extra x\n  extra x\n", 3),
+    ("a none\n  extra X\n", 2),
+    ("a none\n  extra \n", 2),
+    ("a none\n  url u\n  extra x\n", 3),
+    ("a open\n  text 1\n  extra x\n", 3),
+    ("a none\n  url !\n", 0),
+    ("a none\n  url ~\n", 0),
+    ("a none\n  url \n", 2),
+    ("a none\n  url u v\n", 2),
+    ("a none\n  url \x7f\n", 2),
+    ("a none\n  url \u{e9}\n", 2),
+    ("a none\n  text !*+-._09az\n", 0),
+    ("a none\n  text \n", 2),
+    ("a none\n  text A\n", 2),
+    ("a none\n  text 1,2\n", 2),
+    ("a none\n  text 2\n  text 1\n", 3),
+];
+
+const RANGES: [(&str, usize); 20] = [
+    (
+        "a open\n  range before 1 to before 2\n  range before 2 to end\n",
+        3,
+    ),
+    (
+        "a open\n  range before 3 to end\n  range before 1 to before 2\n",
+        3,
+    ),
+    (
+        "a open\n  range before 1 to end\n  range before 1 to end\n",
+        3,
+    ),
+    ("a open\n  range before 2 to before 1\n", 2),
+    ("a open\n  range before 1 to before 1\n", 2),
+    ("a open\n  range end to before 1\n", 2),
+    ("a open\n  range before 1.0 to end\n", 2),
+    ("a open\n  range before 01 to end\n", 2),
+    ("a open\n  range before 1A1 to end\n", 2),
+    ("a open\n  range before v1 to end\n", 2),
+    ("a open\n  range before 1 to END\n", 2),
+    ("a open\n  range before 1 to before 2.0\n", 2),
+    ("a open\n  range past 1.0 to end\n", 2),
+    ("a open\n  range past 1a1 to end\n", 2),
+    ("a open\n  range after 1 to end\n", 2),
+    ("a open\n  range before 1 end\n", 2),
+    ("a open\n  range before 1 to\n", 2),
+    ("a open\n  range before 1 to end to end\n", 2),
+    ("a open\n  range  before 1 to end\n", 2),
+    ("a open\n  range before 1 to end", 2),
+];
+
+#[test]
+fn lines_that_cannot_stand(rt: HostRuntime) -> Result<(), Fail> {
+    expect_lines(&rt, &WHOLE)?;
+    expect_lines(&rt, &NAMES_AND_VERDICTS)?;
+    expect_lines(&rt, &FIRST_LINES)?;
+    expect_lines(&rt, &ITEMS)?;
+    expect_lines(&rt, &RANGES)?;
+    Ok(())
+}
+
+// ---- changes of one line of the table
+
+// Appends lines, each with its line feed.
+fn push_lines(text: &mut String, lines: &[&str]) -> Result<(), AllocError> {
+    for line in lines {
+        text.push_str(line)?;
+        text.push_str("\n")?;
+    }
+    Ok(())
+}
+
+// The text of the lines, but with others in the place of some from this index on.
+fn replaced(
+    alloc: Global,
+    from: usize,
+    count: usize,
+    others: &[&str],
+) -> Result<String, AllocError> {
+    let mut text = String::new(alloc);
+    for (index, line) in LINES.iter().enumerate() {
+        if index == from {
+            push_lines(&mut text, others)?;
+        }
+        if index < from || index >= from.saturating_add(count) {
+            push_lines(&mut text, &[line])?;
+        }
+    }
+    Ok(text)
+}
+
+// The line with this index, if there is one.
+fn line_at(index: usize) -> &'static str {
+    LINES.get(index).copied().unwrap_or("")
+}
+
+// The line that can't stand where others stand in the place of some from this index on.
+fn bad_line_with(
+    alloc: Global,
+    from: usize,
+    count: usize,
+    others: &[&str],
+) -> Result<usize, TableFault> {
+    bad_line(alloc, replaced(alloc, from, count, others)?.as_str())
+}
+
+// The same where one line is left out, stands twice, or is swapped with the next.
+fn bad_line_without(alloc: Global, index: usize) -> Result<usize, TableFault> {
+    bad_line_with(alloc, index, 1, &[])
+}
+
+fn bad_line_with_two(alloc: Global, index: usize) -> Result<usize, TableFault> {
+    bad_line_with(alloc, index, 1, &[line_at(index), line_at(index)])
+}
+
+fn bad_line_with_swapped(alloc: Global, index: usize) -> Result<usize, TableFault> {
+    let next = line_at(index.saturating_add(1));
+    bad_line_with(alloc, index, 2, &[next, line_at(index)])
+}
+
+// The same where something stands in front of a line, and behind it.
+fn bad_line_between(
+    alloc: Global,
+    index: usize,
+    front: &str,
+    behind: &str,
+) -> Result<usize, TableFault> {
+    let line = format!(in alloc; "{front}{}{behind}", line_at(index))?;
+    bad_line_with(alloc, index, 1, &[line.as_str()])
+}
+
+#[test]
+fn the_lines_are_a_table(rt: HostRuntime) -> Result<(), Fail> {
+    assert!(rt; bad_line_with(rt.alloc(), 0, 0, &[])? == 0);
+    Ok(())
+}
+
+// Which line can't stand without each of the lines, 0 where the text is a table's.
+const WITHOUT: [usize; 11] = [1, 0, 0, 1, 1, 0, 0, 0, 9, 9, 0];
+
+#[test]
+fn lines_left_out(rt: HostRuntime) -> Result<(), Fail> {
+    for (index, wanted) in WITHOUT.iter().enumerate() {
+        let line = bad_line_without(rt.alloc(), index)?;
+        expect_same(&rt, index, line, *wanted);
+    }
+    Ok(())
+}
+
+#[test]
+fn lines_that_stand_twice(rt: HostRuntime) -> Result<(), Fail> {
+    for index in 0..LINES.len() {
+        let line = bad_line_with_two(rt.alloc(), index)?;
+        expect_same(&rt, index, line, index + 2);
+    }
+    Ok(())
+}
+
+// Which line can't stand where each line is swapped with the next.
+const SWAPPED: [usize; 10] = [1, 3, 4, 5, 6, 7, 8, 10, 9, 9];
+
+#[test]
+fn swapped_lines(rt: HostRuntime) -> Result<(), Fail> {
+    for (index, wanted) in SWAPPED.iter().enumerate() {
+        let line = bad_line_with_swapped(rt.alloc(), index)?;
+        expect_same(&rt, index, line, *wanted);
+    }
+    Ok(())
+}
+
+// What no line has in front or behind.
+const AROUND: [(&str, &str); 3] = [(" ", ""), ("", " "), ("", "\r")];
+
+fn expect_bad_lines(
+    rt: &(impl Abort + AllocGlobal),
+    front: &str,
+    behind: &str,
+) -> Result<(), TableFault> {
+    for index in 0..LINES.len() {
+        let line = bad_line_between(rt.alloc(), index, front, behind)?;
+        expect_same(rt, index, line, index + 1);
+    }
+    Ok(())
+}
+
+#[test]
+fn spaces_and_returns(rt: HostRuntime) -> Result<(), Fail> {
+    for &(front, behind) in &AROUND {
+        expect_bad_lines(&rt, front, behind)?;
+    }
+    Ok(())
+}
+
+// A line by its place in `LINES`, the same as a line of another kind, and the line that can't stand.
+const OTHER_KINDS: [(usize, &str, usize); 8] = [
+    (1, "  url x", 3),
+    (2, "  url y", 4),
+    (3, "  extra https://x.test/1", 4),
+    (4, "  text https://x.test/2", 5),
+    (5, "  range 1.0", 6),
+    (6, "  text before 0.dev0 to before 1", 7),
+    (7, "  url after 1+x to end", 8),
+    (9, "  text past 1 to end", 10),
+];
+
+#[test]
+fn lines_of_another_kind(rt: HostRuntime) -> Result<(), Fail> {
+    for &(index, other, wanted) in &OTHER_KINDS {
+        let line = bad_line_with(rt.alloc(), index, 1, &[other])?;
+        expect_same(&rt, other, line, wanted);
+    }
+    Ok(())
+}
+
+// ---- beginnings of tables
+
+// Appends how many bytes the text has, if a table is read of it, and a mark if that has another text.
+fn push_size(alloc: Global, sizes: &mut String, text: &str) -> Result<(), TableFault> {
+    let line = bad_line(alloc, text)?;
+    if line == 0 || line == ANOTHER {
+        let mark = if line == 0 { "" } else { "!" };
+        let size = format!(in alloc; "{}{mark} ", text.len())?;
+        sizes.push_str(size.as_str())?;
+    }
+    Ok(())
+}
+
+// How many bytes the beginnings of the text have that are texts of tables.
+fn sizes_of_tables(alloc: Global, text: &str) -> Result<String, TableFault> {
+    let (mut beginning, mut sizes) = (String::new(alloc), String::new(alloc));
+    for letter in text.chars() {
+        push_size(alloc, &mut sizes, beginning.as_str())?;
+        beginning.push(letter)?;
+    }
+    push_size(alloc, &mut sizes, beginning.as_str())?;
+    Ok(sizes)
+}
+
+// The indices of lines behind which a table may end.
+const ENDS: [usize; 6] = [4, 5, 6, 7, 9, 10];
+
+// How many bytes the lines have up to each of them, and none.
+fn sizes_at_ends(alloc: Global) -> Result<String, AllocError> {
+    let mut bytes = 0usize;
+    let mut sizes = String::from_str(alloc, "0 ")?;
+    for (index, line) in LINES.iter().enumerate() {
+        bytes = bytes.saturating_add(line.len()).saturating_add(1);
+        if ENDS.contains(&index) {
+            let size = format!(in alloc; "{bytes} ")?;
+            sizes.push_str(size.as_str())?;
+        }
+    }
+    Ok(sizes)
+}
+
+fn sizes_of_the_table(alloc: Global) -> Result<String, TableFault> {
+    sizes_of_tables(alloc, replaced(alloc, 0, 0, &[])?.as_str())
+}
+
+#[test]
+fn beginnings(rt: HostRuntime) -> Result<(), Fail> {
+    let sizes = sizes_of_the_table(rt.alloc())?;
+    expect(&rt, sizes.as_str(), sizes == sizes_at_ends(rt.alloc())?);
+    let sizes = sizes_of_tables(rt.alloc(), FLASK)?;
+    expect_line(&rt, sizes.as_str(), "0 45 ");
+    Ok(())
+}
+
+// ---- large tables
+
+// The text of a table of many names.
+fn names_text(alloc: Global) -> Result<String, AllocError> {
+    let mut text = String::new(alloc);
+    for number in 10_000..13_000 {
+        let entry = format!(in alloc; "n{number} open\n  range before {number} to end\n")?;
+        text.push_str(entry.as_str())?;
+    }
+    Ok(text)
+}
+
+// The same of one name with many lines of each kind.
+fn items_text(alloc: Global) -> Result<String, AllocError> {
+    let mut text = String::from_str(alloc, "a conflict\n")?;
+    for kind in &["  extra n", "  url u", "  text "] {
+        push_numbered(alloc, &mut text, kind, 10_000..15_000, "\n")?;
+    }
+    for number in 1_000..1_500 {
+        let line = format!(in alloc; "  range before {number}.1 to before {number}.2\n")?;
+        text.push_str(line.as_str())?;
+    }
+    Ok(text)
+}
+
+// What is repeated 50,000 times, and what stands behind it.
+const LONG_LINES: [(&str, &str); 8] = [
+    ("a1", " conflict\n  extra "),
+    ("a1", "\n  url "),
+    ("a1", "\n  url "),
+    ("a1", "b\n  text "),
+    ("a1", "\n  range past "),
+    ("1.", "1 to before "),
+    ("1.", "2+"),
+    ("a1", "\n"),
+];
+
+// The same of lines of many bytes.
+fn long_text(alloc: Global) -> Result<String, AllocError> {
+    let mut text = String::new(alloc);
+    for &(part, behind) in &LONG_LINES {
+        let more = repeated(alloc, "", part, 50_000, behind)?;
+        text.push_str(more.as_str())?;
+    }
+    Ok(text)
+}
+
+// Each is the text of a table; a line that can't stand behind all of its lines is named.
+fn expect_whole(
+    rt: &(impl Abort + AllocGlobal),
+    text: &mut String,
+    other: &str,
+    wanted: usize,
+) -> Result<(), TableFault> {
+    expect_same(rt, "the table", bad_line(rt.alloc(), text.as_str())?, 0);
+    text.push_str(other)?;
+    expect_same(rt, other, bad_line(rt.alloc(), text.as_str())?, wanted);
+    Ok(())
+}
+
+#[test]
+fn many_names(rt: HostRuntime) -> Result<(), Fail> {
+    expect_whole(&rt, &mut names_text(rt.alloc())?, "n1 none\n", 6_001)?;
+    Ok(())
+}
+
+#[test]
+fn many_lines(rt: HostRuntime) -> Result<(), Fail> {
+    expect_whole(&rt, &mut items_text(rt.alloc())?, "  extra z\n", 15_502)?;
+    Ok(())
+}
+
+#[test]
+fn long_lines(rt: HostRuntime) -> Result<(), Fail> {
+    let text = long_text(rt.alloc())?;
+    assert!(rt; bad_line(rt.alloc(), text.as_str())? == 0);
+    Ok(())
+}
+
+// ---- tables of a seed, merged in two ways
+
+// What may stand behind a name.
+const DEMANDS: [&str; 12] = [
+    "",
+    ">=1.0",
+    "<2",
+    "!=1.5,!=1.6.*",
+    "==1.*",
+    "~=1.2",
+    ">1.0.post1",
+    "===1.0",
+    "[x]",
+    "[y,x]>=0.5",
+    " @ https://x.test/1",
+    "<=3.0",
+];
+
+const NAMES: [&str; 5] = ["a", "A.b", "a-B", "c", "d"];
+
+// A line of them.
+fn any(alloc: Global, numbers: &mut Numbers) -> Result<Requirement, TableFault> {
+    let name = numbers.one_of(&NAMES);
+    let demand = numbers.one_of(&DEMANDS);
+    let line = format!(in alloc; "{name}{demand}")?;
+    requirement(alloc, line.as_str())
+}
+
+fn list_of_any(alloc: Global, numbers: &mut Numbers) -> Result<Vec<Requirement>, TableFault> {
+    let mut list = Vec::new(alloc);
+    for _ in 0..numbers.below(5) {
+        list.push(any(alloc, numbers)?)?;
+    }
+    Ok(list)
+}
+
+// The table that a text of this table is read as.
+fn read_back(alloc: Global, table: &Table) -> Result<Table, TableFault> {
+    Table::read(alloc, table.text(alloc)?.as_str())
+}
+
+// The table and that of the requirements, printed and read back before and after they are joined.
+fn joined_by_prints(
+    alloc: Global,
+    table: &Table,
+    requirements: &[Requirement],
+) -> Result<Table, TableFault> {
+    let next = read_back(alloc, &table_of(alloc, requirements)?)?;
+    read_back(alloc, &next.joined(alloc, table)?)
+}
+
+// The table and that of a new list, which is appended to all lists.
+fn with_list(
+    alloc: Global,
+    table: &Table,
+    numbers: &mut Numbers,
+    all: &mut Vec<Requirement>,
+) -> Result<Table, TableFault> {
+    let mut list = list_of_any(alloc, numbers)?;
+    let joined = joined_by_prints(alloc, table, list.as_slice())?;
+    all.append(&mut list)?;
+    Ok(joined)
+}
+
+// The table of some lists, merged list by list with prints in between.
+fn merged_in_turn(
+    alloc: Global,
+    numbers: &mut Numbers,
+    all: &mut Vec<Requirement>,
+) -> Result<Table, TableFault> {
+    let mut table = Table::empty(alloc);
+    for _ in 0..numbers.below(5) {
+        table = with_list(alloc, &table, numbers, all)?;
+    }
+    Ok(table)
+}
+
+fn is_one_text(alloc: Global, one: &Table, other: &Table) -> Result<bool, TableFault> {
+    Ok(one.text(alloc)? == other.text(alloc)?)
+}
+
+// Whether two merges of the same lines have one text: at once, and list by list.
+fn is_one_merge(alloc: Global, numbers: &mut Numbers) -> Result<bool, TableFault> {
+    let mut all = Vec::new(alloc);
+    let in_turn = merged_in_turn(alloc, numbers, &mut all)?;
+    is_one_text(alloc, &in_turn, &table_of(alloc, all.as_slice())?)
+}
+
+#[test]
+fn merged_in_two_ways(rt: HostRuntime) -> Result<(), Fail> {
+    let mut numbers = Numbers { state: 20_261_123 };
+    for turn in 0..300 {
+        expect(&rt, turn, is_one_merge(rt.alloc(), &mut numbers)?);
+    }
+    Ok(())
+}
+
+const MERGED: &str =
+    "flask open\n  range before 2 to before 2.1\n  range before 2.1.post0.dev0 to before 3.dev0\n";
+
+// What is read of a text and what a list demands, joined.
+fn read_and_joined(alloc: Global, text: &str, list: &str) -> Result<String, TableFault> {
+    let read = Table::read(alloc, text)?;
+    read.joined(alloc, &table(alloc, &[list])?)?.text(alloc)
+}
+
+#[test]
+fn read_tables_are_joined(rt: HostRuntime) -> Result<(), Fail> {
+    let merged = read_and_joined(rt.alloc(), FLASK, "flask!=2.1")?;
+    expect_line(&rt, merged.as_str(), MERGED);
+    Ok(())
+}
