@@ -14,7 +14,7 @@ use Rattle.inputs.specs.LineReading.{RefusesSource, TakesLine, TakesSource}
 use Rattle.inputs.specs.LineReading.{by_bytes, by_failure, by_memory}
 use Rattle.inputs.specs.Lists.{input_limit, lines_of}
 use Rattle.inputs.specs.Refusal.{by_size}
-use Rattle.inputs.specs.Streams.{MayFollow}
+use Rattle.inputs.specs.Streams.{MayFollow, ReadsUpTo}
 use Rattle.inputs.proofs.Pieces.{last_refuses, lines_go_on, nothing_held}
 use Rattle.inputs.proofs.TakenLines.{ended_count, last_taken, none_taken, piece_more}
 
@@ -25,6 +25,10 @@ pub record ReadSoFar {A : Type 0} (takes : List ℕ → A → A → Type 0) (lef
   pub reads : Consumes left now bytes
   pub size : length bytes ≡ count
   pub has : HasTaken takes bytes 0 old number held new
+
+-- of a source that isn't called nothing is read
+pub unread : (most : ℕ) (left : Option (List ℕ)) → ReadsUpTo most left left
+unread most left = ([], Consumes-nil left, omega arith)
 
 -- the front of a buffer and its last byte
 pub all_but_last : (n : ℕ) (buf : List ℕ) → n ≢ 0 → n ≤ length buf →
@@ -70,6 +74,23 @@ module _ {A : Type 0} (takes : List ℕ → A → A → Type 0) (left : Option (
     pub ended_lines : number ≤ count
     ended_lines =
         omega (arith, s.size, ended_count takes s.bytes held 0 number old mid s.has)
+
+    -- no more is read than may be, with a piece more ..
+    pub read_with : (piece : List ℕ) → Consumes now next piece →
+        count + length piece ≤ input_limit + 1 → ReadsUpTo (input_limit + 1) left next
+    read_with piece reads room = (
+      s.bytes ++ piece,
+      Consumes-trans left now next s.bytes piece s.reads reads,
+      omega (arith, room, s.size, length-append s.bytes piece),
+    )
+
+    -- .. and where a read failed
+    pub read_before : Keeps now next → count ≤ input_limit → ReadsUpTo (input_limit + 1) left next
+    read_before kept room = (
+      s.bytes,
+      Consumes-kept left now next s.bytes s.reads kept,
+      omega (arith, room, s.size),
+    )
 
     -- the source is at its end
     at_end : Consumes now next [] → Consumes left next s.bytes

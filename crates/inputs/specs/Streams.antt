@@ -17,6 +17,11 @@ use Rattle.inputs.specs.Gathered.{AcceptsBytes, BytesDemand}
 use Rattle.inputs.specs.Lists.{content, input_limit, is_skipped, lines_of}
 use Rattle.inputs.specs.Refusal.{IsOverflow, IsRefused}
 
+-- of a reader that tells its bytes: at most so many of them were read
+abbrev pub ReadsUpTo : ℕ → Option (List ℕ) → Option (List ℕ) → Type 0
+ReadsUpTo most left after =
+    (bytes : List ℕ) × Consumes left after bytes × (length bytes ≤ most)
+
 -- ---- the table of a list that was read
 
 -- the bytes are accepted as a list, and this is the table of what they demand

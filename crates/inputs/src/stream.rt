@@ -20,7 +20,7 @@ ghost use Rattle.devices.specs.Device.{IsFresh};
 ghost use Rattle.inputs.specs.Lists.{input_limit};
 ghost use Rattle.inputs.specs.LineReading.{RefusesSource, TakesSource};
 ghost use Rattle.inputs.specs.Refusal.{no_memory};
-ghost use Rattle.inputs.specs.Streams.{ReadsTable, RefusesReading, failed_read};
+ghost use Rattle.inputs.specs.Streams.{ReadsTable, ReadsUpTo, RefusesReading, failed_read};
 
 use crate::gathering::DemandTaker;
 use crate::lines::{LinesSoFar, Taker, refused_over, take_last, take_piece};
@@ -49,6 +49,7 @@ fn take_source<T: Taker, S: Source>(
     ensures refused { IfErr result (RefusesSource (T.takes taker.now) (T.refuses taker.now)
         (S.left source.old) (S.left source.new) (S.device source.new).failed taken) }
     ensures failed { IsTrue (S.device source.new).failed ↔ IsErrOf result Cause.ReadFault }
+    ensures bytes { ReadsUpTo (input_limit + 1) (S.left source.old) (S.left source.new) }
     ensures calls { (S.device source.new).calls ≤ input_limit + 1 }
 {
     let mut buffer = [0u8; PIECE];
@@ -90,6 +91,7 @@ pub fn gather_reader<S: Source>(
         ⊎ RefusesReading environment.now (S.left source.old) (S.left source.new)
         (S.device source.new) fault) }
     ensures failed { IsTrue (S.device source.new).failed ↔ IsErrOf result failed_read }
+    ensures bytes { ReadsUpTo (input_limit + 1) (S.left source.old) (S.left source.new) }
     ensures calls { (S.device source.new).calls ≤ input_limit + 1 }
 {
     let taker = DemandTaker { alloc, environment };
@@ -114,6 +116,7 @@ pub fn merge_reader<S: Source>(
         ⊎ RefusesReading environment.now (S.left source.old) (S.left source.new)
         (S.device source.new) fault) }
     ensures failed { IsTrue (S.device source.new).failed ↔ IsErrOf result failed_read }
+    ensures bytes { ReadsUpTo (input_limit + 1) (S.left source.old) (S.left source.new) }
     ensures calls { (S.device source.new).calls ≤ input_limit + 1 }
 {
     let gathering = gather_reader(alloc, source, environment)?;

@@ -164,6 +164,11 @@ files_refuse (Err f) files left_of device_of env paths e inputs given has reads 
     further (by_inputs e inputs has reads)
     (subst (λ (is : List Input). RefusesInputs e is f) same h)
 
+-- the version and the name that a check asks for
+pub asked : {c : CheckRequest} {v : Version} {name : List ℕ} → Reads c.version (Ok v) →
+    name_of c.name ≡ Some name → IsAsked c v name
+asked version name = record { version = version; name = name }
+
 -- the answer of a check
 pub checks_files : {File : Type 0} (r : Result Answer Fault) (files : Text → KnownFile)
     (left_of : File → Option (List ℕ)) (device_of : File → Device) (c : CheckRequest)
@@ -188,11 +193,6 @@ checks_files (Ok a) files left_of device_of c v name e inputs given is named has
     }
 checks_files (Err f) files left_of device_of c v name e inputs given is named has reads same all h =
     tt
-
--- the version and the name that a check asks for
-pub asked : {c : CheckRequest} {v : Version} {name : List ℕ} → Reads c.version (Ok v) →
-    name_of c.name ≡ Some name → IsAsked c v name
-asked version name = record { version = version; name = name }
 
 -- .. and its refusal
 pub check_refused : {A File : Type 0} (r : Result A Fault) (files : Text → KnownFile)

@@ -17,6 +17,7 @@ ghost use Rattle.std.specs.Io.KnownBytes.{Keeps};
 ghost use Rattle.devices.specs.Device.{Device, IsFresh};
 ghost use Rattle.devices.specs.Folder.{unknown_files};
 ghost use Rattle.inputs.specs.Lists.{input_limit};
+ghost use Rattle.inputs.specs.Streams.{ReadsUpTo};
 ghost use Rattle.command_line.specs.Plan.{Asks, standard};
 ghost use Rattle.pep_tool.specs.Run.{PrintsReply, Refuses, Tells, TellsRefusal, WritesLine};
 
@@ -95,9 +96,10 @@ pub fn run<R: Files + AllocGlobal, I: Source, O: Sink, F: Sink>(
         → ((I.device input.new).failed ≡ false) × ((O.device output.new).failed ≡ false) }
     ensures quiet { result ≢ 2 → Keeps (F.written faults.old) (F.written faults.new) }
 
-    // Where the words don't ask for the table of the input, the input is as it was; it is read at
-    // most once for each byte of the largest list, and once more.
+    // Where the words don't ask for the table of the input, the input is as it was; of it at most
+    // the bytes of the largest list are read and one more, by at most as many calls.
     ensures unread { ¬ Asks (map string_bytes words.now) standard → input.new ≡ input.old }
+    ensures bytes { ReadsUpTo (input_limit + 1) (I.left input.old) (I.left input.new) }
     ensures calls { (I.device input.new).calls ≤ input_limit + 1 }
 
     // At status 2 a fault was told, and nothing was printed.
@@ -135,9 +137,10 @@ pub fn run_in<D: Folder, I: Source, O: Sink, F: Sink>(
         → ((I.device input.new).failed ≡ false) × ((O.device output.new).failed ≡ false) }
     ensures quiet { result ≢ 2 → Keeps (F.written faults.old) (F.written faults.new) }
 
-    // Where the words don't ask for the table of the input, the input is as it was; it is read at
-    // most once for each byte of the largest list, and once more.
+    // Where the words don't ask for the table of the input, the input is as it was; of it at most
+    // the bytes of the largest list are read and one more, by at most as many calls.
     ensures unread { ¬ Asks (map string_bytes words.now) standard → input.new ≡ input.old }
+    ensures bytes { ReadsUpTo (input_limit + 1) (I.left input.old) (I.left input.new) }
     ensures calls { (I.device input.new).calls ≤ input_limit + 1 }
 
     // At status 2 a fault was told, and nothing was printed.
@@ -179,6 +182,7 @@ fn print_reply<D: Folder, I: Source, O: Sink>(
         ((O.device output.new).failed ≡ false →
         Keeps (O.written output.old) (O.written output.new)) }
     ensures unread { ¬ Asks (map string_bytes words.now) standard → input.new ≡ input.old }
+    ensures bytes { ReadsUpTo (input_limit + 1) (I.left input.old) (I.left input.new) }
     ensures calls { (I.device input.new).calls ≤ input_limit + 1 }
 {
     let plan = plan_of(alloc, words)?;

@@ -24,7 +24,7 @@ ghost use Rattle.inputs.specs.Lists.{Lists};
 ghost use Rattle.inputs.specs.Lists.{input_limit};
 ghost use Rattle.command_line.specs.Plan.{request, standard};
 ghost use Rattle.inputs.specs.Refusal.{no_memory};
-ghost use Rattle.inputs.specs.Streams.{RefusesReading};
+ghost use Rattle.inputs.specs.Streams.{ReadsUpTo, RefusesReading};
 ghost use Rattle.pep_tool.specs.RunReplies.{
   IsReply,
   ChecksFiles,
@@ -91,6 +91,7 @@ pub(crate) fn reply_to<D: Folder, I: Source>(
         (I.left input.old) (I.left input.new) (I.device input.new) fault) }
     ensures status { IfOk result (λ reply. reply.status ≤ 1) }
     ensures unread { request plan.now ≢ standard → input.new ≡ input.old }
+    ensures bytes { ReadsUpTo (input_limit + 1) (I.left input.old) (I.left input.new) }
     ensures calls { (I.device input.new).calls ≤ input_limit + 1 }
 {
     match plan {
@@ -158,6 +159,7 @@ fn merge_input<S: Source>(alloc: Global, source: &mut S) -> Result<String, Fault
     ensures merged { IfOk result
         (λ text. MergesInput (S.left source.old) (S.left source.new) (string_bytes text)) }
     ensures no_failure { OnOk result ((S.device source.new).failed ≡ false) }
+    ensures bytes { ReadsUpTo (input_limit + 1) (S.left source.old) (S.left source.new) }
     ensures calls { (S.device source.new).calls ≤ input_limit + 1 }
     ensures refused { IfErr result (λ fault. (fault ≡ no_memory)
         ⊎ RefusesReading standard_environment (S.left source.old) (S.left source.new)

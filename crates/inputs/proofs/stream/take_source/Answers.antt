@@ -3,7 +3,7 @@ use Rattle.std.proofs.Common.{◌-◌, take}
 use Rattle.std.specs.Io.KnownBytes.{Consumes, IsAtEnd}
 use Rattle.std.proofs.lemmas.Result.{IfErr-weaker, IfOk-weaker, err_from_is_err_and}
 use Rattle.inputs.proofs.StreamLemmas.{all_but_last, all_read, ended_lines, last_refused, over_refused}
-use Rattle.inputs.proofs.StreamLemmas.{piece_read, piece_refused, read_failed}
+use Rattle.inputs.proofs.StreamLemmas.{piece_read, piece_refused, read_before, read_failed, read_with}
 use Rattle.inputs.proofs.stream.take_source.Given as given
 use Rattle.inputs.proofs.stream.take_source.Goals as goal
 use Rattle.inputs.proofs.stream.take_source.Goals.{In-Ok-eq0}
@@ -71,6 +71,41 @@ returns-in_err-so_far-clause-refused g c =
     (omega (arith, c.if-count-gt-INPUT_LIMIT.false,
     c.in-Ok.ensures.bound.1))
     c.in_err-so_far.ensures.refused)
+
+pub returns-in-Ok-eq0-clause-bytes : goal.returns-in-Ok-eq0-clause-bytes
+returns-in-Ok-eq0-clause-bytes g c =
+    let none = (goal.at.returns-in-Ok-eq0-clause-bytes g c).In-Ok-eq0 in
+    read_with (g.T.Taker.takes c.args.taker.now) (g.S.Source.left c.args.source.now)
+    (g.S.Source.left c.pieces.source) (g.S.Source.left c.pull.new.self) c.pieces.count
+    c.args.taken c.pieces.so_far.number c.pieces.so_far.held.items c.pieces.so_far.taken
+    c.pieces.invariant.read []
+    (reads_none g none) (omega (arith, c.pieces.invariant.room))
+
+pub returns-in-Err-clause-bytes : goal.returns-in-Err-clause-bytes
+returns-in-Err-clause-bytes g c =
+    read_before (g.T.Taker.takes c.args.taker.now) (g.S.Source.left c.args.source.now)
+    (g.S.Source.left c.pieces.source) (g.S.Source.left c.pull.new.self) c.pieces.count
+    c.args.taken c.pieces.so_far.number c.pieces.so_far.held.items c.pieces.so_far.taken
+    c.pieces.invariant.read
+    c.in-Err.ensures.bytes c.pieces.invariant.room
+
+pub returns-then-count-gt-INPUT_LIMIT-clause-bytes :
+    goal.returns-then-count-gt-INPUT_LIMIT-clause-bytes
+returns-then-count-gt-INPUT_LIMIT-clause-bytes g c =
+    read_with (g.T.Taker.takes c.args.taker.now) (g.S.Source.left c.args.source.now)
+    (g.S.Source.left c.pieces.source) (g.S.Source.left c.pull.new.self) c.pieces.count
+    c.args.taken c.pieces.so_far.number c.pieces.so_far.held.items c.pieces.so_far.taken
+    c.pieces.invariant.read
+    (take c.in-Ok.given c.pull.new.buf) c.in-Ok.ensures.bytes.0 (search rules)
+
+pub returns-in_err-so_far-clause-bytes : goal.returns-in_err-so_far-clause-bytes
+returns-in_err-so_far-clause-bytes g c =
+    read_with (g.T.Taker.takes c.args.taker.now) (g.S.Source.left c.args.source.now)
+    (g.S.Source.left c.pieces.source) (g.S.Source.left c.pull.new.self) c.pieces.count
+    c.args.taken c.pieces.so_far.number c.pieces.so_far.held.items c.pieces.so_far.taken
+    c.pieces.invariant.read
+    (take c.in-Ok.given c.pull.new.buf) c.in-Ok.ensures.bytes.0
+    (omega (arith, c.if-count-gt-INPUT_LIMIT.false, c.in-Ok.ensures.bound.1))
 
 pub pieces-preserved : goal.pieces-preserved
 pieces-preserved g c =
