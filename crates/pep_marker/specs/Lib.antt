@@ -9,6 +9,8 @@ pub mod Holds
 pub mod Code
 pub mod View
 pub mod NormalView
+pub mod Value
+pub mod ComparedView
 pub mod Token
 pub mod Chains
 pub mod TokenReading

@@ -18,7 +18,8 @@ ghost use Rattle.pep_marker.specs.Slots.{HoldsValues, slot_texts};
 
 use crate::fault::MarkerFault;
 use crate::slots::{Slots, free_variable, missing};
-use std::alloc::{AllocError, Global};
+use crate::value::Value;
+use std::alloc::Global;
 use std::fmt;
 use std::marker::Model;
 
@@ -104,20 +105,20 @@ impl fmt::Display for Variable {
 /// `extra` is given one, and `extra` is the empty text where none is given.
 #[derive(Debug, Drop)]
 pub struct Environment {
-    // The text of each variable at its place.
-    texts: Vec<String>,
+    // The value of each variable at its place.
+    values: Vec<Value>,
 }
 
 impl Model for Environment {
-    ghost use Rattle.std.specs.Prelude.{◌≡◌, length, map, string_bytes};
+    ghost use Rattle.std.specs.Prelude.{◌≡◌, length};
     ghost use Rattle.pep_marker.specs.Environment.{EnvironmentParts, IsEnvironment};
 
     ghost Value = { EnvironmentParts };
 
-    ghost view = { λ e. record { texts = map string_bytes e.texts.items } };
+    ghost view = { λ e. record { texts = e.values.items } };
 
-    ghost invariant = { λ e. (length e.texts.items ≡ 12)
-        × IsEnvironment (record { texts = map string_bytes e.texts.items }) };
+    ghost invariant = { λ e. (length e.values.items ≡ 12)
+        × IsEnvironment (record { texts = e.values.items }) };
 }
 
 impl Environment {
@@ -142,33 +143,33 @@ impl Environment {
         if let Some(variable) = missing(&slots) {
             return Err(MarkerFault::MissingVariable(variable));
         }
-        let environment = Environment::of_slots(alloc, &slots)?;
-        Ok(environment)
+        Environment::of_slots(alloc, &slots)
     }
 
     // The environment of the texts in the slots.
-    fn of_slots(alloc: Global, slots: &Slots<'_>) -> Result<Environment, AllocError>
+    fn of_slots(alloc: Global, slots: &Slots<'_>) -> Result<Environment, MarkerFault>
         requires { HoldsValues slots.now }
-        ensures { IfOk result (λ e. e.texts ≡ slot_texts slots.now) }
+        ensures texts { IfOk result (λ e. e.texts ≡ slot_texts slots.now) }
+        ensures faults { IfErr result (λ e. e ≡ MarkerFault.NoMemory) }
     {
-        let mut texts = Vec::with_capacity(alloc, slots.len())?;
+        let mut values = Vec::with_capacity(alloc, slots.len())?;
         for slot in slots {
-            texts.push(String::from_str(alloc, slot.unwrap_or(""))?)?;
+            values.push(Value::of(alloc, slot.unwrap_or(""))?)?;
         }
-        Ok(Environment { texts })
+        Ok(Environment { values })
     }
 
     /// The text of the variable of this name; nothing where no variable has the name.
     pub fn value(&self, variable: &str) -> Option<&str>
         ensures { option_map (λ t. t.now) result ≡ value_at self.now variable.now }
     {
-        Some(self.text(Variable::of_name(variable.as_bytes())?))
+        Some(self.known(Variable::of_name(variable.as_bytes())?).text())
     }
 
-    // The text of a variable.
-    pub(crate) fn text(&self, variable: Variable) -> &str
+    // What is known of the text of a variable.
+    pub(crate) fn known(&self, variable: Variable) -> &Value
         ensures { result.now ≡ value_of self.now variable }
     {
-        self.texts[variable.place()].as_str()
+        &self.values[variable.place()]
     }
 }

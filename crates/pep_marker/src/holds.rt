@@ -1,7 +1,6 @@
 // Whether a marker is true in an environment (PEP 508, "Environment Markers").
 
 ghost use Rattle.std.specs.Prelude.{◌≡◌, ◌⊎◌, ◌&&◌, ◌||◌, IfErr, IfOk, MatchOption, Ok, Some};
-ghost use Rattle.pep_version.specs.Spelling.{Spells};
 ghost use Rattle.pep_version.specs.Version as version;
 ghost use Rattle.specifiers.specs.Admits.{admits};
 ghost use Rattle.specifiers.specs.Clause as clause;
@@ -14,19 +13,18 @@ ghost use Rattle.pep_marker.specs.Holds.{
   both,
   is_extra,
   is_part,
-  operand_value,
   plain_truth,
   text_truth,
 };
 ghost use Rattle.pep_marker.specs.Marker as syntax;
 ghost use Rattle.pep_marker.specs.Name.{normalized};
+ghost use Rattle.pep_marker.specs.ComparedView.{compared_bytes};
 ghost use Rattle.pep_marker.specs.View.{marker_parts, operand_parts, operator_parts, tree_parts};
 
+use crate::compared_text::ComparedText;
 use crate::environment::{Environment, Variable};
 use crate::fault::MarkerFault;
 use crate::marker::{Marker, Operand, Operator, Tree};
-use crate::normal::Normal;
-use pep_version::{Version, VersionFault};
 use specifiers::{Clause, ClauseFault, Op};
 use std::alloc::Global;
 
@@ -96,16 +94,6 @@ fn or_truth(left: Truth, right: Truth) -> Truth
     }
 }
 
-// The text of one side.
-fn operand_text<'a>(environment: &'a Environment, operand: &'a Operand) -> &'a str
-    ensures { result.now ≡ operand_value environment.now (operand_parts operand.now) }
-{
-    match operand {
-        Operand::Variable(variable) => environment.text(*variable),
-        Operand::Text(text) => text.as_str(),
-    }
-}
-
 fn is_extra(operand: &Operand) -> bool
     ensures { result ≡ is_extra (operand_parts operand.now) }
 {
@@ -123,27 +111,27 @@ fn comparison_truth(
         (operand_parts left.now) (operator_parts operator) (operand_parts right.now)) t) }
     ensures faults { IfErr result (λ e. e ≡ MarkerFault.NoMemory) }
 {
-    let left_text = operand_text(environment, left);
-    let right_text = operand_text(environment, right);
+    let left_text = ComparedText::of(environment, left);
+    let right_text = ComparedText::of(environment, right);
     if is_extra(left) || is_extra(right) {
         return normal_truth(alloc, operator, left_text, right_text);
     }
-    compared(alloc, operator, left_text, right_text)
+    compared(alloc, operator, left_text, right_text.text())
 }
 
 // What the operator says of the normal forms of two texts.
 fn normal_truth(
     alloc: Global,
     operator: Operator,
-    left: &str,
-    right: &str,
+    left: ComparedText<'_>,
+    right: ComparedText<'_>,
 ) -> Result<Truth, MarkerFault>
-    ensures value { IfOk result (λ t. t
-        ≡ plain_truth (operator_parts operator) (normalized left.now) (normalized right.now)) }
+    ensures value { IfOk result (λ t. t ≡ plain_truth (operator_parts operator)
+        (normalized (compared_bytes left.entry)) (normalized (compared_bytes right.entry))) }
     ensures faults { IfErr result (λ e. e ≡ MarkerFault.NoMemory) }
 {
-    let left = Normal::of(alloc, left)?;
-    let right = Normal::of(alloc, right)?;
+    let left = left.normal(alloc)?;
+    let right = right.normal(alloc)?;
     Ok(plain_truth(operator, left.as_str(), right.as_str()))
 }
 
@@ -151,18 +139,19 @@ fn normal_truth(
 fn compared(
     alloc: Global,
     operator: Operator,
-    left: &str,
+    left: ComparedText<'_>,
     right: &str,
 ) -> Result<Truth, MarkerFault>
-    ensures value { IfOk result (λ t. Compares (operator_parts operator) left.now right.now t) }
+    ensures value { IfOk result (λ t.
+        Compares (operator_parts operator) (compared_bytes left.entry) right.now t) }
     ensures faults { IfErr result (λ e. e ≡ MarkerFault.NoMemory) }
 {
     let Operator::Version(op) = operator else {
-        return Ok(plain_truth(operator, left, right));
+        return Ok(plain_truth(operator, left.text(), right));
     };
     match version_truth(alloc, op, left, right)? {
         Some(truth) => Ok(Some(truth)),
-        None => Ok(text_truth(op, left, right)),
+        None => Ok(text_truth(op, left.text(), right)),
     }
 }
 
@@ -170,45 +159,22 @@ fn compared(
 fn version_truth(
     alloc: Global,
     op: Op,
-    left: &str,
+    left: ComparedText<'_>,
     right: &str,
 ) -> Result<Option<bool>, MarkerFault>
     ensures value { IfOk result (λ t. MatchOption t
-        ((c : clause.Clause) (v : version.Version) → ¬ ComparesVersions op left.now right.now c v)
+        ((c : clause.Clause) (v : version.Version) →
+        ¬ ComparesVersions op (compared_bytes left.entry) right.now c v)
         (λ b. (c : clause.Clause) × (v : version.Version)
-        × ComparesVersions op left.now right.now c v × (b ≡ admits c v))) }
+        × ComparesVersions op (compared_bytes left.entry) right.now c v × (b ≡ admits c v))) }
     ensures faults { IfErr result (λ e. e ≡ MarkerFault.NoMemory) }
 {
     if op == Op::Exact {
         return Ok(None);
     }
     match clause_of(alloc, op, right)? {
-        Some(clause) => clause_truth(alloc, &clause, left),
+        Some(clause) => left.admitted_by(alloc, &clause),
         None => Ok(None),
-    }
-}
-
-// What the clause says of the text; nothing where it is no version.
-fn clause_truth(alloc: Global, clause: &Clause, text: &str) -> Result<Option<bool>, MarkerFault>
-    ensures value { IfOk result (λ t. MatchOption t
-        ((v : version.Version) → ¬ Spells text.now v)
-        (λ b. (v : version.Version) × Spells text.now v × (b ≡ admits clause.now v))) }
-    ensures faults { IfErr result (λ e. e ≡ MarkerFault.NoMemory) }
-{
-    match version_of(alloc, text)? {
-        Some(version) => Ok(Some(admitted(alloc, clause, &version)?)),
-        None => Ok(None),
-    }
-}
-
-// Whether the clause admits the version.
-fn admitted(alloc: Global, clause: &Clause, version: &Version) -> Result<bool, MarkerFault>
-    ensures value { IfOk result (λ b. b ≡ admits clause.now version.now) }
-    ensures faults { IfErr result (λ e. e ≡ MarkerFault.NoMemory) }
-{
-    match clause.admits(alloc, version) {
-        Ok(truth) => Ok(truth),
-        Err(_) => Err(MarkerFault::NoMemory),
     }
 }
 
@@ -222,21 +188,6 @@ fn clause_of(alloc: Global, op: Op, text: &str) -> Result<Option<Clause>, Marker
         Ok(clause) => Ok(Some(clause)),
         Err(fault) => match fault {
             ClauseFault::NoMemory => Err(MarkerFault::NoMemory),
-            _ => Ok(None),
-        },
-    }
-}
-
-// The version that the text spells, if it spells one.
-fn version_of(alloc: Global, text: &str) -> Result<Option<Version>, MarkerFault>
-    ensures value { IfOk result (λ found. MatchOption found
-        ((v : version.Version) → ¬ Spells text.now v) (λ v. Spells text.now v)) }
-    ensures faults { IfErr result (λ e. e ≡ MarkerFault.NoMemory) }
-{
-    match Version::read(alloc, text) {
-        Ok(version) => Ok(Some(version)),
-        Err(fault) => match fault {
-            VersionFault::NoMemory => Err(MarkerFault::NoMemory),
             _ => Ok(None),
         },
     }

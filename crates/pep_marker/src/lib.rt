@@ -2,6 +2,7 @@
 #![tactic(auto)]
 
 mod chains;
+mod compared_text;
 mod environment;
 mod fault;
 mod holds;
@@ -11,6 +12,7 @@ mod name;
 mod normal;
 mod slots;
 mod token;
+mod value;
 
 pub use crate::environment::{Environment, Variable};
 pub use crate::fault::MarkerFault;

@@ -1,6 +1,7 @@
 use Rattle.std.proofs.Common.{rules, ◌≡◌, ◌∙◌, ◌+◌, ◌<◌, arith, sym, None, Some, inl, ap, subst}
 use Rattle.std.proofs.Common.{length, get_or, refl, take, List, ℕ}
 use Rattle.std.proofs.lemmas.List.{take_all}
+use Rattle.std.proofs.lemmas.Result.{IfOk-weaker}
 use Rattle.std.specs.Option.{option_map, option_or}
 use Rattle.pep_marker.specs.declared.fault.MarkerFault.TheVariants.{MissingVariable}
 use Rattle.pep_marker.specs.Environment.{EnvironmentParts, pairs_fault}
@@ -70,10 +71,10 @@ returns-clause-accepted c =
     let all = subst (λ done. HoldsPairs c.loop-name.slots (pair_texts done))
     (take_all i pairs c.loop-name-test.false) c.loop-name.invariant.holds in
     let none : c.missing.result ≡ None = search rules in
-    sym c.loop-name.invariant.faults
+    IfOk-weaker c.of_slots.result _ _ (λ e h. sym c.loop-name.invariant.faults
     ∙ fault_from-end pairs i c.loop-name-test.false
     ∙ sym (missing_fault-slots c.loop-name.slots (pair_texts pairs) all)
-    ∙ ap (option_map MissingVariable) (sym c.missing.ensures ∙ none)
+    ∙ ap (option_map MissingVariable) (sym c.missing.ensures ∙ none)) c.of_slots.ensures.texts
 
 pub returns-clause-value : goal.returns-clause-value
 returns-clause-value c =
@@ -81,5 +82,6 @@ returns-clause-value c =
     let all = subst (λ done. HoldsPairs c.loop-name.slots (pair_texts done))
     (take_all c.loop-name.name-index pairs c.loop-name-test.false) c.loop-name.invariant.holds in
     let of : List (List ℕ) → EnvironmentParts = λ texts. record { texts = texts } in
-    ap of (c.in_ok-environment.ensures
-    ∙ environment_of-slots c.loop-name.slots (pair_texts pairs) c.loop-name.invariant.twelve all)
+    IfOk-weaker c.of_slots.result _ _ (λ e h. ap of (h
+    ∙ environment_of-slots c.loop-name.slots (pair_texts pairs) c.loop-name.invariant.twelve all))
+    c.of_slots.ensures.texts

@@ -1,8 +1,7 @@
-use Rattle.std.proofs.Common.{◌≡◌, take, map}
-use Rattle.std.specs.Prelude.{string_bytes}
+use Rattle.std.proofs.Common.{◌≡◌, take}
 use Rattle.pep_marker.specs.Slots.{slot_texts}
 use Rattle.pep_marker.proofs.environment.Environment.of_slots.Given as goal
 
 -- the texts of the slots so far
 abbrev pub invariant-loop-slot : goal.invariant-loop-slot
-invariant-loop-slot l = map string_bytes l.texts.items ≡ slot_texts (take l.slot-index l.slots)
+invariant-loop-slot l = l.values.items ≡ slot_texts (take l.slot-index l.slots)

@@ -1,5 +1,5 @@
 use Rattle.pep_marker.proofs.MarkerTruth.{no_version}
-use Rattle.pep_marker.proofs.holds.version_of.Goals as goal
+use Rattle.pep_marker.proofs.value.version_of.Goals as goal
 
 pub returns-in_default : goal.returns-in_default
 returns-in_default c = record {

@@ -1,0 +1,100 @@
+//! The texts of a comparison.
+
+ghost use Rattle.std.specs.Prelude.{◌≡◌, IfErr, IfOk, MatchOption};
+ghost use Rattle.std.specs.Option.{option_map};
+ghost use Rattle.pep_version.specs.Spelling.{Spells};
+ghost use Rattle.pep_version.specs.Version as version;
+ghost use Rattle.specifiers.specs.Admits.{admits};
+ghost use Rattle.pep_marker.specs.Holds.{operand_value};
+ghost use Rattle.pep_marker.specs.Name.{normalized};
+ghost use Rattle.pep_marker.specs.NormalView.{normal_bytes};
+ghost use Rattle.pep_marker.specs.ComparedView.{compared_bytes};
+ghost use Rattle.pep_marker.specs.View.{operand_parts};
+
+use crate::environment::Environment;
+use crate::fault::MarkerFault;
+use crate::marker::Operand;
+use crate::normal::Normal;
+use crate::value::{Value, version_of};
+use pep_version::Version;
+use specifiers::Clause;
+use std::alloc::Global;
+
+/// A text of the marker, or the value of a variable, of which more is known.
+#[derive(Clone, Copy)]
+pub(crate) enum ComparedText<'a> {
+    Written(&'a str),
+    Known(&'a Value),
+}
+
+impl<'a> ComparedText<'a> {
+    /// The text of an operand in an environment.
+    pub(crate) fn of(environment: &'a Environment, operand: &'a Operand) -> ComparedText<'a>
+        ensures { compared_bytes result ≡ operand_value environment.now (operand_parts operand.now) }
+    {
+        match operand {
+            Operand::Variable(variable) => ComparedText::Known(environment.known(*variable)),
+            Operand::Text(text) => ComparedText::Written(text.as_str()),
+        }
+    }
+
+    pub(crate) fn text(self) -> &'a str
+        ensures { result.now ≡ compared_bytes self.entry }
+    {
+        match self {
+            ComparedText::Written(text) => text,
+            ComparedText::Known(value) => value.text(),
+        }
+    }
+
+    /// The normal form of the text, by the rule of names. The only fault is want of memory, 29.
+    pub(crate) fn normal(self, alloc: Global) -> Result<Normal<'a>, MarkerFault>
+        ensures value { IfOk result (λ n. normal_bytes n ≡ normalized (compared_bytes self.entry)) }
+        ensures faults { IfErr result (λ e. e ≡ MarkerFault.NoMemory) }
+    {
+        match self {
+            ComparedText::Written(text) => Normal::of(alloc, text),
+            ComparedText::Known(value) => Ok(Normal::Same(value.normal())),
+        }
+    }
+
+    /// What the clause says of the text; nothing where it is no version. The only fault is want of
+    /// memory, 29.
+    pub(crate) fn admitted_by(
+        self,
+        alloc: Global,
+        clause: &Clause,
+    ) -> Result<Option<bool>, MarkerFault>
+        ensures value { IfOk result (λ t. MatchOption t
+            ((v : version.Version) → ¬ Spells (compared_bytes self.entry) v)
+            (λ b. (v : version.Version) × Spells (compared_bytes self.entry) v
+            × (b ≡ admits clause.now v))) }
+        ensures faults { IfErr result (λ e. e ≡ MarkerFault.NoMemory) }
+    {
+        match self {
+            ComparedText::Written(text) => {
+                let version = version_of(alloc, text)?;
+                admitted(alloc, clause, version.as_ref())
+            }
+            ComparedText::Known(value) => admitted(alloc, clause, value.version()),
+        }
+    }
+}
+
+// Whether the clause admits the version, if there is one.
+fn admitted(
+    alloc: Global,
+    clause: &Clause,
+    version: Option<&Version>,
+) -> Result<Option<bool>, MarkerFault>
+    ensures value { IfOk result (λ t. t ≡ option_map (λ v. admits clause.now v.now) version.entry) }
+    ensures faults { IfErr result (λ e. e ≡ MarkerFault.NoMemory) }
+{
+    let Some(version) = version else {
+        return Ok(None);
+    };
+    match clause.admits(alloc, version) {
+        Ok(truth) => Ok(Some(truth)),
+        Err(_) => Err(MarkerFault::NoMemory),
+    }
+}

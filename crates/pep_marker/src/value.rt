@@ -1,0 +1,85 @@
+//! What the text of a variable is, found out once for all comparisons.
+
+ghost use Rattle.std.specs.Prelude.{◌≡◌, IfErr, IfOk, MatchOption};
+ghost use Rattle.pep_version.specs.Spelling.{Spells};
+ghost use Rattle.pep_version.specs.Version as version;
+ghost use Rattle.pep_marker.specs.Name.{normalized};
+
+use crate::fault::MarkerFault;
+use crate::name::norm_of;
+use pep_version::{Version, VersionFault};
+use std::alloc::Global;
+use std::marker::Model;
+
+/// The text of a variable, with its normal form and the version that it spells.
+#[derive(Debug, Drop)]
+pub(crate) struct Value {
+    text: String,
+    normal: String,
+    version: Option<Version>,
+}
+
+impl Model for Value {
+    ghost use Rattle.std.specs.Prelude.{◌≡◌, List, ℕ, string_bytes};
+    ghost use Rattle.pep_marker.specs.Name.{normalized};
+    ghost use Rattle.pep_marker.specs.Value.{IsVersionOf};
+
+    ghost Value = { List ℕ };
+
+    ghost view = { λ v. string_bytes v.text };
+
+    ghost invariant = { λ v. (string_bytes v.normal ≡ normalized (string_bytes v.text))
+        × IsVersionOf (string_bytes v.text) v.version };
+}
+
+impl Value {
+    /// The value with this text. The only fault is want of memory, 29.
+    pub(crate) fn of(alloc: Global, text: &str) -> Result<Value, MarkerFault>
+        ensures value { IfOk result (λ v. v ≡ text.now) }
+        ensures faults { IfErr result (λ e. e ≡ MarkerFault.NoMemory) }
+    {
+        let normal = norm_of(alloc, text)?;
+        let version = version_of(alloc, text)?;
+        Ok(Value {
+            text: String::from_str(alloc, text)?,
+            normal,
+            version,
+        })
+    }
+
+    pub(crate) fn text(&self) -> &str
+        ensures { result.now ≡ self.now }
+    {
+        self.text.as_str()
+    }
+
+    /// The normal form of the text, by the rule of names.
+    pub(crate) fn normal(&self) -> &str
+        ensures { result.now ≡ normalized self.now }
+    {
+        self.normal.as_str()
+    }
+
+    /// The version that the text spells, if it spells one.
+    pub(crate) fn version(&self) -> Option<&Version>
+        ensures { MatchOption result ((v : version.Version) → ¬ Spells self.now v)
+            (λ found. Spells self.now found.now) }
+    {
+        self.version.as_ref()
+    }
+}
+
+/// The version that the text spells, if it spells one. The only fault is want of memory, 29.
+pub(crate) fn version_of(alloc: Global, text: &str) -> Result<Option<Version>, MarkerFault>
+    ensures value { IfOk result (λ found. MatchOption found
+        ((v : version.Version) → ¬ Spells text.now v) (λ v. Spells text.now v)) }
+    ensures faults { IfErr result (λ e. e ≡ MarkerFault.NoMemory) }
+{
+    match Version::read(alloc, text) {
+        Ok(version) => Ok(Some(version)),
+        Err(fault) => match fault {
+            VersionFault::NoMemory => Err(MarkerFault::NoMemory),
+            _ => Ok(None),
+        },
+    }
+}
