@@ -19,7 +19,8 @@ impl Numbers {
 
     /// One of the texts, or an empty one where there are none.
     pub fn one_of<'a>(&mut self, texts: &[&'a str]) -> &'a str {
-        let index = self.below(texts.len() as u32) as usize;
+        let limit = u32::try_from(texts.len()).unwrap_or(u32::MAX);
+        let index = self.below(limit) as usize;
         texts.get(index).copied().unwrap_or("")
     }
 }
