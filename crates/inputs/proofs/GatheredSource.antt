@@ -1,7 +1,7 @@
 -- What a list demands that was read, and why it is refused.
 use Rattle.std.proofs.Common.{◌≡◌, ◌≢◌, ◌≤◌, ℕ, ◌⊎◌, Bool, true, false, List, [], ◌∷◌, ◌++◌, length, ap}
 use Rattle.std.proofs.Common.{subst, sym, refl, ◌∙◌, inl, inr, Option}
-use Rattle.std.specs.Prelude.{IsUtf8}
+use Rattle.std.specs.Prelude.{All, IsUtf8}
 use Rattle.std.specs.List.{AllByRecursion}
 use Rattle.std.proofs.lemmas.List.Elements.{All-from_recursion}
 use Rattle.devices.specs.Device.{Device}
@@ -9,14 +9,18 @@ use Rattle.texts.specs.Limits.{line_limit}
 use Rattle.pep_marker.specs.Environment.{EnvironmentParts}
 use Rattle.pep_table.proofs.SameDemands.{same_demands}
 use Rattle.pep_table.proofs.Taking.{applying_is_table, no_demands}
-use Rattle.demands.specs.Demand.{ApplyingDemands, Demand, Together}
+use Rattle.demands.specs.Demand.{ApplyingDemands, Demand, HaveSameDemands, Together}
 use Rattle.demands.specs.Table.{HasExactPoints, IsTable, TableParts}
 use Rattle.faults.specs.declared.fault.Cause.{Cause}
 use Rattle.faults.specs.declared.fault.Cause.TheVariants as cause
 use Rattle.faults.specs.declared.fault.Fault.{Fault}
 use Rattle.faults.specs.declared.fault.Place.TheVariants as place
 use Rattle.inputs.specs.declared.input.Kind.TheVariants as kind
-use Rattle.inputs.specs.Gathered.{BytesDemand}
+use Rattle.inputs.specs.declared.input.Input.{Input}
+use Rattle.inputs.specs.Gathered.{AcceptsBytes, BytesDemand, Gathered, IsAccepted}
+use Rattle.inputs.specs.Merge.{IsMerge}
+use Rattle.pep_table.specs.TableText.{IsTableText}
+use Rattle.inputs.proofs.MergeLemmas.{shows_verdicts}
 use Rattle.inputs.specs.GatheredLines.{GathersBytes, RefusesAsInput}
 use Rattle.inputs.specs.LineReading.{HasTaken, RefusesSource, TakesInTurn, TakesSource}
 use Rattle.inputs.specs.LineReading as reading
@@ -70,6 +74,44 @@ reads_table e left after start t none h = record {
   of_list = table_of_list e h.bytes t (subst (λ old. GathersBytes e kind.List h.bytes old t) none
       (list_gathered e h.bytes start t h.taken));
 }
+
+-- ---- an input of the same bytes
+
+-- it demands the same
+one_input : (e : EnvironmentParts) (i : Input) → i.kind ≡ kind.List →
+    HaveSameDemands (BytesDemand e kind.List i.bytes.items) (Gathered e (i ∷ []))
+one_input e i is name d =
+    (λ h. inl (subst (λ k. BytesDemand e k i.bytes.items name d) (sym is) h), back)
+  where
+    back : Gathered e (i ∷ []) name d → BytesDemand e kind.List i.bytes.items name d
+    back (inl h) = subst (λ k. BytesDemand e k i.bytes.items name d) is h
+    back (inr never) = absurd never
+
+pub accepted_input : (e : EnvironmentParts) (i : Input) (t : TableParts) → i.kind ≡ kind.List →
+    IsTableOfList e i.bytes.items t → All (IsAccepted e) (i ∷ [])
+accepted_input e i t is h =
+    All-from_recursion (IsAccepted e) (i ∷ [])
+    (subst (λ k. AcceptsBytes e k i.bytes.items) (sym is) h.accepted, tt)
+
+pub table_of_input : (e : EnvironmentParts) (i : Input) (t : TableParts) → i.kind ≡ kind.List →
+    IsTableOfList e i.bytes.items t →
+    IsTable (Gathered e (i ∷ [])) t × HasExactPoints (Gathered e (i ∷ [])) t
+table_of_input e i t is h =
+    same_demands (BytesDemand e kind.List i.bytes.items) (Gathered e (i ∷ [])) t
+    (one_input e i is) h.is_table h.points
+
+pub merged_input : (e : EnvironmentParts) (i : Input) (t : TableParts) (x : List ℕ) →
+    i.kind ≡ kind.List → IsTableOfList e i.bytes.items t → IsTableText t x → IsMerge e (i ∷ []) x
+merged_input e i t x is h text =
+    let one = table_of_input e i t is h in
+    record {
+      accepted = accepted_input e i t is h;
+      table = t;
+      is_table = one.0;
+      points = one.1;
+      text = text;
+      verdicts = shows_verdicts (Gathered e (i ∷ [])) t one.0;
+    }
 
 -- ---- refusals
 

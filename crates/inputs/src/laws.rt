@@ -1,10 +1,11 @@
 //! Laws of the definitions.
 
-ghost use Rattle.std.specs.Prelude.{◌≡◌, ◌∷◌, ◌++◌, ℕ, All, List};
+ghost use Rattle.std.specs.Prelude.{◌≡◌, ◌∷◌, ◌++◌, [], ℕ, All, List};
 ghost use Rattle.pep_marker.specs.Environment.{EnvironmentParts};
 ghost use Rattle.pep_require.specs.Requirement.{RequirementParts};
 ghost use Rattle.demands.specs.Demand.{HaveSameDemands};
 ghost use Rattle.demands.specs.Table.{HasExactPoints, IsTable, TableParts};
+ghost use Rattle.pep_table.specs.TableText.{IsTableText};
 ghost use Rattle.faults.specs.declared.fault.Cause.{Cause};
 ghost use Rattle.inputs.specs.declared.input.Input.{Input};
 ghost use Rattle.inputs.specs.declared.input.Kind.TheVariants as Kind;
@@ -17,6 +18,7 @@ ghost use Rattle.inputs.specs.Gathered.{
 ghost use Rattle.inputs.specs.Lists.{IsProjectOf, IsRequirementList};
 ghost use Rattle.inputs.specs.Merge.{IsMerge};
 ghost use Rattle.inputs.specs.Refusal.{IsOverflow, IsRefused, IsRefusedList, IsRefusedProject};
+ghost use Rattle.inputs.specs.Streams.{IsTableOfList};
 
 /// Inputs that demand the same have one text, whatever the order, the grouping and the repeats of
 /// their lines.
@@ -62,6 +64,20 @@ pub fn printed_in_place()
     ensures { (e : EnvironmentParts) (a b : List Input) (i : Input) (x y z : List ℕ)
         → IsMerge e a x → i.kind ≡ Kind.Table → i.bytes.items ≡ x → IsMerge e (i ∷ b) y
         → IsMerge e (a ++ b) z → y ≡ z }
+{}
+
+/// The table of a list that was read is that of an input with the same bytes, and its text is the
+/// merge of this input: so what is said of inputs, and of their merges, is said of lists that are
+/// read.
+pub fn read_is_merged()
+    ensures accepted { (e : EnvironmentParts) (i : Input) (t : TableParts) → i.kind ≡ Kind.List
+        → IsTableOfList e i.bytes.items t → All (IsAccepted e) (i ∷ []) }
+    ensures table { (e : EnvironmentParts) (i : Input) (t : TableParts) → i.kind ≡ Kind.List
+        → IsTableOfList e i.bytes.items t → IsTable (Gathered e (i ∷ [])) t
+        × HasExactPoints (Gathered e (i ∷ [])) t }
+    ensures text { (e : EnvironmentParts) (i : Input) (t : TableParts) (x : List ℕ)
+        → i.kind ≡ Kind.List → IsTableOfList e i.bytes.items t → IsTableText t x
+        → IsMerge e (i ∷ []) x }
 {}
 
 /// Bytes are one list of requirements at most.

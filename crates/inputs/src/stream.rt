@@ -76,8 +76,8 @@ fn take_source<T: Taker, S: Source>(
 /// bytes come. At most 16,777,217 bytes are read, by at most as many calls.
 ///
 /// A fault is that of input 1, the first in the order of the bytes: those of a list, see `gather`,
-/// or 58 where a read failed and no line before it is at fault. Behind a fault nothing is read.
-/// Want of memory is 60, without a place.
+/// or 58 where a read failed and no line before it is at fault. Behind a fault the reader isn't
+/// called again. Want of memory is 60, without a place.
 pub fn gather_reader<S: Source>(
     alloc: Global,
     source: &mut S,

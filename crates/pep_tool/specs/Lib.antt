@@ -16,3 +16,4 @@ pub use Rattle.inputs.specs.TableFiles
 pub use Rattle.inputs.specs.Gathered
 pub use Rattle.inputs.specs.Refusal
 pub use Rattle.inputs.specs.Merge
+pub use Rattle.inputs.specs.Streams

@@ -24,6 +24,7 @@ fn laws_of_merging() {
     laws::same_lines();
     laws::one_text_of_lines();
     laws::printed_in_place();
+    laws::read_is_merged();
     laws::one_list();
     laws::refused_list_is_not_read();
     laws::one_project();

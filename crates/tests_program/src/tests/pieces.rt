@@ -8,16 +8,11 @@ use pep_tool::{Fault, list_of, merge_reader};
 use std::alloc::Global;
 use std::process::Abort;
 use std::test::Fail;
-use tests_kit::{Numbers, expect, expect_line, expect_row};
+use tests_kit::{Numbers, expect, expect_line, expect_row, push_numbered, repeated};
 
 // The text of the table of a list on the machine that comes in pieces, and whose read with this number
 // fails.
-fn table_text(
-    alloc: Global,
-    list: &str,
-    piece: usize,
-    fails_at: u64,
-) -> Result<String, Fault> {
+fn table_text(alloc: Global, list: &str, piece: usize, fails_at: u64) -> Result<String, Fault> {
     let mut reader = Reader::in_pieces(list.as_bytes(), piece, fails_at);
     let table = merge_reader(alloc, &mut reader, &machine(alloc)?)?;
     match table.text(alloc) {
@@ -27,12 +22,7 @@ fn table_text(
 }
 
 // The same, or the line of the fault.
-fn table_line(
-    alloc: Global,
-    list: &str,
-    piece: usize,
-    fails_at: u64,
-) -> Result<String, Fault> {
+fn table_line(alloc: Global, list: &str, piece: usize, fails_at: u64) -> Result<String, Fault> {
     text_or_fault(alloc, table_text(alloc, list, piece, fails_at))
 }
 
@@ -83,6 +73,37 @@ fn failures_behind_each_byte(rt: HostRuntime) -> Result<(), Fail> {
     Ok(())
 }
 
+// ---- long lists in pieces
+
+#[test]
+fn a_line_of_many_pieces(rt: HostRuntime) -> Result<(), Fail> {
+    let list = repeated(rt.alloc(), "a>=1", ".0", 32_766, "")?;
+    let line = table_line(rt.alloc(), list.as_str(), 7, NEVER)?;
+    expect_line(&rt, line.as_str(), "a open\n  range before 1 to end\n");
+    Ok(())
+}
+
+// Whether the table of a list that comes in pieces is that of its requirements.
+fn is_table_of_all(alloc: Global, list: &str, piece: usize) -> Result<bool, Fault> {
+    let machine = machine(alloc)?;
+    let mut reader = Reader::in_pieces(list.as_bytes(), piece, NEVER);
+    let read = merge_reader(alloc, &mut reader, &machine)?;
+    let requirements = list_of(alloc, list.as_bytes())?;
+    match Table::of(alloc, requirements.as_slice(), &machine) {
+        Ok(table) => Ok(read == table),
+        Err(_) => Err(Fault::no_memory()),
+    }
+}
+
+#[test]
+fn many_lines_in_pieces(rt: HostRuntime) -> Result<(), Fail> {
+    let mut list = String::new(rt.alloc());
+    push_numbered(rt.alloc(), &mut list, "p", 1000..3000, ">=1.0,!=1.2.*\n")?;
+    let same = is_table_of_all(rt.alloc(), list.as_str(), 7)?;
+    expect(&rt, "2,000 names", same);
+    Ok(())
+}
+
 // ---- lists of a seed, merged in two ways
 
 const NAMES: [&str; 5] = ["a", "A.b", "a-B", "c", "\t d"];
@@ -103,12 +124,7 @@ const DEMANDS: [&str; 10] = [
 const ENDS: [&str; 5] = ["\n", "\r\n", " \n", "\n\n# a\n", "\r\n\t\r\n"];
 
 // The table of a line on the machine joined with another.
-fn joined(
-    alloc: Global,
-    table: &Table,
-    line: &str,
-    machine: &Environment,
-) -> Result<Table, Fault> {
+fn joined(alloc: Global, table: &Table, line: &str, machine: &Environment) -> Result<Table, Fault> {
     let requirements = list_of(alloc, line.as_bytes())?;
     let own = Table::of(alloc, requirements.as_slice(), machine);
     match own.and_then(|own| table.joined(alloc, &own)) {
@@ -136,10 +152,7 @@ fn any_list(
 }
 
 // Asserts that a list of the numbers has one table, in pieces and line by line.
-fn expect_one_table(
-    rt: &(impl Abort + AllocGlobal),
-    numbers: &mut Numbers,
-) -> Result<(), Fault> {
+fn expect_one_table(rt: &(impl Abort + AllocGlobal), numbers: &mut Numbers) -> Result<(), Fault> {
     let machine = machine(rt.alloc())?;
     let (list, table) = any_list(rt.alloc(), numbers, &machine)?;
     let piece = 1 + numbers.below(9) as usize;

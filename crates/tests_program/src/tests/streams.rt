@@ -93,6 +93,12 @@ impl Source for Reader<'_> {
 // A reader of comments that never ends, and counts the bytes that it gave.
 #[derive(Drop)]
 struct Endless {
+    // How many bytes a call gives at most.
+    piece: usize,
+    // Each call gives a line feed at every so many bytes, and none where this is 0.
+    line: usize,
+    // The call with this number begins with a line at fault.
+    faulty: u64,
     given: u64,
     calls: u64,
 }
@@ -100,10 +106,34 @@ struct Endless {
 impl Endless {
     ghost use Rattle.std.specs.Prelude.{◌≡◌};
 
-    fn new() -> Self
+    fn new(piece: usize, line: usize, faulty: u64) -> Self
         ensures { result.calls ≡ 0 }
     {
-        Endless { given: 0, calls: 0 }
+        Endless {
+            piece,
+            line,
+            faulty,
+            given: 0,
+            calls: 0,
+        }
+    }
+}
+
+// Fills the bytes with comments and line feeds.
+fn fill(bytes: &mut [u8], line: usize) {
+    for (place, byte) in bytes.iter_mut().enumerate() {
+        *byte = if place.checked_rem(line) == Some(0) {
+            b'\n'
+        } else {
+            b'#'
+        };
+    }
+}
+
+// Writes over the front of the bytes.
+fn put(bytes: &mut [u8], front: &[u8]) {
+    for (byte, own) in bytes.iter_mut().zip(front) {
+        *byte = *own;
     }
 }
 
@@ -114,11 +144,14 @@ impl Source for Endless {
 
     fn pull(&mut self, buf: &mut [u8]) -> Result<usize, Failed> {
         self.calls += 1;
-        for (place, byte) in buf.iter_mut().enumerate() {
-            *byte = if place % 1024 == 0 { b'\n' } else { b'#' };
+        let room = buf.len().min(self.piece);
+        let piece = &mut buf[..room];
+        fill(piece, self.line);
+        if self.calls == self.faulty {
+            put(piece, b"\na>=\n");
         }
-        self.given = self.given.saturating_add(buf.len() as u64);
-        Ok(buf.len())
+        self.given = self.given.saturating_add(room as u64);
+        Ok(room)
     }
 
     fn calls(&self) -> u64 {
@@ -274,6 +307,24 @@ fn reads_that_fail(rt: HostRuntime) -> Result<(), Fail> {
     Ok(())
 }
 
+// A list of 106 bytes, which comes in 16 pieces.
+const LONG_LIST: &[u8] = b"flask>=2.0\nFlask<3\ntomli ; python_version < '3.11'\npytest~=7.1\n\
+    # a line that is no requirement, and long\n\n";
+
+// A run over the long list whose read with this number fails.
+fn cut_line(rt: &HostRuntime, fails_at: u64) -> Result<String, AllocError> {
+    run_line(rt, &[], LONG_LIST, [fails_at, NEVER, NEVER])
+}
+
+#[test]
+fn each_read_that_fails(rt: HostRuntime) -> Result<(), Fail> {
+    for fails_at in 1..=17u64 {
+        let want = format!(in rt.alloc(); "2 {fails_at}! 0 [] [refused input 1 code 58\n]")?;
+        expect_line(&rt, cut_line(&rt, fails_at)?.as_str(), want.as_str());
+    }
+    Ok(())
+}
+
 // The number of the call of the writer of the output that fails, and what the run is. The table goes
 // in seven pieces.
 const WRITES: [(u64, &str); 8] = [
@@ -329,20 +380,47 @@ fn faults_that_cannot_be_told(rt: HostRuntime) -> Result<(), Fail> {
     Ok(())
 }
 
-// A run over a reader without end: its status, how many bytes it read, and what it told.
-fn endless_line(rt: &HostRuntime) -> Result<String, AllocError> {
-    let mut input = Endless::new();
+// A run over a reader without end: its status, how many bytes it read by how many calls, and what it
+// told.
+fn endless_line(rt: &HostRuntime, input: Endless) -> Result<String, AllocError> {
+    let mut input = input;
     let mut output = Writer::new(rt.alloc(), NEVER);
     let mut faults = Writer::new(rt.alloc(), NEVER);
     let status = run(rt, &[], &mut input, &mut output, &mut faults);
+    let (given, calls) = (input.given, input.calls);
     let told = text(faults.bytes.as_slice());
-    format!(in rt.alloc(); "{status} {} [{told}]", input.given)
+    format!(in rt.alloc(); "{status} {given} {calls} [{told}]")
 }
 
+// How many bytes a call gives, between line feeds, the call with a line at fault, and what the run is.
+// In the last row that line stands in the piece that goes on behind the largest size.
+const ENDLESS: [(usize, usize, u64, &str); 3] = [
+    (
+        70_000,
+        1024,
+        NEVER,
+        "2 16777217 257 [refused input 1 code 56\n]",
+    ),
+    (
+        70_000,
+        0,
+        NEVER,
+        "2 131072 2 [refused input 1 line 1 code 57 38\n]",
+    ),
+    (
+        1000,
+        1000,
+        16_778,
+        "2 16777217 16778 [refused input 1 line 16779 code 57 33 12\n]",
+    ),
+];
+
 #[test]
-fn a_reader_without_end(rt: HostRuntime) -> Result<(), Fail> {
-    let line = endless_line(&rt)?;
-    expect_line(&rt, line.as_str(), "2 16777217 [refused input 1 code 56\n]");
+fn readers_without_end(rt: HostRuntime) -> Result<(), Fail> {
+    for &(piece, line, faulty, want) in &ENDLESS {
+        let found = endless_line(&rt, Endless::new(piece, line, faulty))?;
+        expect_line(&rt, found.as_str(), want);
+    }
     Ok(())
 }
 
