@@ -7,6 +7,7 @@ mod fault_lines;
 mod folders;
 mod joins;
 mod laws;
+mod lines;
 mod pieces;
 mod plans;
 mod streams;

@@ -2,5 +2,6 @@
 
 mod codes;
 mod large_tables;
+mod lines;
 mod printed;
 mod tables;

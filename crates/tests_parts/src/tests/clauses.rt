@@ -1,11 +1,11 @@
 //! Clauses: what is read and what is refused, how they are written, and which versions they admit.
 
+use crate::tests::lines::{expect, expect_row, expect_same};
 use pep_clause::{Clause, ClauseFault, Op, laws};
 use pep_version::Version;
 use std::alloc::Global;
 use std::test::Fail;
 use texts::{clause_run, is_clause_byte};
-use tests_kit::{expect, expect_row, expect_same};
 
 // What is read of a text: the operator, and what is written behind it.
 const READ: [(&str, Op, &str); 9] = [

@@ -1,5 +1,6 @@
 //! Codes of faults, their texts, and the faults that are made of others.
 
+use crate::tests::lines::{expect_line, expect_same};
 use pep_clause::ClauseFault;
 use pep_marker::{MarkerFault, Variable};
 use pep_require::RequireFault;
@@ -8,7 +9,7 @@ use std::alloc::{AllocError, Global};
 use std::fmt::Display;
 use std::process::Abort;
 use std::test::Fail;
-use tests_kit::{REQUIRE_FAULTS, expect_line, expect_same};
+use tests_kit::REQUIRE_FAULTS;
 
 // Faults of versions, each with its code and its text.
 const VERSION_FAULTS: [(VersionFault, &str); 3] = [

@@ -1,12 +1,12 @@
 //! Cuts in their order.
 
+use crate::tests::lines::{expect, expect_line, expect_row};
 use crate::tests::packed::{compare_cuts, cut_at, cut_has_copy};
 use pep_clause::{Clause, ClauseFault, Cut, Range, VersionSet};
 use pep_version::Version;
 use std::alloc::Global;
 use std::process::Abort;
 use std::test::Fail;
-use tests_kit::{expect, expect_line, expect_row};
 
 fn before(alloc: Global, text: &str) -> Result<Cut, ClauseFault> {
     Cut::before(alloc, &Version::read(alloc, text)?)

@@ -1,11 +1,12 @@
 //! Environments of markers: which pairs make one, what is wrong with others, and the normal form of
 //! texts beside `extra`.
 
+use crate::tests::lines::{expect, expect_row, expect_same};
 use pep_marker::{Environment, MarkerFault, Variable, norm_of};
 use std::alloc::{AllocError, Global};
 use std::process::Abort;
 use std::test::Fail;
-use tests_kit::{MACHINE, expect, expect_row, expect_same, repeated};
+use tests_kit::{MACHINE, repeated};
 
 const VARIABLES: [Variable; 11] = [
     Variable::OsName,

@@ -1,10 +1,11 @@
 //! Markers: which texts are read, how they are written, and what they say in an environment.
 
+use crate::tests::lines::expect_row;
 use pep_marker::{Environment, Marker, MarkerFault};
 use std::alloc::{AllocError, Global};
 use std::process::Abort;
 use std::test::Fail;
-use tests_kit::{MACHINE, expect_row, repeated};
+use tests_kit::{MACHINE, repeated};
 
 const VARIABLES: [&str; 12] = [
     "os_name",

@@ -1,5 +1,6 @@
 //! Names of packages, and the runs of bytes that they are found by.
 
+use crate::tests::lines::{expect, expect_line, expect_same};
 use pep_marker::{MarkerFault, Name};
 use std::alloc::Global;
 use std::cmp::Ordering;
@@ -10,7 +11,6 @@ use texts::{
     blank_end, blank_run, is_blank_byte, is_name_byte, name_run, without_leading_blanks,
     without_outer_blanks,
 };
-use tests_kit::{expect, expect_line, expect_same};
 
 // Names in their order, by the bytes of their normal texts. Some share their first eight bytes.
 const IN_ORDER: [&str; 14] = [

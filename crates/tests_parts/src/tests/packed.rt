@@ -1,5 +1,6 @@
 //! The bytes of keys and of cuts.
 
+use crate::tests::lines::{expect, expect_line, expect_row};
 use crate::tests::ordered::ORDERED;
 use pep_clause::{ClauseFault, Cut, Range, VersionSet};
 use pep_version::{Key, Version, VersionFault};
@@ -7,7 +8,7 @@ use std::alloc::{AllocError, Global};
 use std::cmp::Ordering;
 use std::process::Abort;
 use std::test::Fail;
-use tests_kit::{expect, expect_line, expect_row, repeated};
+use tests_kit::repeated;
 
 // A version, the bytes of its key, and the version that stands there.
 const KEYS: [(&str, &str); 7] = [

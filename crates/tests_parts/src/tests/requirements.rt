@@ -1,12 +1,13 @@
 //! Requirement lines by PEP 508: what they are read as, their texts, and what is wrong with others.
 
+use crate::tests::lines::{expect, expect_line, expect_row, expect_same};
 use pep_clause::ClauseFault;
 use pep_marker::{Environment, MarkerFault};
 use pep_require::{RequireFault, Requirement, Target, UrlText, laws};
 use std::alloc::{AllocError, Global};
 use std::process::Abort;
 use std::test::Fail;
-use tests_kit::{MACHINE, expect, expect_line, expect_row, expect_same, push_numbered, repeated};
+use tests_kit::{MACHINE, push_numbered, repeated};
 
 fn text_of(alloc: Global, line: &str) -> Result<String, RequireFault> {
     Requirement::read(alloc, line)?.text(alloc)

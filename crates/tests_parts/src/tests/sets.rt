@@ -1,12 +1,12 @@
 //! Sets of clauses: their cuts, with carries at the largest number, and which versions they hold.
 
+use crate::tests::lines::{expect, expect_line, expect_row};
 use crate::tests::ordered::ORDERED;
 use pep_clause::{Clause, ClauseFault, Range, Turns, VersionSet, laws};
 use pep_version::{Key, Phase, Version, VersionFault};
 use std::alloc::Global;
 use std::process::Abort;
 use std::test::Fail;
-use tests_kit::{expect, expect_line, expect_row};
 
 const OPERATORS: [&str; 8] = ["~=", "==", "!=", "<=", ">=", "<", ">", "==="];
 

@@ -1,12 +1,13 @@
 //! Versions by PEP 440: what texts are read as, their normal texts, and their parts.
 
+use crate::tests::lines::{expect, expect_line, expect_row, expect_same};
 use pep_version::{Key, Label, Phase, Version, VersionFault, laws};
 use std::alloc::{AllocError, Global};
 use std::hash::{DefaultHasher, Hash, Hasher};
 use std::process::Abort;
 use std::test::Fail;
+use tests_kit::repeated;
 use texts::{first_part, is_separator};
-use tests_kit::{expect, expect_line, expect_row, expect_same, repeated};
 
 const LARGEST: &str =
     "18446744073709551615!18446744073709551615.18446744073709551615rc18446744073709551615.post18446744073709551615.dev18446744073709551615+18446744073709551615";

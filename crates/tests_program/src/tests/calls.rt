@@ -1,5 +1,6 @@
 //! The public calls over inputs, and what no words ask for: no input, and the extra of a project file.
 
+use crate::tests::lines::{expect_line, expect_row};
 use pep_marker::{Environment, Name};
 use pep_require::{RequireFault, Requirement};
 use pep_table::Answer;
@@ -7,7 +8,7 @@ use pep_tool::{ArgumentFault, Fault, Input, Kind, check_bytes, list_of, merge_by
 use pep_version::Version;
 use std::alloc::{AllocError, Global};
 use std::test::Fail;
-use tests_kit::{MACHINE, expect_line, expect_row};
+use tests_kit::MACHINE;
 
 /// An input's kind and its text.
 pub(crate) type Part<'a> = (Kind, &'a str);

@@ -1,10 +1,11 @@
 //! Environment files: what the variables are read as, and which is told to be missing.
 
+use crate::tests::lines::expect_row;
 use pep_marker::Environment;
 use pep_tool::environment_of;
 use std::alloc::{AllocError, Global};
 use std::test::Fail;
-use tests_kit::{MACHINE, expect_row};
+use tests_kit::MACHINE;
 
 // What a variable is read as.
 fn value_of(

@@ -1,11 +1,11 @@
 //! The example of README, as it stands there.
 
 use crate::tests::calls::machine;
+use crate::tests::lines::expect_line;
 use pep_marker::Environment;
 use pep_tool::{Fault, Input, Kind, merge_bytes};
 use std::alloc::Global;
 use std::test::Fail;
-use tests_kit::expect_line;
 
 fn merged(alloc: Global, list: &str, environment: &Environment) -> Result<String, Fault> {
     let bytes = Vec::from_slice(alloc, list.as_bytes())?;

@@ -1,5 +1,6 @@
 //! Codes of the faults of a run, and their texts.
 
+use crate::tests::lines::expect_line;
 use pep_clause::ClauseFault;
 use pep_marker::MarkerFault;
 use pep_require::RequireFault;
@@ -8,7 +9,7 @@ use pep_version::VersionFault;
 use std::alloc::{AllocError, Global};
 use std::fmt::Display;
 use std::test::Fail;
-use tests_kit::{REQUIRE_FAULTS, expect_line};
+use tests_kit::REQUIRE_FAULTS;
 
 // A fault of a line: its code, the code inside it and its text.
 fn line_fault_line(alloc: Global, fault: LineFault) -> Result<String, AllocError> {

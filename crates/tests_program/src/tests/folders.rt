@@ -1,5 +1,6 @@
 //! The program over folders of the tests, whose files fail at a call, and over the disk.
 
+use crate::tests::lines::expect_line;
 use crate::tests::plans::owned;
 use crate::tests::streams::{NEVER, Reader};
 use pep_tool::{Bytes, Counted, Disk, Fault, Folder, OpenFault, Source, run_in};
@@ -7,7 +8,6 @@ use std::alloc::Global;
 use std::path::PathBuf;
 use std::test::Fail;
 use std::{env, fs, process};
-use tests_kit::expect_line;
 
 // A run over the files of the folder and over an input that it would refuse: its status, how often it
 // read the input, what it prints and what it tells.

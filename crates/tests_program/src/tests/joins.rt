@@ -1,13 +1,13 @@
 //! One table, whatever the order, the grouping and the repeats of what is merged.
 
 use crate::tests::calls::{Part, inputs_of, machine};
+use crate::tests::lines::expect;
 use pep_marker::Name;
 use pep_table::{Join, Table, TableFault, Verdict, join_all};
 use pep_tool::{Kind, gather, list_of};
 use std::alloc::{AllocError, Global};
 use std::process::Abort;
 use std::test::Fail;
-use tests_kit::expect;
 
 // The table of a list on the machine.
 fn table(alloc: Global, list: &str) -> Result<Table, TableFault> {

@@ -1,6 +1,7 @@
 //! Lists that are merged while they are read, in whatever pieces their bytes come.
 
 use crate::tests::calls::{machine, text_or_fault};
+use crate::tests::lines::{expect, expect_line, expect_row};
 use crate::tests::streams::{NEVER, Reader};
 use pep_marker::Environment;
 use pep_table::{Join, Table};
@@ -8,7 +9,7 @@ use pep_tool::{Fault, list_of, merge_reader};
 use std::alloc::Global;
 use std::process::Abort;
 use std::test::Fail;
-use tests_kit::{Numbers, expect, expect_line, expect_row, push_numbered, repeated};
+use tests_kit::{Numbers, push_numbered, repeated};
 
 // The text of the table of a list on the machine that comes in pieces, and whose read with this number
 // fails.

@@ -1,9 +1,9 @@
 //! The plans that words are.
 
+use crate::tests::lines::expect_line;
 use pep_tool::{Fault, plan_of};
 use std::alloc::{AllocError, Global};
 use std::test::Fail;
-use tests_kit::expect_line;
 
 /// The words, owned.
 pub(crate) fn owned(alloc: Global, words: &[&str]) -> Result<Vec<String>, AllocError> {

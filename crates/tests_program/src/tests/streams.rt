@@ -1,13 +1,13 @@
 //! The program over readers and writers that fail at a call, that give bytes without end, or that
 //! take none.
 
+use crate::tests::lines::expect_line;
 use crate::tests::plans::owned;
 use pep_tool::{Bytes, Counted, Failed, Sink, Source, run, write_text};
 use std::alloc::{AllocError, Global};
 use std::io;
 use std::io::Write;
 use std::test::Fail;
-use tests_kit::expect_line;
 
 const LIST: &[u8] = b"flask>=2.0\nFlask<3\n";
 

@@ -1,9 +1,9 @@
 //! Codes of the faults of tables, and their texts.
 
+use crate::tests::lines::expect_line;
 use pep_table::TableFault;
 use std::alloc::{AllocError, Global};
 use std::test::Fail;
-use tests_kit::expect_line;
 
 const FAULTS: [(TableFault, &str); 3] = [
     (

@@ -1,5 +1,6 @@
 //! Tables that are larger than a body that gives up early would take.
 
+use crate::tests::lines::{expect_line, expect_same};
 use crate::tests::tables::{
     answer, entry, gathered, machine, name, requirement, table, table_of, verdict,
 };
@@ -11,7 +12,7 @@ use std::alloc::{AllocError, Global};
 use std::ops::Range;
 use std::process::Abort;
 use std::test::Fail;
-use tests_kit::{expect_line, expect_same, push_numbered};
+use tests_kit::push_numbered;
 
 // Appends a requirement for each number, which stands between the two texts, from the last to the first.
 fn push_lines(

@@ -1,12 +1,13 @@
 //! Tables that are read from their texts.
 
+use crate::tests::lines::{expect, expect_line, expect_same};
 use crate::tests::tables::{requirement, table, table_of};
 use pep_require::Requirement;
 use pep_table::{Join, Table, TableFault};
 use std::alloc::{AllocError, Global};
 use std::process::Abort;
 use std::test::Fail;
-use tests_kit::{Numbers, expect, expect_line, expect_same, push_numbered, repeated};
+use tests_kit::{Numbers, push_numbered, repeated};
 
 // A table with all kinds of lines and verdicts.
 const LINES: [&str; 11] = [

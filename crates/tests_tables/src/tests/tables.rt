@@ -1,5 +1,6 @@
 //! Tables of requirements: their texts, verdicts and answers, and what joining them gives.
 
+use crate::tests::lines::{expect_line, expect_row, expect_same};
 use pep_clause::VersionSet;
 use pep_marker::{Environment, Name};
 use pep_require::Requirement;
@@ -9,7 +10,7 @@ use pep_table::{
 use pep_version::Version;
 use std::alloc::Global;
 use std::test::Fail;
-use tests_kit::{MACHINE, expect_line, expect_row, expect_same};
+use tests_kit::MACHINE;
 
 /// The requirement of a line, which is one.
 pub(crate) fn requirement(alloc: Global, line: &str) -> Result<Requirement, TableFault> {

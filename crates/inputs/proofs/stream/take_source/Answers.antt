@@ -75,36 +75,24 @@ returns-in_err-so_far-clause-refused g c =
 pub returns-in-Ok-eq0-clause-bytes : goal.returns-in-Ok-eq0-clause-bytes
 returns-in-Ok-eq0-clause-bytes g c =
     let none = (goal.at.returns-in-Ok-eq0-clause-bytes g c).In-Ok-eq0 in
-    read_with (g.T.Taker.takes c.args.taker.now) (g.S.Source.left c.args.source.now)
-    (g.S.Source.left c.pieces.source) (g.S.Source.left c.pull.new.self) c.pieces.count
-    c.args.taken c.pieces.so_far.number c.pieces.so_far.held.items c.pieces.so_far.taken
-    c.pieces.invariant.read []
+    read_with _ _ _ _ _ _ _ _ _ c.pieces.invariant.read []
     (reads_none g none) (omega (arith, c.pieces.invariant.room))
 
 pub returns-in-Err-clause-bytes : goal.returns-in-Err-clause-bytes
 returns-in-Err-clause-bytes g c =
-    read_before (g.T.Taker.takes c.args.taker.now) (g.S.Source.left c.args.source.now)
-    (g.S.Source.left c.pieces.source) (g.S.Source.left c.pull.new.self) c.pieces.count
-    c.args.taken c.pieces.so_far.number c.pieces.so_far.held.items c.pieces.so_far.taken
-    c.pieces.invariant.read
+    read_before _ _ _ _ _ _ _ _ _ c.pieces.invariant.read
     c.in-Err.ensures.bytes c.pieces.invariant.room
 
 pub returns-then-count-gt-INPUT_LIMIT-clause-bytes :
     goal.returns-then-count-gt-INPUT_LIMIT-clause-bytes
 returns-then-count-gt-INPUT_LIMIT-clause-bytes g c =
-    read_with (g.T.Taker.takes c.args.taker.now) (g.S.Source.left c.args.source.now)
-    (g.S.Source.left c.pieces.source) (g.S.Source.left c.pull.new.self) c.pieces.count
-    c.args.taken c.pieces.so_far.number c.pieces.so_far.held.items c.pieces.so_far.taken
-    c.pieces.invariant.read
-    (take c.in-Ok.given c.pull.new.buf) c.in-Ok.ensures.bytes.0 (search rules)
+    read_with _ _ _ _ _ _ _ _ _ c.pieces.invariant.read (take c.in-Ok.given c.pull.new.buf)
+    c.in-Ok.ensures.bytes.0 (search rules)
 
 pub returns-in_err-so_far-clause-bytes : goal.returns-in_err-so_far-clause-bytes
 returns-in_err-so_far-clause-bytes g c =
-    read_with (g.T.Taker.takes c.args.taker.now) (g.S.Source.left c.args.source.now)
-    (g.S.Source.left c.pieces.source) (g.S.Source.left c.pull.new.self) c.pieces.count
-    c.args.taken c.pieces.so_far.number c.pieces.so_far.held.items c.pieces.so_far.taken
-    c.pieces.invariant.read
-    (take c.in-Ok.given c.pull.new.buf) c.in-Ok.ensures.bytes.0
+    read_with _ _ _ _ _ _ _ _ _ c.pieces.invariant.read (take c.in-Ok.given c.pull.new.buf)
+    c.in-Ok.ensures.bytes.0
     (omega (arith, c.if-count-gt-INPUT_LIMIT.false, c.in-Ok.ensures.bound.1))
 
 pub pieces-preserved : goal.pieces-preserved

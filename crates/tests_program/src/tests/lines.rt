@@ -1,0 +1,18 @@
+//! Lines of rows that are compared.
+
+use std::process::Abort;
+
+/// Asserts that a line is the wanted one.
+pub(crate) fn expect_line(rt: &impl Abort, line: &str, want: &str) {
+    assert_eq!(rt; line, want);
+}
+
+/// Asserts that the line of a row is the wanted one, and tells the row.
+pub(crate) fn expect_row(rt: &impl Abort, row: &str, line: &str, want: &str) {
+    assert_eq!(rt; line, want, "of {row}");
+}
+
+/// Asserts that something holds of a row, and tells the row.
+pub(crate) fn expect(rt: &impl Abort, row: &str, holds: bool) {
+    assert!(rt; holds, "of {row}");
+}
