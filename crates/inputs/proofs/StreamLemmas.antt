@@ -48,9 +48,9 @@ module _ {A : Type 0} (takes : List ℕ → A → A → Type 0) (left : Option (
     has = subst (λ n. HasTaken takes [] 0 old n held new) (sym at)
         (subst (λ h. HasTaken takes [] 0 old 0 h new) (sym none)
         (subst (λ a. HasTaken takes [] 0 old 0 [] a) (sym same) (record {
-      lines = none_taken takes [] 0 old;
-      is_held = nothing_held [] refl;
-    })));
+          lines = none_taken takes [] 0 old;
+          is_held = nothing_held [] refl;
+        })));
   }
 
   module _ (now next : Option (List ℕ)) (count : ℕ) (old : A) (number : ℕ) (held : List ℕ) (mid : A)
@@ -166,8 +166,13 @@ module _ {A : Type 0} (takes : List ℕ → A → A → Type 0) (left : Option (
           by : (more : List ℕ) → (c ≡ cause.TooLarge)
               ⊎ RefusesPiece refuses number (held ++ front) c →
               RefusesList refuses ((s.bytes ++ piece) ++ more) c
-          by more (inl is) = inr (inl (by_size (omega (arith, large, s.size,
-              length-append s.bytes piece, length-append (s.bytes ++ piece) more)) is))
+          by more (inl is) = inr (inl (by_size (omega (
+            arith,
+            large,
+            s.size,
+            length-append s.bytes piece,
+            length-append (s.bytes ++ piece) more,
+          )) is))
           by more (inr refused) =
               subst (λ l. RefusesList refuses ((s.bytes ++ l) ++ more) c) (sym split)
               (refused_on front rest more refused)

@@ -30,9 +30,12 @@ pub take_last-requires : goal.take_last-requires
 take_last-requires g c =
     let all = (goal.at.take_last-requires g c).In_ok-lines in
     record {
-      number = omega (arith, ended_count (g.T.Taker.takes c.args.taker.now) c.args.bytes.now
-          c.in_ok-lines.lines.held.items 0 c.in_ok-lines.lines.number _ _ (taken_lines g all),
-          c.if-bytes-le-INPUT_LIMIT.true);
+      number = omega (
+        arith,
+        ended_count (g.T.Taker.takes c.args.taker.now) c.args.bytes.now
+            c.in_ok-lines.lines.held.items 0 c.in_ok-lines.lines.number _ _ (taken_lines g all),
+        c.if-bytes-le-INPUT_LIMIT.true,
+      );
       held = (taken_lines g all).is_held.short;
     }
 

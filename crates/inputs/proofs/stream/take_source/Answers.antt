@@ -68,8 +68,11 @@ returns-in_err-so_far-clause-refused g c =
     c.pieces.so_far.held.items c.pieces.so_far.taken c.pieces.invariant.read
     (g.T.Taker.refuses c.args.taker.now) _ _ (take c.in-Ok.given c.pull.new.buf)
     c.in-Ok.ensures.counts.1 c.in-Ok.ensures.bytes.0
-    (omega (arith, c.if-count-gt-INPUT_LIMIT.false,
-    c.in-Ok.ensures.bound.1))
+    (omega (
+      arith,
+      c.if-count-gt-INPUT_LIMIT.false,
+      c.in-Ok.ensures.bound.1,
+    ))
     c.in_err-so_far.ensures.refused)
 
 pub returns-in-Ok-eq0-clause-bytes : goal.returns-in-Ok-eq0-clause-bytes
