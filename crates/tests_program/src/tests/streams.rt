@@ -382,8 +382,13 @@ fn faults_that_cannot_be_told(rt: HostRuntime) -> Result<(), Fail> {
 
 // A run over a reader without end: its status, how many bytes it read by how many calls, and what it
 // told.
-fn endless_line(rt: &HostRuntime, input: Endless) -> Result<String, AllocError> {
-    let mut input = input;
+fn endless_line(
+    rt: &HostRuntime,
+    piece: usize,
+    line: usize,
+    faulty: u64,
+) -> Result<String, AllocError> {
+    let mut input = Endless::new(piece, line, faulty);
     let mut output = Writer::new(rt.alloc(), NEVER);
     let mut faults = Writer::new(rt.alloc(), NEVER);
     let status = run(rt, &[], &mut input, &mut output, &mut faults);
@@ -418,7 +423,7 @@ const ENDLESS: [(usize, usize, u64, &str); 3] = [
 #[test]
 fn readers_without_end(rt: HostRuntime) -> Result<(), Fail> {
     for &(piece, line, faulty, want) in &ENDLESS {
-        let found = endless_line(&rt, Endless::new(piece, line, faulty))?;
+        let found = endless_line(&rt, piece, line, faulty)?;
         expect_line(&rt, found.as_str(), want);
     }
     Ok(())
