@@ -317,7 +317,7 @@ taken_is_table Q s r t h g k =
 
 -- ---- requirements that apply
 
-pub marker_one : (e : EnvironmentParts) (m : Option MarkerParts) (p q : Truth) → MarkerSays e m p →
+marker_one : (e : EnvironmentParts) (m : Option MarkerParts) (p q : Truth) → MarkerSays e m p →
     MarkerSays e m q → p ≡ q
 marker_one e None p q h g = h ∙ sym g
 marker_one e (Some m) p q h g = evaluates_one e m p q h g

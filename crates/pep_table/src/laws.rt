@@ -1,6 +1,6 @@
 //! Laws of the definitions.
 
-ghost use Rattle.std.specs.Prelude.{◌≡◌, ◌↔◌, ℕ, [], Bool, Contains, IsUtf8, List};
+ghost use Rattle.std.specs.Prelude.{◌≡◌, ◌↔◌, ℕ, Bool, Contains, IsUtf8, List};
 ghost use Rattle.std.specs.List.{AllZip};
 ghost use Rattle.pep_version.specs.Version.{IsVersion, Version};
 ghost use Rattle.pep_marker.specs.Environment.{EnvironmentParts};
@@ -30,7 +30,6 @@ ghost use Rattle.demands.specs.Table.{
   TableDemands,
   TableParts,
 };
-ghost use Rattle.pep_table.specs.EntryRanges.{HasFewEntryRanges};
 ghost use Rattle.pep_table.specs.TableText.{IsTableText};
 ghost use Rattle.demands.specs.Verdict.{IsVerdict};
 ghost use Rattle.pep_require.specs.Requirement.{IsAscending, RequirementParts};
@@ -114,13 +113,6 @@ pub fn applying_is_table()
         (s t : TableParts) → IsTable (Listed q) s → HasExactPoints (Listed q) s
         → TakesApplying e s rs t → IsTable (Together (Listed q) (ApplyingDemands e rs)) t
         × HasExactPoints (Together (Listed q) (ApplyingDemands e rs)) t }
-{}
-
-/// A table that takes requirements one after the other, from nothing, has in each entry at most one
-/// range more than those that apply have `!=` clauses on its name.
-pub fn few_ranges()
-    ensures { (e : EnvironmentParts) (rs : List RequirementParts) (t : TableParts)
-        → TakesApplying e [] rs t → HasFewEntryRanges e rs t }
 {}
 
 /// A table is the table of its own demands, with just their points.

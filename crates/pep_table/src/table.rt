@@ -7,7 +7,6 @@ ghost use Rattle.pep_require.specs.View.{requirement_parts};
 ghost use Rattle.demands.specs.Demand.{ApplyingDemands};
 ghost use Rattle.demands.specs.Gathering.{IsFirstUndefined};
 ghost use Rattle.demands.specs.Table.{HasExactPoints, IsTable, IsValidTable, entry_at};
-ghost use Rattle.pep_table.specs.EntryRanges.{HasFewEntryRanges};
 
 use crate::gathering::Gathering;
 use demands::{Entry, Join, Kept, TableFault};
@@ -80,8 +79,7 @@ impl Table {
         }
     }
 
-    /// The table of the requirements that apply in the environment. An entry has at most one range
-    /// more than these have `!=` clauses on its name. The fault `Undefined`, 28,
+    /// The table of the requirements that apply in the environment. The fault `Undefined`, 28,
     /// names the first requirement whose marker is undefined there, counted from 1; any other is
     /// `NoMemory`, 42.
     pub fn of(
@@ -93,8 +91,6 @@ impl Table {
             (ApplyingDemands environment.now (map requirement_parts requirements.now)) t) }
         ensures points { IfOk result (λ t. HasExactPoints
             (ApplyingDemands environment.now (map requirement_parts requirements.now)) t) }
-        ensures few { IfOk result (λ t. HasFewEntryRanges environment.now
-            (map requirement_parts requirements.now) t) }
         ensures defined { IfOk result (λ t. All (HasDefinedMarker environment.now)
             (map requirement_parts requirements.now)) }
         ensures refused { IfErr result (λ e. (e ≡ TableFault.NoMemory) ⊎ IsFirstUndefined

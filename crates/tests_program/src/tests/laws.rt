@@ -14,7 +14,6 @@ fn laws_of_tables() {
     table_laws::applying_is_table();
     table_laws::own_table();
     table_laws::table_answers();
-    table_laws::few_ranges();
 }
 
 #[test]
