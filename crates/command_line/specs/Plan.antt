@@ -34,14 +34,17 @@ files_argument = record (new_rule (codes "FILE")) {
   range = Some (record { start_inclusive = 1; end_inclusive = usize_max });
 }
 
+-- an option with a text, as `--name VALUE`
+abbrev pub text_option : Text → Rule
+text_option name = record (new_rule name) { long = Some name; value_names = 1; action = Some Set }
+
 -- `--env E`, which has to be there
 abbrev pub environment_option : Rule
-environment_option = record (new_rule (codes "env")) {
-  long = Some (codes "env");
-  value_names = 1;
-  required = true;
-  action = Some Set;
-}
+environment_option = record (text_option (codes "env")) { required = true }
+
+-- `--group G`
+abbrev pub group_option : Rule
+group_option = text_option (codes "group")
 
 -- `--pre`
 abbrev pub pre_flag : Rule
@@ -55,15 +58,16 @@ abbrev pub version_command : App
 version_command = command_with (codes "version") (text_argument (codes "TEXT") ∷ [])
 
 abbrev pub lines_command : App
-lines_command = command_with (codes "lines") (text_argument (codes "FILE") ∷ [])
+lines_command = command_with (codes "lines") (group_option ∷ text_argument (codes "FILE") ∷ [])
 
 abbrev pub merge_command : App
-merge_command = command_with (codes "merge") (environment_option ∷ files_argument ∷ [])
+merge_command =
+    command_with (codes "merge") (environment_option ∷ group_option ∷ files_argument ∷ [])
 
 abbrev pub check_command : App
 check_command =
-    command_with (codes "check") (environment_option ∷ pre_flag ∷ text_argument (codes "NAME")
-    ∷ text_argument (codes "VERSION") ∷ files_argument ∷ [])
+    command_with (codes "check") (environment_option ∷ group_option ∷ pre_flag
+    ∷ text_argument (codes "NAME") ∷ text_argument (codes "VERSION") ∷ files_argument ∷ [])
 
 -- the command is this one, and has no global argument
 abbrev pub IsLocal : Command → App → Type 0
@@ -85,10 +89,11 @@ program =
 
 -- ---- what words ask for
 
--- what `check` is given: the path of the environment, whether pre-releases are wanted, a name and a
--- version, neither of which is read yet, and the paths of the files
+-- what `check` is given: the path of the environment, a dependency group or none, whether pre-releases
+-- are wanted, a name and a version, none of which is read yet, and the paths of the files
 pub record CheckRequest : Type 0 where
   pub env : Text
+  pub group : Option Text
   pub pre : Bool
   pub name : Text
   pub version : Text
@@ -96,22 +101,24 @@ pub record CheckRequest : Type 0 where
 
 -- What the program is asked to do: the table of its input, the normal text of a version, the
 -- requirements of the file with a path, the table of files in the environment of a file, or whether
--- a version meets the requirements of files.
+-- a version meets the requirements of files. Of project files a dependency group may be asked for.
 pub data Request : Type 0 where
   standard : Request
   show_version : Text → Request
-  show_lines : Text → Request
-  merge_files : Text → List Text → Request
+  show_lines : Option Text → Text → Request
+  merge_files : Text → Option Text → List Text → Request
   check_version : CheckRequest → Request
 
 -- what a plan says
 abbrev pub request : Plan → Request
 request plan.Standard = standard
 request (plan.ShowVersion text) = show_version (string_bytes text)
-request (plan.ShowLines file) = show_lines (string_bytes file)
-request (plan.Merge env files) = merge_files (string_bytes env) (map string_bytes files.items)
-request (plan.Check env pre name version files) = check_version (record {
+request (plan.ShowLines group file) = show_lines (option_map string_bytes group) (string_bytes file)
+request (plan.Merge env group files) =
+    merge_files (string_bytes env) (option_map string_bytes group) (map string_bytes files.items)
+request (plan.Check env group pre name version files) = check_version (record {
   env = string_bytes env;
+  group = option_map string_bytes group;
   pre = pre;
   name = string_bytes name;
   version = string_bytes version;
@@ -127,18 +134,20 @@ abbrev pub version_of : List Row → Option Request
 version_of rows = option_map show_version (first_of (codes "TEXT") rows)
 
 abbrev pub lines_of : List Row → Option Request
-lines_of rows = option_map show_lines (first_of (codes "FILE") rows)
+lines_of rows =
+    option_map (show_lines (first_of (codes "group") rows)) (first_of (codes "FILE") rows)
 
 abbrev pub merge_of : List Row → Option Request
 merge_of rows =
-    option_and_then (λ env. option_map (merge_files env) (all_of (codes "FILE") rows))
-    (first_of (codes "env") rows)
+    option_and_then (λ env. option_map (merge_files env (first_of (codes "group") rows))
+    (all_of (codes "FILE") rows)) (first_of (codes "env") rows)
 
 abbrev pub check_of : List Row → Option Request
 check_of rows =
     option_and_then (λ env. option_and_then (λ name. option_and_then (λ version.
     option_map (λ files. check_version (record {
       env = env;
+      group = first_of (codes "group") rows;
       pre = flag_of (codes "pre") rows;
       name = name;
       version = version;

@@ -34,20 +34,25 @@ pub enum Plan {
     ShowVersion {
         text: String,
     },
-    /// `lines FILE`: the requirements of the file with this path.
+    /// `lines [--group G] FILE`: the requirements of the file with this path; of a project file with
+    /// `--group` those of a dependency group.
     ShowLines {
+        group: Option<String>,
         file: String,
     },
-    /// `merge --env E FILE..`: the table of one file or more, in the environment that a file has.
+    /// `merge --env E [--group G] FILE..`: the table of one file or more, in the environment that a
+    /// file has.
     Merge {
         env: String,
+        group: Option<String>,
         files: Vec<String>,
     },
-    /// `check --env E [--pre] NAME VERSION FILE..`: whether the version of the package meets the
-    /// requirements of one file or more, in the environment that a file has; with `--pre` a
-    /// pre-release may meet them too.
+    /// `check --env E [--group G] [--pre] NAME VERSION FILE..`: whether the version of the package
+    /// meets the requirements of one file or more, in the environment that a file has; with `--pre`
+    /// a pre-release may meet them too.
     Check {
         env: String,
+        group: Option<String>,
         pre: bool,
         name: String,
         version: String,

@@ -93,21 +93,6 @@ joined_behind old sets new t sum e h = record {
       ∙ is_point-joined (joined_sets old) t cut;
 }
 
--- where the last set is joined with one that is lent, and then comes itself
-pub joined_lent : (all sets new : List (List Range)) (next others both : List Range) →
-    all ≡ sets ++ next ∷ [] → IsIntersection next others both →
-    IsIntersection (joined_sets sets) both (joined_sets new) →
-    IsIntersection (joined_sets all) others (joined_sets new)
-joined_lent all sets new next others both e h g = record {
-  normal = g.normal;
-  points = λ cut is. g.points cut is
-      ∙ ap (λ b. is_point (joined_sets sets) cut && b) (h.points cut is)
-      ∙ sym (and_assoc (is_point (joined_sets sets) cut) (is_point next cut)
-      (is_point others cut))
-      ∙ ap (λ b. b && is_point others cut)
-      (sym (ap (λ x. is_point (joined_sets x) cut) e ∙ points_behind sets next cut));
-}
-
 -- where no other set is left
 pub joined_whole : (whole sum : List Range) (sets : List (List Range)) → length sets ≡ 0 →
     IsNormal whole → JoinsTo whole sets sum → sum ≡ whole

@@ -73,3 +73,17 @@ verdict_one Q Conflict Possible h g = absurd (g.0 h)
 verdict_one Q Conflict Nothing h g = absurd (g.0 h)
 verdict_one Q Possible Conflict h g = absurd (h.0 g)
 verdict_one Q Nothing Conflict h g = absurd (h.0 g)
+
+-- two sets of demands of which one entry is the entry have one verdict
+pub verdict_between : (Q W : Demand → Type 0) (e : EntryParts) (w : Verdict) → IsValidEntry e →
+    IsEntry Q e → IsEntry W e → IsVerdict Q w → IsVerdict W w
+verdict_between Q W e Conflict valid h g says =
+    (conflict_exactly W e valid g).1 ((conflict_exactly Q e valid h).0 says)
+verdict_between Q W e Nothing valid h g says = (
+  λ c. says.0 ((conflict_exactly Q e valid h).1 ((conflict_exactly W e valid g).0 c)),
+  λ v is all. says.1 v is ((meets_exactly Q e v h is).1 ((meets_exactly W e v g is).0 all)),
+)
+verdict_between Q W e Possible valid h g (calm, (v, is, all)) = (
+  λ c. calm ((conflict_exactly Q e valid h).1 ((conflict_exactly W e valid g).0 c)),
+  (v, is, (meets_exactly W e v g is).1 ((meets_exactly Q e v h is).0 all)),
+)

@@ -41,7 +41,7 @@ abbrev pub HasVersionOfText : List Range → List ℕ → Type 0
 HasVersionOfText ranges text =
     (v : Version) × IsVersion v × (normal_text v ≡ text) × In ranges v
 
--- The verdict as an entry shows it: a conflict of URLs; else nothing, where there is no range, or
+-- The verdict by the parts of an entry, the code's way: a conflict of URLs; else nothing, where there is no range, or
 -- texts are demanded and no version fits; else possible.
 abbrev pub IsEntryVerdict : EntryParts → Verdict → Type 0
 IsEntryVerdict e Conflict = 2 ≤ length e.urls

@@ -105,6 +105,13 @@ impl Entry {
         &self.versions
     }
 
+    /// The versions of an entry that is used up.
+    pub(crate) fn into_versions(self) -> VersionSet
+        ensures { result ≡ self.versions }
+    {
+        self.versions
+    }
+
     /// Whether more may be demanded than versions.
     pub(crate) fn has_others(&self) -> bool
         ensures { result ≡ false → (self.now.extras ≡ []) × (self.now.urls ≡ [])

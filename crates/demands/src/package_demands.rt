@@ -18,7 +18,7 @@ ghost use Rattle.demands.specs.Table.{IsValidEntry};
 use crate::entry::Entry;
 use crate::fault::TableFault;
 use crate::others::{Others, demands_others};
-use crate::partial_joins::{joined_of, narrow, narrow_by};
+use crate::partial_joins::{joined_of, narrow};
 use crate::sorted::Sorted;
 use pep_clause::{Clause, VersionSet};
 use pep_require::{Requirement, Target};
@@ -169,16 +169,17 @@ impl PackageDemands {
         meet_target(alloc, &mut self.versions, requirement.target())
     }
 
-    /// Takes what an entry demands. The only fault is `NoMemory`, 42; what is gathered is then of no
-    /// more use: it may lack what it had.
-    pub fn join(&mut self, alloc: Global, entry: &Entry) -> Result<(), TableFault>
-        ensures joined { OnOk result (JoinsEntries self.old entry.now self.new) }
-        ensures valid { IsValidEntry entry.now }
+    /// Takes what an entry demands, whose ranges are moved. The only fault is `NoMemory`, 42; what
+    /// is gathered is then of no more use: it may lack what it had.
+    pub fn join(&mut self, alloc: Global, entry: Entry) -> Result<(), TableFault>
+        ensures joined { OnOk result (JoinsEntries self.old entry self.new) }
+        ensures valid { IsValidEntry entry }
         ensures faults { IfErr result (λ e. e ≡ TableFault.NoMemory) }
     {
-        let versions = entry.versions();
-        join_others(alloc, &mut self.others, entry)?;
-        narrow_by(alloc, &mut self.versions, versions)
+        // Its clause tells that the entry is valid.
+        let _ = entry.versions();
+        join_others(alloc, &mut self.others, &entry)?;
+        narrow(alloc, &mut self.versions, entry.into_versions())
     }
 
     /// The entry of what is gathered, which has to be one: what `take` and `join` made of `bare` is,

@@ -7,7 +7,6 @@ ghost use Rattle.pep_clause.specs.VersionSet.{IsNormal, all_versions};
 ghost use Rattle.demands.specs.Join.{IsIntersection};
 ghost use Rattle.demands.specs.PartialJoins.{AreNormal, joined_sets};
 
-use crate::entry::versions_copied;
 use crate::fault::TableFault;
 use pep_clause::VersionSet;
 use std::alloc::Global;
@@ -33,17 +32,6 @@ fn common(alloc: Global, kept: VersionSet, others: VersionSet) -> Result<Version
 {
     match kept.common(alloc, others) {
         Ok(both) => Ok(both),
-        Err(_) => Err(TableFault::NoMemory),
-    }
-}
-
-// Keeps the versions of the set that are in the other too.
-fn keep_common(alloc: Global, kept: &mut VersionSet, others: &VersionSet) -> Result<(), TableFault>
-    ensures ok { OnOk result (IsIntersection kept.old others.now kept.new) }
-    ensures faults { IfErr result (λ e. e ≡ TableFault.NoMemory) }
-{
-    match kept.join(alloc, others) {
-        Ok(()) => Ok(()),
         Err(_) => Err(TableFault::NoMemory),
     }
 }
@@ -86,27 +74,6 @@ pub(crate) fn narrow(
     sets.reserve_exact(1)?;
     sets.push(narrowed)?;
     Ok(())
-}
-
-/// The same with a set that is lent, and copied only where it stays beside the others.
-pub(crate) fn narrow_by(
-    alloc: Global,
-    sets: &mut Vec<VersionSet>,
-    others: &VersionSet,
-) -> Result<(), TableFault>
-    requires { AreNormal sets.old.items }
-    ensures ok { OnOk result (IsIntersection (joined_sets sets.old.items) others.now
-        (joined_sets sets.new.items)) }
-    ensures normal { AreNormal sets.new.items }
-    ensures faults { IfErr result (λ e. e ≡ TableFault.NoMemory) }
-{
-    if goes_with(sets.as_slice(), others) {
-        if let Some(mut next) = sets.pop() {
-            keep_common(alloc, &mut next, others)?;
-            return narrow(alloc, sets, next);
-        }
-    }
-    narrow(alloc, sets, versions_copied(alloc, others)?)
 }
 
 /// The join of all sets, the smallest first.

@@ -45,6 +45,9 @@ cause_code (cause.BadWords x) = 61
 cause_code (cause.BadArgument f) = 62
 cause_code cause.WriteFault = 63
 cause_code cause.NoRequirements = 64
+cause_code cause.NoGroup = 65
+cause_code cause.EqualGroups = 66
+cause_code cause.GroupCycle = 67
 
 -- the codes of the faults inside it, the outer one first
 abbrev pub inner_codes : Cause → List ℕ

@@ -183,6 +183,15 @@ pub enum Cause {
     /// 64: a table file has no requirements to show.
     #[error("a table has no requirements")]
     NoRequirements,
+    /// 65: the file has no such dependency group.
+    #[error("no such dependency group")]
+    NoGroup,
+    /// 66: two dependency groups of the file have one normalized name.
+    #[error("two dependency groups of one name")]
+    EqualGroups,
+    /// 67: a dependency group comes back to itself by its includes.
+    #[error("a dependency group includes itself")]
+    GroupCycle,
 }
 
 impl Cause {
@@ -207,6 +216,9 @@ impl Cause {
             Cause::BadArgument(_) => 62,
             Cause::WriteFault => 63,
             Cause::NoRequirements => 64,
+            Cause::NoGroup => 65,
+            Cause::EqualGroups => 66,
+            Cause::GroupCycle => 67,
         }
     }
 }

@@ -1,5 +1,6 @@
 -- Which inputs are accepted in an environment, and the table of what they demand there.
-use Rattle.std.proofs.Common.{◌≡◌, ℕ, ◌⊎◌, arith, List, [], ◌∷◌, subst, inl, inr}
+use Rattle.std.proofs.Common.{◌≡◌, ℕ, ◌⊎◌, arith, List, [], ◌∷◌, subst, inl, inr, refl}
+use Rattle.std.proofs.Common.{Option, None}
 use Rattle.std.specs.Prelude.{All, ◌↔◌}
 use Rattle.std.specs.List.{AllZip}
 use Rattle.std.proofs.lemmas.List.Elements.{All-cons, All-head, All-nil, All-tail}
@@ -10,12 +11,9 @@ use Rattle.pep_require.specs.Reads.{Reads}
 use Rattle.pep_require.specs.Requirement.{HasDefinedMarker}
 use Rattle.pep_require.specs.Requirement.{RequirementParts}
 use Rattle.pep_table.proofs.SameDemands.{same_demands, with_nothing}
-use Rattle.pep_table.proofs.Taking.{applying_is_table, no_demands, of_nothing}
-use Rattle.demands.specs.Demand.{ApplyingDemands, Demand, Demands, Together}
-use Rattle.demands.specs.Gathering.{TakesApplying}
+use Rattle.demands.specs.Demand.{ApplyingDemands, Demand, Demands, HaveSameDemands, Together}
 use Rattle.demands.specs.Table.{HasExactPoints, IsTable, IsValidTable, TableDemands}
 use Rattle.demands.specs.Table.{TableParts}
-use Rattle.pep_table.proofs.JoinedDemands.{joined_is_table, own_table}
 use Rattle.pep_table.proofs.OneTableOfText.{one_table_of_text}
 use Rattle.pep_table.proofs.TableBytes.{table_utf8}
 use Rattle.faults.specs.declared.fault.Cause.{Cause}
@@ -29,9 +27,12 @@ use Rattle.inputs.specs.Lists.{HoldsTable, IsListBy, IsRequirementList, Lists, c
 use Rattle.inputs.specs.Lists.{requirement_lines}
 use Rattle.inputs.specs.Refusal.{IsOverflow, IsRefused, IsUndefinedList}
 use Rattle.inputs.specs.TableFiles.{IsRefusedTable, IsTableFile, by_encoding, by_size, by_text}
+use Rattle.inputs.specs.Wanted.{TakesWanted, Wanted}
 use Rattle.inputs.proofs.DefinedMarkers.{both_markers}
 use Rattle.inputs.proofs.ListLemmas.{line_of_list, refused_list}
 use Rattle.inputs.proofs.Projects.{one_project, refused_project, undefined_project}
+use Rattle.inputs.proofs.WantedDemands.{nothing_besides, part_joined, wanted_is_table}
+use Rattle.inputs.proofs.WantedDemands.{wanted_nothing, wanted_same}
 
 -- ---- refused inputs are not accepted
 
@@ -73,55 +74,58 @@ refused_table bytes c t (by_encoding size not is) file =
     not (table_utf8 t bytes file.valid file.text)
 refused_table bytes c t (by_text line size text none is) file = none t file.valid file.text
 
-pub refused_bytes : (e : EnvironmentParts) (k : Kind) (bytes : List ℕ) (c : Cause) → ¬ IsOverflow c →
-    IsRefused e k bytes c → ¬ AcceptsBytes e k bytes
-refused_bytes e kind.List bytes c told (inl h) (inl a) = refused_list bytes c a.0 told h a.1
-refused_bytes e kind.List bytes c told (inr h) (inl a) = undefined_list e bytes c a.0 h a.1 a.2
-refused_bytes e kind.List bytes c told h (inr a) = absurd a.1
-refused_bytes e kind.Project bytes c told (inl h) (inl a) =
-    refused_project (extra_in e) bytes c a.0 told h a.1
-refused_bytes e kind.Project bytes c told (inr h) (inl a) =
-    undefined_project e bytes c a.0 h a.1 a.2
-refused_bytes e kind.Project bytes c told h (inr a) = absurd a.1
-refused_bytes e kind.Table bytes c told h (inl a) = absurd a.1
-refused_bytes e kind.Table bytes c told h (inr a) = refused_table bytes c a.0 h a.1
+pub refused_bytes : (e : EnvironmentParts) (k : Kind) (group : Option (List ℕ)) (bytes : List ℕ)
+    (c : Cause) → ¬ IsOverflow c → IsRefused e k group bytes c → ¬ AcceptsBytes e k group bytes
+refused_bytes e kind.List group bytes c told (inl h) (inl a) = refused_list bytes c a.0 told h a.1
+refused_bytes e kind.List group bytes c told (inr h) (inl a) = undefined_list e bytes c a.0 h a.1 a.2
+refused_bytes e kind.List group bytes c told h (inr a) = absurd a.1
+refused_bytes e kind.Project group bytes c told (inl h) (inl a) =
+    refused_project (extra_in e) group bytes c a.0 told h a.1
+refused_bytes e kind.Project group bytes c told (inr h) (inl a) =
+    undefined_project e group bytes c a.0 h a.1 a.2
+refused_bytes e kind.Project group bytes c told h (inr a) = absurd a.1
+refused_bytes e kind.Table group bytes c told h (inl a) = absurd a.1
+refused_bytes e kind.Table group bytes c told h (inr a) = refused_table bytes c a.0 h a.1
 
 pub refused_in : (e : EnvironmentParts) (i : Input) (c : Cause) → ¬ IsOverflow c →
-    IsRefused e i.kind i.bytes.items c → ¬ IsAccepted e i
-refused_in e i c told h = refused_bytes e i.kind i.bytes.items c told h
+    IsRefused e i.kind i.group i.bytes.items c → ¬ IsAccepted e i
+refused_in e i c told h = refused_bytes e i.kind i.group i.bytes.items c told h
 
 -- ---- inputs that are taken are accepted
 
-pub defined_all : (e : EnvironmentParts) (old : TableParts) (rs : List RequirementParts)
-    (new : TableParts) → TakesApplying e old rs new → All (HasDefinedMarker e) rs
-defined_all e old [] new t = All-nil (HasDefinedMarker e)
-defined_all e old (r ∷ rs) new t =
-    All-cons (HasDefinedMarker e) r rs (t.1, t.2) (defined_all e t.0 rs new t.4)
+pub defined_all : (e : EnvironmentParts) (w : Option (List ℕ)) (old : TableParts)
+    (rs : List RequirementParts) (new : TableParts) → TakesWanted e w old rs new →
+    All (HasDefinedMarker e) rs
+defined_all e w old [] new t = All-nil (HasDefinedMarker e)
+defined_all e w old (r ∷ rs) new t =
+    All-cons (HasDefinedMarker e) r rs (t.1, t.2) (defined_all e w t.0 rs new t.4)
 
-pub all_accepted_in : (e : EnvironmentParts) (inputs : List Input) (old new : TableParts) →
-    GathersInputs e inputs old new → All (IsAccepted e) inputs
-all_accepted_in e [] old new g = All-nil (IsAccepted e)
-all_accepted_in e (i ∷ inputs) old new (mid, inl (rs, is, takes), more) =
-    All-cons (IsAccepted e) i inputs (inl (rs, is, defined_all e old rs mid takes))
-    (all_accepted_in e inputs mid new more)
-all_accepted_in e (i ∷ inputs) old new (mid, inr (t, is, joins), more) =
-    All-cons (IsAccepted e) i inputs (inr (t, is)) (all_accepted_in e inputs mid new more)
+pub all_accepted_in : (e : EnvironmentParts) (w : Option (List ℕ)) (inputs : List Input)
+    (old new : TableParts) → GathersInputs e w inputs old new → All (IsAccepted e) inputs
+all_accepted_in e w [] old new g = All-nil (IsAccepted e)
+all_accepted_in e w (i ∷ inputs) old new (mid, inl (rs, is, takes), more) =
+    All-cons (IsAccepted e) i inputs (inl (rs, is, defined_all e w old rs mid takes))
+    (all_accepted_in e w inputs mid new more)
+all_accepted_in e w (i ∷ inputs) old new (mid, inr (t, is, joins), more) =
+    All-cons (IsAccepted e) i inputs (inr (t, is)) (all_accepted_in e w inputs mid new more)
 
 -- ---- the table of what they demand
 
-pub one_list : (extra : List ℕ) (k : Kind) (bytes : List ℕ) (rs qs : List RequirementParts) →
-    Lists extra k bytes rs → Lists extra k bytes qs → rs ≡ qs
-one_list extra kind.List bytes rs qs h g =
+pub one_list : (extra : List ℕ) (k : Kind) (group : Option (List ℕ)) (bytes : List ℕ)
+    (rs qs : List RequirementParts) → Lists extra k group bytes rs → Lists extra k group bytes qs →
+    rs ≡ qs
+one_list extra kind.List group bytes rs qs h g =
     AllZip-one Reads one_requirement (requirement_lines bytes) rs qs h.requirements g.requirements
-one_list extra kind.Project bytes rs qs h g = one_project extra bytes rs qs h g
-one_list extra kind.Table bytes rs qs h g = absurd h
+one_list extra kind.Project group bytes rs qs h g = one_project extra group bytes rs qs h g
+one_list extra kind.Table group bytes rs qs h g = absurd h
 
 -- bytes that are requirements are no table
-apart : (extra : List ℕ) (k : Kind) (bytes : List ℕ) (rs : List RequirementParts)
-    (t : TableParts) → Lists extra k bytes rs → HoldsTable k bytes t → ⊥
-apart extra kind.List bytes rs t h g = g
-apart extra kind.Project bytes rs t h g = g
-apart extra kind.Table bytes rs t h g = h
+apart : (extra : List ℕ) (k : Kind) (group : Option (List ℕ)) (bytes : List ℕ)
+    (rs : List RequirementParts) (t : TableParts) → Lists extra k group bytes rs →
+    HoldsTable k bytes t → ⊥
+apart extra kind.List group bytes rs t h g = g
+apart extra kind.Project group bytes rs t h g = g
+apart extra kind.Table group bytes rs t h g = h
 
 pub one_table_in : (k : Kind) (bytes : List ℕ) (s t : TableParts) → HoldsTable k bytes s →
     HoldsTable k bytes t → s ≡ t
@@ -134,29 +138,30 @@ holds_valid kind.List bytes t h = absurd h
 holds_valid kind.Project bytes t h = absurd h
 holds_valid kind.Table bytes t h = h.valid
 
-pub bytes_demand_in : (e : EnvironmentParts) (k : Kind) (bytes : List ℕ) (rs : List RequirementParts)
-    (name : List ℕ) (d : Demand) → Lists (extra_in e) k bytes rs →
-    ApplyingDemands e rs name d ↔ BytesDemand e k bytes name d
-bytes_demand_in e k bytes rs name d is = (λ h. inl (rs, is, h), back)
+pub bytes_demand_in : (e : EnvironmentParts) (k : Kind) (group : Option (List ℕ)) (bytes : List ℕ)
+    (rs : List RequirementParts) (name : List ℕ) (d : Demand) →
+    Lists (extra_in e) k group bytes rs →
+    ApplyingDemands e rs name d ↔ BytesDemand e k group bytes name d
+bytes_demand_in e k group bytes rs name d is = (λ h. inl (rs, is, h), back)
   where
-    back : BytesDemand e k bytes name d → ApplyingDemands e rs name d
+    back : BytesDemand e k group bytes name d → ApplyingDemands e rs name d
     back (inl h) = subst (λ (qs : List RequirementParts). ApplyingDemands e qs name d)
-        (one_list (extra_in e) k bytes h.0 rs h.1 is) h.2
-    back (inr h) = absurd (apart (extra_in e) k bytes rs h.0 is h.1)
+        (one_list (extra_in e) k group bytes h.0 rs h.1 is) h.2
+    back (inr h) = absurd (apart (extra_in e) k group bytes rs h.0 is h.1)
 
-pub table_demands_in : (e : EnvironmentParts) (k : Kind) (bytes : List ℕ) (t : TableParts)
-    (name : List ℕ) (d : Demand) → HoldsTable k bytes t →
-    TableDemands t name d ↔ BytesDemand e k bytes name d
-table_demands_in e k bytes t name d is = (λ h. inr (t, is, h), back)
+pub table_demands_in : (e : EnvironmentParts) (k : Kind) (group : Option (List ℕ))
+    (bytes : List ℕ) (t : TableParts) (name : List ℕ) (d : Demand) → HoldsTable k bytes t →
+    TableDemands t name d ↔ BytesDemand e k group bytes name d
+table_demands_in e k group bytes t name d is = (λ h. inr (t, is, h), back)
   where
-    back : BytesDemand e k bytes name d → TableDemands t name d
-    back (inl h) = absurd (apart (extra_in e) k bytes h.0 t h.1 is)
+    back : BytesDemand e k group bytes name d → TableDemands t name d
+    back (inl h) = absurd (apart (extra_in e) k group bytes h.0 t h.1 is)
     back (inr h) = subst (λ (s : TableParts). TableDemands s name d)
         (one_table_in k bytes h.0 t h.1 is) h.2
 
 input_more : (e : EnvironmentParts) (Q : Demands) (i : Input) (inputs : List Input)
     (own : Demands) (name : List ℕ) (d : Demand) →
-    own name d ↔ BytesDemand e i.kind i.bytes.items name d →
+    own name d ↔ BytesDemand e i.kind i.group i.bytes.items name d →
     Together (Together Q own) (Gathered e inputs) name d
     ↔ Together Q (Gathered e (i ∷ inputs)) name d
 input_more e Q i inputs own name d same = (there, back)
@@ -173,36 +178,61 @@ input_more e Q i inputs own name d same = (there, back)
     back (inr (inl h)) = inl (inr (same.1 h))
     back (inr (inr h)) = inr h
 
-inputs_table : (e : EnvironmentParts) (Q : Demands) (inputs : List Input) (old new : TableParts) →
-    IsTable Q old → HasExactPoints Q old → GathersInputs e inputs old new →
-    IsTable (Together Q (Gathered e inputs)) new
-    × HasExactPoints (Together Q (Gathered e inputs)) new
-inputs_table e Q [] old new t p g =
-    same_demands Q (Together Q (Gathered e [])) new
-    (with_nothing Q (Gathered e []) (λ name d never. never)) (subst (IsTable Q) g t)
-    (subst (HasExactPoints Q) g p)
-inputs_table e Q (i ∷ inputs) old new t p (mid, inl (rs, is, takes), more) =
-    let own = ApplyingDemands e rs in
-    let one = applying_is_table e Q old rs mid t p takes in
-    let all = inputs_table e (Together Q own) inputs mid new one.0 one.1 more in
-    same_demands (Together (Together Q own) (Gathered e inputs))
-    (Together Q (Gathered e (i ∷ inputs))) new
-    (λ name d. input_more e Q i inputs own name d
-    (bytes_demand_in e i.kind i.bytes.items rs name d is)) all.0 all.1
-inputs_table e Q (i ∷ inputs) old new t p (mid, inr (s, is, joins), more) =
-    let own = TableDemands s in
-    let exact = own_table s (holds_valid i.kind i.bytes.items s is) in
-    let one = joined_is_table Q own old s mid t p exact.0 exact.1 joins in
-    let all = inputs_table e (Together Q own) inputs mid new one.0 one.1 more in
-    same_demands (Together (Together Q own) (Gathered e inputs))
-    (Together Q (Gathered e (i ∷ inputs))) new
-    (λ name d. input_more e Q i inputs own name d
-    (table_demands_in e i.kind i.bytes.items s name d is)) all.0 all.1
+-- a part of what is demanded is what the first input demands
+first_joined : (e : EnvironmentParts) (w : Option (List ℕ)) (Q own : Demands) (i : Input)
+    (inputs : List Input) (new : TableParts) →
+    HaveSameDemands own (BytesDemand e i.kind i.group i.bytes.items) →
+    IsTable (Wanted w (Together (Together Q own) (Gathered e inputs))) new
+    × HasExactPoints (Wanted w (Together (Together Q own) (Gathered e inputs))) new →
+    IsTable (Wanted w (Together Q (Gathered e (i ∷ inputs)))) new
+    × HasExactPoints (Wanted w (Together Q (Gathered e (i ∷ inputs)))) new
+first_joined e w Q own i inputs new demands all =
+    let both = Together (Together Q own) (Gathered e inputs) in
+    let same = Together Q (Gathered e (i ∷ inputs)) in
+    same_demands (Wanted w both) (Wanted w same) new
+    (wanted_same w both same (λ name d. input_more e Q i inputs own name d (demands name d)))
+    all.0 all.1
 
--- the table of all that the inputs demand
+inputs_table : (e : EnvironmentParts) (w : Option (List ℕ)) (Q : Demands) (inputs : List Input)
+    (old new : TableParts) → IsTable (Wanted w Q) old → HasExactPoints (Wanted w Q) old →
+    GathersInputs e w inputs old new →
+    IsTable (Wanted w (Together Q (Gathered e inputs))) new
+    × HasExactPoints (Wanted w (Together Q (Gathered e inputs))) new
+inputs_table e w Q [] old new t p g =
+    let more = Together Q (Gathered e []) in
+    same_demands (Wanted w Q) (Wanted w more) new
+    (wanted_same w Q more (with_nothing Q (Gathered e []) (λ name d never. never)))
+    (subst (IsTable (Wanted w Q)) g t) (subst (HasExactPoints (Wanted w Q)) g p)
+inputs_table e w Q (i ∷ inputs) old new t p (mid, inl (rs, is, takes), more) =
+    let own = ApplyingDemands e rs in
+    let one = wanted_is_table e w Q old rs mid t p takes in
+    first_joined e w Q own i inputs new
+    (λ name d. bytes_demand_in e i.kind i.group i.bytes.items rs name d is)
+    (inputs_table e w (Together Q own) inputs mid new one.0 one.1 more)
+inputs_table e w Q (i ∷ inputs) old new t p (mid, inr (s, is, joins), more) =
+    let own = TableDemands s in
+    let one = part_joined w Q old s mid (holds_valid i.kind i.bytes.items s is) t p joins in
+    first_joined e w Q own i inputs new
+    (λ name d. table_demands_in e i.kind i.group i.bytes.items s name d is)
+    (inputs_table e w (Together Q own) inputs mid new one.0 one.1 more)
+
+-- the table of what counts of all that the inputs demand
+pub wanted_table : (e : EnvironmentParts) (w : Option (List ℕ)) (inputs : List Input)
+    (new : TableParts) → GathersInputs e w inputs [] new →
+    IsTable (Wanted w (Gathered e inputs)) new × HasExactPoints (Wanted w (Gathered e inputs)) new
+wanted_table e w inputs new g =
+    let none : Demands = λ name d. ⊥ in
+    let start = wanted_nothing w in
+    let all = inputs_table e w none inputs [] new start.0 start.1 g in
+    same_demands (Wanted w (Together none (Gathered e inputs))) (Wanted w (Gathered e inputs)) new
+    (wanted_same w (Together none (Gathered e inputs)) (Gathered e inputs)
+    (nothing_besides (Gathered e inputs))) all.0 all.1
+
+-- the table of all that they demand
 pub gathered_table : (e : EnvironmentParts) (inputs : List Input) (new : TableParts) →
-    GathersInputs e inputs [] new →
+    GathersInputs e None inputs [] new →
     IsTable (Gathered e inputs) new × HasExactPoints (Gathered e inputs) new
 gathered_table e inputs new g =
-    let all = inputs_table e (λ name d. ⊥) inputs [] new no_demands.0 no_demands.1 g in
-    of_nothing (Gathered e inputs) new all.0 all.1
+    let all = wanted_table e None inputs new g in
+    same_demands (Wanted None (Gathered e inputs)) (Gathered e inputs) new
+    (λ name d. ((λ q. q.1), λ q. (refl, q))) all.0 all.1

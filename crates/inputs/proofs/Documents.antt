@@ -3,13 +3,17 @@ use Rattle.std.proofs.Common.{◌≡◌, ◌≤◌, ◌<◌, ℕ, ◌+◌, List,
 use Rattle.std.proofs.Common.{None, Result, Ok, Err, IfOk, IfErr, IsUtf8, Bool, true, false, nat_lt}
 use Rattle.std.proofs.Common.{refl}
 use Rattle.std.proofs.Common.{◌⊎◌, Global, Vec, option_map, inl, inr, arith, ap, sym, ◌∙◌, map}
-use Rattle.std.proofs.Common.{take, drop, get_or, Bor}
+use Rattle.std.proofs.Common.{take, drop, get_or, Bor, BTreeMap, String, string_bytes, nat_cmp}
 use Rattle.std.proofs.lemmas.List.{map-append}
+use Rattle.std.specs.BTreeMap.{is_at}
+use Rattle.std.specs.Cmp.Lexicographic.{slice_cmp}
+use Rattle.std.specs.Map.{lookup}
 use Rattle.std.specs.Str.{is_utf8}
 use Rattle.std.proofs.lemmas.Str.{IsUtf8-from_is_utf8, is_utf8-from_IsUtf8}
 use Rattle.pep_table.proofs.FirstFault.{next_mapped}
 use Rattle.toml.specs.Data.{Data, Members, as_str, get_member}
-use Rattle.toml.specs.View.{items_of, items_view, view}
+use Rattle.toml.proofs.Views.{table_get}
+use Rattle.toml.specs.View.{items_of, items_view, table_view, view}
 use Rattle.toml.specs.declared.value.Value.{Value}
 use Rattle.toml.specs.Parse.{parse_document}
 use Rattle.faults.specs.declared.fault.Cause.{Cause}
@@ -101,36 +105,45 @@ text_missing values k v is lt e =
 
 -- ---- the array at a key
 
--- what the map of a table gives at a key
-abbrev Finds : List ℕ → Members → Option (Bor Value) → Type 0
-Finds key ms r = option_map (λ v. view v.now) r ≡ get_member key ms
+-- what `get` of a table tells of what it found
+abbrev Finds : List ℕ → BTreeMap (String Global) Value → Option (Bor Value) → Type 0
+Finds key m r =
+    option_map (λ v. v.now) r ≡ lookup (is_at (λ k. slice_cmp nat_cmp key (string_bytes k))) m.entries
 
-pub at_key : (key : List ℕ) (ms : Members) (r : Option (Bor Value)) (v : Bor Value) →
-    r ≡ Some v → Finds key ms r → get_member key ms ≡ Some (view v.now)
-at_key key ms r v is found = sym found ∙ ap (option_map (λ x. view x.now)) is
+at_any_key : (key : List ℕ) (m : BTreeMap (String Global) Value) (r o : Option (Bor Value)) →
+    r ≡ o → Finds key m r → get_member key (table_view m) ≡ option_map (λ v. view v.now) o
+at_any_key key m r o is found =
+    sym (table_get r key m.entries found) ∙ ap (option_map (λ v. view v.now)) is
 
-pub at_no_key : (key : List ℕ) (ms : Members) (r : Option (Bor Value)) → r ≡ None →
-    Finds key ms r → get_member key ms ≡ None
-at_no_key key ms r is found = sym found ∙ ap (option_map (λ x. view x.now)) is
+pub at_key : (key : List ℕ) (m : BTreeMap (String Global) Value) (r : Option (Bor Value))
+    (v : Bor Value) → r ≡ Some v → Finds key m r →
+    get_member key (table_view m) ≡ Some (view v.now)
+at_key key m r v is found = at_any_key key m r (Some v) is found
 
-pub texts_at-ok : (key : List ℕ) (ms : Members) (t : Result (Vec (Bor (List ℕ)) Global) Cause)
-    (r : Option (Bor Value)) (v : Bor Value) → r ≡ Some v → Finds key ms r →
+pub at_no_key : (key : List ℕ) (m : BTreeMap (String Global) Value) (r : Option (Bor Value)) →
+    r ≡ None → Finds key m r → get_member key (table_view m) ≡ None
+at_no_key key m r is found = at_any_key key m r None is found
+
+pub texts_at-ok : (key : List ℕ) (m : BTreeMap (String Global) Value)
+    (t : Result (Vec (Bor (List ℕ)) Global) Cause) (r : Option (Bor Value)) (v : Bor Value) →
+    r ≡ Some v → Finds key m r →
     IfOk t (λ texts. texts_of (view v.now) ≡ Some (lent_texts texts.items)) →
-    IfOk t (λ texts. texts_at key ms ≡ Ok (lent_texts texts.items))
-texts_at-ok key ms (Ok texts) r v is found h = rw (at_key key ms r v is found, h) refl
-texts_at-ok key ms (Err c) r v is found h = tt
+    IfOk t (λ texts. texts_at key (table_view m) ≡ Ok (lent_texts texts.items))
+texts_at-ok key m (Ok texts) r v is found h = rw (at_key key m r v is found, h) refl
+texts_at-ok key m (Err c) r v is found h = tt
 
-pub texts_at-refused : (key : List ℕ) (ms : Members) (t : Result (Vec (Bor (List ℕ)) Global) Cause)
-    (r : Option (Bor Value)) (v : Bor Value) → r ≡ Some v → Finds key ms r →
+pub texts_at-refused : (key : List ℕ) (m : BTreeMap (String Global) Value)
+    (t : Result (Vec (Bor (List ℕ)) Global) Cause) (r : Option (Bor Value)) (v : Bor Value) →
+    r ≡ Some v → Finds key m r →
     IfErr t (λ c. (c ≡ cause.NoMemory) ⊎ ((c ≡ cause.WrongShape)
     × (texts_of (view v.now) ≡ None))) →
-    IfErr t (λ c. (c ≡ cause.NoMemory) ⊎ (texts_at key ms ≡ Err c))
-texts_at-refused key ms (Ok texts) r v is found h = tt
-texts_at-refused key ms (Err c) r v is found (inl memory) = inl memory
-texts_at-refused key ms (Err c) r v is found (inr h) =
-    inr (rw (at_key key ms r v is found, h.1, h.0) refl)
+    IfErr t (λ c. (c ≡ cause.NoMemory) ⊎ (texts_at key (table_view m) ≡ Err c))
+texts_at-refused key m (Ok texts) r v is found h = tt
+texts_at-refused key m (Err c) r v is found (inl memory) = inl memory
+texts_at-refused key m (Err c) r v is found (inr h) =
+    inr (rw (at_key key m r v is found, h.1, h.0) refl)
 
-pub texts_at-missing : (key : List ℕ) (ms : Members) (r : Option (Bor Value))
-    (texts : List (Bor (List ℕ))) → r ≡ None → Finds key ms r → texts ≡ [] →
-    texts_at key ms ≡ Ok (lent_texts texts)
-texts_at-missing key ms r texts is found none = rw (at_no_key key ms r is found, none) refl
+pub texts_at-missing : (key : List ℕ) (m : BTreeMap (String Global) Value) (r : Option (Bor Value))
+    (texts : List (Bor (List ℕ))) → r ≡ None → Finds key m r → texts ≡ [] →
+    texts_at key (table_view m) ≡ Ok (lent_texts texts)
+texts_at-missing key m r texts is found none = rw (at_no_key key m r is found, none) refl

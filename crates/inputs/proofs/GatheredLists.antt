@@ -10,8 +10,6 @@ use Rattle.pep_marker.specs.declared.fault.MarkerFault.TheVariants as marker_fau
 use Rattle.pep_marker.specs.Environment.{EnvironmentParts, extra_in, value_at}
 use Rattle.pep_require.specs.Requirement.{HasUndefinedMarker, RequirementParts}
 use Rattle.pep_table.proofs.FirstFault.{next_mapped}
-use Rattle.pep_table.proofs.Taking.{all_taken}
-use Rattle.demands.specs.Gathering.{TakesApplying}
 use Rattle.demands.specs.Table.{TableParts}
 use Rattle.faults.specs.declared.fault.Cause.{Cause}
 use Rattle.faults.specs.declared.fault.Cause.TheVariants as cause
@@ -24,37 +22,39 @@ use Rattle.inputs.specs.GatheredLines.{GathersBytes, GathersInputs, RefusesAsInp
 use Rattle.inputs.specs.Lists.{IsProjectOf}
 use Rattle.inputs.specs.Refusal.{IsRefused, IsRefusedProject, IsUndefinedAt}
 use Rattle.inputs.specs.Refusal.{RefusesInputs, no_memory}
+use Rattle.inputs.specs.Wanted.{TakesWanted}
 use Rattle.inputs.proofs.AcceptedInputs.{refused_in}
 use Rattle.inputs.proofs.Placed.{placed}
 use Rattle.inputs.proofs.ReadTexts.{numbered, numbered_mapped}
+use Rattle.inputs.proofs.WantedDemands.{all_wanted}
 
 -- ---- inputs
 
-inputs_then : (e : EnvironmentParts) (inputs : List Input) (i : Input) (old mid new : TableParts) →
-    GathersInputs e inputs old mid → GathersBytes e i.kind i.bytes.items mid new →
-    GathersInputs e (inputs ++ i ∷ []) old new
-inputs_then e [] i old mid new g h =
-    (new, subst (λ (s : TableParts). GathersBytes e i.kind i.bytes.items s new) (sym g) h, refl)
-inputs_then e (j ∷ inputs) i old mid new g h =
-    (g.0, g.1, inputs_then e inputs i g.0 mid new g.2 h)
+inputs_then : (e : EnvironmentParts) (w : Option (List ℕ)) (inputs : List Input) (i : Input)
+    (old mid new : TableParts) → GathersInputs e w inputs old mid →
+    GathersBytes e w i.kind i.group i.bytes.items mid new → GathersInputs e w (inputs ++ i ∷ []) old new
+inputs_then e w [] i old mid new g h =
+    (new, subst (λ (s : TableParts). GathersBytes e w i.kind i.group i.bytes.items s new) (sym g) h, refl)
+inputs_then e w (j ∷ inputs) i old mid new g h =
+    (g.0, g.1, inputs_then e w inputs i g.0 mid new g.2 h)
 
-pub input_taken : (e : EnvironmentParts) (inputs : List Input) (k : ℕ) (i : Input)
-    (old mid new : TableParts) → k < length inputs → i ≡ get_or inputs k i →
-    GathersInputs e (take k inputs) old mid → GathersBytes e i.kind i.bytes.items mid new →
-    GathersInputs e (take (k + 1) inputs) old new
-input_taken e inputs k i old mid new lt is g h =
+pub input_taken : (e : EnvironmentParts) (w : Option (List ℕ)) (inputs : List Input) (k : ℕ)
+    (i : Input) (old mid new : TableParts) → k < length inputs → i ≡ get_or inputs k i →
+    GathersInputs e w (take k inputs) old mid → GathersBytes e w i.kind i.group i.bytes.items mid new →
+    GathersInputs e w (take (k + 1) inputs) old new
+input_taken e w inputs k i old mid new lt is g h =
     let more : take (k + 1) inputs ≡ take k inputs ++ i ∷ [] =
     take_more inputs k i lt ∙ ap (λ (j : Input). take k inputs ++ j ∷ []) (sym is) in
-    subst (λ (t : List Input). GathersInputs e t old new) (sym more)
-    (inputs_then e (take k inputs) i old mid new g h)
+    subst (λ (t : List Input). GathersInputs e w t old new) (sym more)
+    (inputs_then e w (take k inputs) i old mid new g h)
 
 -- the fault of an input
 pub input_blamed_in : (e : EnvironmentParts) (inputs : List Input) (k number : ℕ) (i : Input)
     (c : Cause) (f : Fault) → k < length inputs → i ≡ get_or inputs k i → number ≡ k →
-    RefusesAsInput e i.kind i.bytes.items c → f.cause ≡ c → (c ≡ cause.NoMemory → f ≡ no_memory) →
+    RefusesAsInput e i.kind i.group i.bytes.items c → f.cause ≡ c → (c ≡ cause.NoMemory → f ≡ no_memory) →
     (c ≢ cause.NoMemory → f.place ≡ place.Input (number + 1)) → RefusesInputs e inputs f
 input_blamed_in e inputs k number i c f lt is counted refuses same none at =
-    elim (placed (IsRefused e i.kind i.bytes.items) (place.Input (number + 1)) c f refuses same
+    elim (placed (IsRefused e i.kind i.group i.bytes.items) (place.Input (number + 1)) c f refuses same
     none at) [
       | inl memory ↦ inl memory
       | inr h ↦ inr (record {
@@ -70,14 +70,14 @@ input_blamed_in e inputs k number i c f lt is counted refuses same none at =
 -- ---- requirements of a project file
 
 pub requirement_taken : {A : Type 0} (parts : A → RequirementParts) (e : EnvironmentParts)
-    (rs : List A) (k : ℕ) (r : A) (old mid new : TableParts) → r ≡ get_or rs k r →
-    k < length rs → TakesApplying e old (map parts (take k rs)) mid →
-    TakesApplying e mid (parts r ∷ []) new →
-    TakesApplying e old (map parts (take (k + 1) rs)) new
-requirement_taken parts e rs k r old mid new is lt taken one =
-    subst (λ (qs : List RequirementParts). TakesApplying e old qs new)
+    (w : Option (List ℕ)) (rs : List A) (k : ℕ) (r : A) (old mid new : TableParts) →
+    r ≡ get_or rs k r → k < length rs → TakesWanted e w old (map parts (take k rs)) mid →
+    TakesWanted e w mid (parts r ∷ []) new →
+    TakesWanted e w old (map parts (take (k + 1) rs)) new
+requirement_taken parts e w rs k r old mid new is lt taken one =
+    subst (λ (qs : List RequirementParts). TakesWanted e w old qs new)
     (sym (next_mapped parts rs k r is lt))
-    (all_taken e old (map parts (take k rs)) mid (parts r ∷ []) new taken one)
+    (all_wanted e w old (map parts (take k rs)) mid (parts r ∷ []) new taken one)
 
 pub requirement_undefined : {A : Type 0} (parts : A → RequirementParts) (e : EnvironmentParts)
     (rs : List A) (k number : ℕ) (r : A) (c : Cause) → k < length rs → r ≡ get_or rs k r →
@@ -105,31 +105,33 @@ pub extra_of : (e : EnvironmentParts) (r : Option (Bor (List ℕ))) (d t : Bor (
 extra_of e (Some x) d t h is = ap (λ (b : Bor (List ℕ)). b.now) is ∙ same_Some x.now (extra_in e) h
 extra_of e None d t h is = cc h
 
-pub project_refuses_in : (e : EnvironmentParts) (extra bytes : List ℕ) (c : Cause) →
-    extra ≡ extra_in e → (c ≡ cause.NoMemory) ⊎ IsRefusedProject extra bytes c →
-    RefusesAsInput e kind.Project bytes c
-project_refuses_in e extra bytes c same (inl memory) = inl memory
-project_refuses_in e extra bytes c same (inr h) =
-    inr (inl (subst (λ x. IsRefusedProject x bytes c) same h))
+pub project_refuses_in : (e : EnvironmentParts) (extra : List ℕ) (group : Option (List ℕ))
+    (bytes : List ℕ) (c : Cause) → extra ≡ extra_in e →
+    (c ≡ cause.NoMemory) ⊎ IsRefusedProject extra group bytes c →
+    RefusesAsInput e kind.Project group bytes c
+project_refuses_in e extra group bytes c same (inl memory) = inl memory
+project_refuses_in e extra group bytes c same (inr h) =
+    inr (inl (subst (λ x. IsRefusedProject x group bytes c) same h))
 
-module _ (e : EnvironmentParts) (extra bytes : List ℕ) (rs given : List RequirementParts)
-    (same : extra ≡ extra_in e) (all : given ≡ rs) (is : IsProjectOf extra bytes rs) where
-  pub project_taken : (old : TableParts) (r : Result TableParts Cause) →
-      IfOk r (TakesApplying e old given) → IfOk r (GathersBytes e kind.Project bytes old)
-  project_taken old (Ok new) h = inl (
+module _ (e : EnvironmentParts) (extra : List ℕ) (group : Option (List ℕ)) (bytes : List ℕ)
+    (rs given : List RequirementParts) (same : extra ≡ extra_in e) (all : given ≡ rs)
+    (is : IsProjectOf extra group bytes rs) where
+  pub project_taken : (w : Option (List ℕ)) (old : TableParts) (r : Result TableParts Cause) →
+      IfOk r (TakesWanted e w old given) → IfOk r (GathersBytes e w kind.Project group bytes old)
+  project_taken w old (Ok new) h = inl (
     rs,
-    subst (λ x. IsProjectOf x bytes rs) same is,
-    subst (λ qs. TakesApplying e old qs new) all h,
+    subst (λ x. IsProjectOf x group bytes rs) same is,
+    subst (λ qs. TakesWanted e w old qs new) all h,
   )
-  project_taken old (Err c) h = tt
+  project_taken w old (Err c) h = tt
 
   pub project_undefined : (r : Result TableParts Cause) →
       IfErr r (λ c. (c ≡ cause.NoMemory) ⊎ IsUndefinedAt e given c) →
-      IfErr r (RefusesAsInput e kind.Project bytes)
+      IfErr r (RefusesAsInput e kind.Project group bytes)
   project_undefined (Ok new) h = tt
   project_undefined (Err c) (inl memory) = inl memory
   project_undefined (Err c) (inr h) = inr (inr (
     rs,
-    subst (λ x. IsProjectOf x bytes rs) same is,
+    subst (λ x. IsProjectOf x group bytes rs) same is,
     subst (λ qs. IsUndefinedAt e qs c) all h,
   ))

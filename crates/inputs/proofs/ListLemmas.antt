@@ -1,12 +1,9 @@
 -- The lines of a list, and what they give.
-use Rattle.std.proofs.Common.{◌≡◌, ◌≢◌, ℕ, suc, ◌+◌, ◌<◌, ◌≤◌, ◌==◌, ◌⊎◌, Bool, true, cond}
+use Rattle.std.proofs.Common.{◌≡◌, ◌≢◌, ℕ, ◌<◌, ◌≤◌, ◌⊎◌}
 use Rattle.std.proofs.Common.{false, not, List, [], ◌∷◌, ◌++◌, length, length-append, map, refl}
-use Rattle.std.proofs.Common.{sym, ap, subst, ◌∙◌, arith, inl, inr}
-use Rattle.std.proofs.Common.{Option, Some, None}
-use Rattle.std.specs.Borrow.{Bor}
-use Rattle.std.specs.Prelude.{IfSome, IsSome, slice_index_or, filter, IsUtf8}
-use Rattle.std.specs.List.{AllZip, onto_first}
-use Rattle.std.proofs.lemmas.Bool.{cases_lt}
+use Rattle.std.proofs.Common.{ap, subst, ◌∙◌, arith, inl, inr}
+use Rattle.std.specs.Prelude.{slice_index_or, filter, IsUtf8}
+use Rattle.std.specs.List.{AllZip}
 use Rattle.std.proofs.lemmas.List.{map-append}
 use Rattle.std.proofs.lemmas.List.Elements.{filter-append}
 use Rattle.pep_require.specs.Reads.{Reads}
@@ -20,12 +17,10 @@ use Rattle.faults.specs.declared.fault.LineFault.{LineFault}
 use Rattle.faults.specs.declared.fault.LineFault.TheVariants as line_fault
 use Rattle.pep_require.proofs.LineLaws.{refused_is_not_read}
 use Rattle.inputs.specs.Lists.{IsListBy, IsRequirementList, content}
-use Rattle.texts.specs.Limits.{input_limit}
 use Rattle.inputs.specs.Lists.{is_skipped, lines_of, requirement_lines, requirements_among}
-use Rattle.inputs.specs.Refusal.{IsNumbered, IsOverflow, IsRefusedLine, IsRefusedList}
+use Rattle.inputs.specs.Refusal.{IsOverflow, IsRefusedLine, IsRefusedList}
 use Rattle.inputs.specs.Refusal.{by_content, by_encoding, by_length, by_line, by_size}
 use Rattle.inputs.specs.Streams.{IsGoodLine}
-use Rattle.texts.specs.Split.{left_parts}
 
 -- ---- a line of a list
 

@@ -2,9 +2,11 @@
 use Rattle.std.proofs.Common.{ℕ, List, Option, Some, None, Result, Ok, Err, IfOk}
 use Rattle.std.specs.Prelude.{All, IfSome}
 use Rattle.pep_marker.specs.Environment.{EnvironmentParts}
-use Rattle.demands.proofs.Verdicts.{verdict_of_demands}
+use Rattle.demands.proofs.OwnEntry.{own_entry}
+use Rattle.demands.proofs.Verdicts.{verdict_between}
 use Rattle.demands.specs.Demand.{Demand, Demands}
-use Rattle.demands.specs.Table.{EntryParts, HasExactPoints, IsEntry, IsTable, IsValidEntry}
+use Rattle.demands.specs.Table.{EntryDemands, EntryParts, HasExactPoints, IsEntry, IsTable}
+use Rattle.demands.specs.Table.{IsValidEntry}
 use Rattle.demands.specs.Table.{TableParts, entry_at}
 use Rattle.pep_table.specs.TableLaws.{entry_valid}
 use Rattle.pep_table.specs.TableText.{IsTableText, Shows}
@@ -17,7 +19,8 @@ use Rattle.inputs.specs.Merge.{IsMerge, ShowsVerdicts}
 shown : (Q : Demand → Type 0) (o : Option EntryParts) → IfSome o IsValidEntry →
     IfSome o (IsEntry Q) → IfSome o (λ e. (w : Verdict) → Shows e w → IsVerdict Q w)
 shown Q None valid h = tt
-shown Q (Some e) valid h = λ w shows. verdict_of_demands Q e w valid h shows
+shown Q (Some e) valid h =
+    λ w shows. verdict_between (EntryDemands e) Q e w valid (own_entry e) h shows
 
 -- a table shows the verdicts on the demands of which it is the table
 pub shows_verdicts : (Q : Demands) (t : TableParts) → IsTable Q t → ShowsVerdicts Q t

@@ -16,7 +16,7 @@ use Rattle.faults.specs.declared.fault.LineFault.TheVariants as line_fault
 use Rattle.inputs.specs.LineReading.{IsCauseOf, IsHeld, RefusesEnded, RefusesHeld, RefusesLineBytes}
 use Rattle.inputs.specs.LineReading.{RefusesList, RefusesPiece}
 use Rattle.inputs.specs.Lists.{lines_of}
-use Rattle.inputs.specs.Refusal.{IsNumbered, IsRefusedList, by_length, by_line, by_size}
+use Rattle.inputs.specs.Refusal.{IsNumbered, by_length, by_line, by_size}
 use Rattle.inputs.proofs.ListLemmas.{line_known}
 
 -- ---- the lines of a text that goes on

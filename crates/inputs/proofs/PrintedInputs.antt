@@ -125,12 +125,12 @@ gathered_both e (i ∷ a) b name d = further (gathered_both e a b name d)
         back (inl (inr q)) = inr (more.1 (inl q))
         back (inr w) = inr (more.1 (inr w))
 
-table_size : (e : EnvironmentParts) (k : Kind) (bytes : List ℕ) → k ≡ kind.Table →
-    AcceptsBytes e k bytes → length bytes ≤ input_limit
-table_size e kind.List bytes same h = cc same
-table_size e kind.Project bytes same h = cc same
-table_size e kind.Table bytes same (inl h) = absurd h.1
-table_size e kind.Table bytes same (inr h) = h.1.size
+table_size : (e : EnvironmentParts) (k : Kind) (group : Option (List ℕ)) (bytes : List ℕ) →
+    k ≡ kind.Table → AcceptsBytes e k group bytes → length bytes ≤ input_limit
+table_size e kind.List group bytes same h = cc same
+table_size e kind.Project group bytes same h = cc same
+table_size e kind.Table group bytes same (inl h) = absurd h.1
+table_size e kind.Table group bytes same (inr h) = h.1.size
 
 pub printed_in_place : (e : EnvironmentParts) (a b : List Input) (i : Input) (x y z : List ℕ) →
     IsMerge e a x → i.kind ≡ kind.Table → i.bytes.items ≡ x → IsMerge e (i ∷ b) y →
@@ -142,7 +142,7 @@ printed_in_place e a b i x y z m same text n l =
     let W = Gathered e b in
     let file : HoldsTable i.kind i.bytes.items s =
     subst (λ k. HoldsTable k i.bytes.items s) (sym same) (record {
-      size = table_size e i.kind i.bytes.items same (All-head (IsAccepted e) i b n.accepted);
+      size = table_size e i.kind i.group i.bytes.items same (All-head (IsAccepted e) i b n.accepted);
       valid = m.is_table.valid;
       text = subst (IsTableText s) (sym text) m.text;
     }) in
@@ -150,9 +150,9 @@ printed_in_place e a b i x y z m same text n l =
     let at_once = same_demands (Gathered e (a ++ b)) (Together Q W) l.table (gathered_both e a b)
     l.is_table l.points in
     let with = same_demands (Gathered e (i ∷ b)) (Together P W) n.table
-    (λ name d. first_turned (table_demands_in e i.kind i.bytes.items s name d file)) n.is_table
+    (λ name d. first_turned (table_demands_in e i.kind i.group i.bytes.items s name d file)) n.is_table
     n.points in
     let swapped =
     replaced Q P W s l.table m.is_table m.points own.0 own.1 at_once.0 at_once.1 in
-    one_text (Together P W) (Together P W) n.table l.table y z (λ name d. keep) with.0 with.1
-    swapped.0 swapped.1 n.text l.text
+    one_text (Together P W) (Together P W) n.table l.table y z (λ name d. keep) with.0
+    swapped.0 n.text l.text

@@ -29,7 +29,7 @@ or_true : (b : Bool) {c : Bool} → c ≡ true → (b || c) ≡ true
 or_true true e = refl
 or_true false e = e
 
-or_turned : (b c : Bool) → (b || c) ≡ (c || (b || false))
+pub or_turned : (b c : Bool) → (b || c) ≡ (c || (b || false))
 or_turned true true = refl
 or_turned true false = refl
 or_turned false true = refl
@@ -115,16 +115,16 @@ has_last name q own done =
     or_turned (bytes_eq name q) (has_extra q done)
     ∙ sym (list_any-append (λ g. bytes_eq g.0 q) done ((name, own) ∷ []))
 
-nothing_there : (name : List ℕ) (done : List Extra) → has_extra name done ≡ false →
-    find (λ g. bytes_eq g.0 name) done ≡ None
-nothing_there name [] e = refl
-nothing_there name (g ∷ done) e =
-    let (here, more) = neither (bytes_eq g.0 name) (has_extra name done) e in
-    rw here (nothing_there name done more)
+-- where no element passes a test, none is found
+pub nothing_found : {X : Type 0} (p : X → Bool) (xs : List X) → list_any p xs ≡ false →
+    find p xs ≡ None
+nothing_found p [] e = refl
+nothing_found p (x ∷ xs) e =
+    let (here, more) = neither (p x) (list_any p xs) e in rw here (nothing_found p xs more)
 
-or_nothing : (o : Option Extra) → option_or o None ≡ o
-or_nothing (Some g) = refl
+pub or_nothing : {X : Type 0} (o : Option X) → option_or o None ≡ o
 or_nothing None = refl
+or_nothing (Some x) = refl
 
 texts_last : (name wanted : List ℕ) (own texts : List (List ℕ)) (done : List Extra) →
     has_extra name done ≡ false → texts ≡ unwrap_or (extra_at wanted done) [] →
@@ -146,7 +146,7 @@ texts_last name wanted own texts done none found =
     by true e same =
         rw (
           all,
-          nothing_there wanted done
+          nothing_found (λ (h : Extra). bytes_eq h.0 wanted) done
               (subst (λ n. has_extra n done ≡ false) (same.0 refl) none),
           e,
         ) refl

@@ -1,10 +1,12 @@
 -- The texts of a project file, and how they are read.
 use Rattle.std.proofs.Common.{◌≡◌, ◌≢◌, ◌⊎◌, ◌∙◌, ℕ, ◌+◌, ◌<◌, List, [], length, get_or, Bor}
 use Rattle.std.proofs.Common.{◌++◌, bytes_eq, refl, inl, inr, ap, sym, subst, codes, Global, Vec}
-use Rattle.std.proofs.Common.{Some, None, Result, Ok, Err, IfOk, IfErr, Bool, ◌||◌, ◌∷◌, map}
-use Rattle.std.specs.List.{list_any}
+use Rattle.std.proofs.Common.{Option, Some, None, Result, Ok, Err, IfOk, IfErr, Bool, ◌||◌, ◌∷◌, map}
+use Rattle.std.specs.List.{AllZip, list_any}
 use Rattle.std.proofs.lemmas.List.{get_or_default}
 use Rattle.pep_require.specs.LineParts.{RefusesLine}
+use Rattle.pep_require.specs.Reads.{Reads}
+use Rattle.pep_require.specs.Requirement.{RequirementParts}
 use Rattle.pep_require.specs.declared.fault.RequireFault.{RequireFault}
 use Rattle.pep_require.specs.declared.fault.RequireFault.TheVariants as require
 use Rattle.faults.specs.declared.fault.Cause.{Cause}
@@ -13,16 +15,18 @@ use Rattle.faults.specs.declared.fault.LineFault.TheVariants as line_fault
 use Rattle.toml.specs.Data.{Data, Members, as_table, get_member}
 use Rattle.pep_marker.specs.Name.{normalized}
 use Rattle.inputs.specs.Document.{document_of, required, texts_at}
-use Rattle.inputs.specs.Project.{checks_dynamic, extras_at, extras_of, has_text, project_file}
+use Rattle.inputs.specs.Project.{checks_dynamic, extras_at, extras_of, has_text}
 use Rattle.inputs.specs.Project.{project_texts}
 use Rattle.inputs.specs.ProjectExtras.{HasExtraTexts}
-use Rattle.inputs.specs.Refusal.{IsRefusedProject, IsRefusedText, by_text}
+use Rattle.inputs.specs.GroupWalk.{by_fault}
+use Rattle.inputs.specs.Lists.{AskedTexts, IsProjectOf, ProjectTexts}
+use Rattle.inputs.specs.Refusal.{IsRefusedProject, IsRefusedText, by_check, by_text}
 use Rattle.inputs.specs.Texts.{lent_texts}
 use Rattle.inputs.proofs.ListLemmas.{known}
 use Rattle.inputs.proofs.ReadTexts.{numbered, numbered_mapped}
 
 -- whether one of the images passes a test
-list_any-map : {X Y : Type 0} (p : Y → Bool) (f : X → Y) (xs : List X) →
+pub list_any-map : {X Y : Type 0} (p : Y → Bool) (f : X → Y) (xs : List X) →
     list_any (λ x. p (f x)) xs ≡ list_any p (map f xs)
 list_any-map p f [] = refl
 list_any-map p f (x ∷ xs) = ap (λ b. p (f x) || b) (list_any-map p f xs)
@@ -137,18 +141,60 @@ extras_refused key ms extras d (Err c) found e (inr h) =
 
 -- ---- refusals one after the other
 
-project_file-ok : (extra bytes : List ℕ) (document : Members) (texts : List (List ℕ)) →
-    document_of bytes ≡ Ok document → project_texts extra document ≡ Ok texts →
-    project_file extra bytes ≡ Ok texts
-project_file-ok extra bytes document texts e f = rw (e, f) refl
+-- what a document is asked for is what its bytes are
+asked_of : (extra : List ℕ) (group : Option (List ℕ)) (bytes : List ℕ) (document : Members)
+    (r : Result (List (List ℕ)) Cause) → document_of bytes ≡ Ok document →
+    AskedTexts extra group document r → ProjectTexts extra group bytes r
+asked_of extra None bytes document r e h = rw e h
+asked_of extra (Some group) bytes document r e h = rw e h
 
-pub texts_refused : {A : Type 0} (extra bytes : List ℕ) (document : Members)
-    (texts given : List (Bor (List ℕ))) (r : Result A Cause) → document_of bytes ≡ Ok document →
-    project_texts extra document ≡ Ok (lent_texts texts) → given ≡ texts →
-    IfErr r (λ c. (c ≡ cause.NoMemory) ⊎ IsRefusedText (lent_texts given) c) →
-    IfErr r (λ c. (c ≡ cause.NoMemory) ⊎ IsRefusedProject extra bytes c)
-texts_refused extra bytes document texts given (Ok x) e f same h = tt
-texts_refused extra bytes document texts given (Err c) e f same (inl memory) = inl memory
-texts_refused extra bytes document texts given (Err c) e f same (inr h) =
-    inr (by_text (lent_texts texts) (project_file-ok extra bytes document (lent_texts texts) e f)
-    (subst (λ l. IsRefusedText (lent_texts l) c) same h))
+no_document : (extra : List ℕ) (group : Option (List ℕ)) (bytes : List ℕ) (c : Cause) →
+    document_of bytes ≡ Err c → ProjectTexts extra group bytes (Err c)
+no_document extra None bytes c e = rw e refl
+no_document extra (Some group) bytes c e = rw e (by_fault c refl refl)
+
+pub document_refused : (extra : List ℕ) (group : Option (List ℕ)) (bytes : List ℕ) (c : Cause) →
+    (c ≡ cause.NoMemory) ⊎ (document_of bytes ≡ Err c) →
+    (c ≡ cause.NoMemory) ⊎ IsRefusedProject extra group bytes c
+document_refused extra group bytes c (inl memory) = inl memory
+document_refused extra group bytes c (inr h) = inr (by_check (no_document extra group bytes c h))
+
+pub asked_refused : (extra : List ℕ) (group : Option (List ℕ)) (bytes : List ℕ)
+    (document : Members) (c : Cause) → document_of bytes ≡ Ok document →
+    (c ≡ cause.NoMemory) ⊎ AskedTexts extra group document (Err c) →
+    (c ≡ cause.NoMemory) ⊎ IsRefusedProject extra group bytes c
+asked_refused extra group bytes document c e (inl memory) = inl memory
+asked_refused extra group bytes document c e (inr h) =
+    inr (by_check (asked_of extra group bytes document (Err c) e h))
+
+module _ {A : Type 0} (extra : List ℕ) (group : Option (List ℕ)) (bytes : List ℕ)
+    (document : Members) (texts given : List (Bor (List ℕ))) (r : Result A Cause)
+    (e : document_of bytes ≡ Ok document)
+    (f : AskedTexts extra group document (Ok (lent_texts texts))) (same : given ≡ texts) where
+  pub texts_read : (parts : A → List RequirementParts) →
+      IfOk r (λ rs. AllZip Reads (lent_texts given) (parts rs)) →
+      IfOk r (λ rs. IsProjectOf extra group bytes (parts rs))
+  texts_read parts h = by r h
+    where
+      by : (q : Result A Cause) → IfOk q (λ rs. AllZip Reads (lent_texts given) (parts rs)) →
+          IfOk q (λ rs. IsProjectOf extra group bytes (parts rs))
+      by (Ok x) h = (
+        lent_texts texts,
+        asked_of extra group bytes document (Ok (lent_texts texts)) e f,
+        subst (λ l. AllZip Reads (lent_texts l) (parts x)) same h,
+      )
+      by (Err c) h = tt
+
+  pub texts_refused : IfErr r (λ c. (c ≡ cause.NoMemory) ⊎ IsRefusedText (lent_texts given) c) →
+      IfErr r (λ c. (c ≡ cause.NoMemory) ⊎ IsRefusedProject extra group bytes c)
+  texts_refused h = by r h
+    where
+      by : (q : Result A Cause) →
+          IfErr q (λ c. (c ≡ cause.NoMemory) ⊎ IsRefusedText (lent_texts given) c) →
+          IfErr q (λ c. (c ≡ cause.NoMemory) ⊎ IsRefusedProject extra group bytes c)
+      by (Ok x) h = tt
+      by (Err c) (inl memory) = inl memory
+      by (Err c) (inr h) =
+          inr (by_text (lent_texts texts)
+          (asked_of extra group bytes document (Ok (lent_texts texts)) e f)
+          (subst (λ l. IsRefusedText (lent_texts l) c) same h))

@@ -1,5 +1,5 @@
 -- Project files: a refused one has no requirements, and one has them once.
-use Rattle.std.proofs.Common.{◌≡◌, ℕ, List, ap, subst, sym, ◌∙◌}
+use Rattle.std.proofs.Common.{◌≡◌, ℕ, List, Option, Ok, Err, ap, subst, sym, ◌∙◌}
 use Rattle.std.specs.Prelude.{All}
 use Rattle.std.specs.List.{AllZip}
 use Rattle.std.proofs.lemmas.List.Elements.{All-contains}
@@ -14,24 +14,28 @@ use Rattle.faults.specs.declared.fault.LineFault.TheVariants as line_fault
 use Rattle.inputs.specs.Lists.{IsProjectOf}
 use Rattle.inputs.specs.Refusal.{IsOverflow, IsRefusedProject, IsUndefinedProject, by_check}
 use Rattle.inputs.specs.Refusal.{by_text}
+use Rattle.inputs.proofs.GroupEnds.{one_texts}
 use Rattle.inputs.proofs.ReadTexts.{numbered_in, zip_read}
 use Rattle.inputs.proofs.DefinedMarkers.{both_markers}
 
 -- ---- its requirements
 
-pub one_project : (extra bytes : List ℕ) (rs qs : List RequirementParts) →
-    IsProjectOf extra bytes rs → IsProjectOf extra bytes qs → rs ≡ qs
-one_project extra bytes rs qs h g =
-    let same : h.0 ≡ g.0 = cc (h.1, g.1) in
+pub one_project : (extra : List ℕ) (group : Option (List ℕ)) (bytes : List ℕ)
+    (rs qs : List RequirementParts) → IsProjectOf extra group bytes rs →
+    IsProjectOf extra group bytes qs → rs ≡ qs
+one_project extra group bytes rs qs h g =
+    let same : h.0 ≡ g.0 = cc (one_texts extra group bytes (Ok h.0) (Ok g.0) h.1 g.1) in
     AllZip-one Reads one_requirement g.0 rs qs
     (subst (λ (l : List (List ℕ)). AllZip Reads l rs) same h.2) g.2
 
 -- a project file that is refused has none
-pub refused_project : (extra bytes : List ℕ) (c : Cause) (rs : List RequirementParts) →
-    ¬ IsOverflow c → IsRefusedProject extra bytes c → IsProjectOf extra bytes rs → ⊥
-refused_project extra bytes c rs told (by_check e) h = cc (e, h.1)
-refused_project extra bytes c rs told (by_text texts e t) h =
-    let same : texts ≡ h.0 = cc (e, h.1) in
+pub refused_project : (extra : List ℕ) (group : Option (List ℕ)) (bytes : List ℕ) (c : Cause)
+    (rs : List RequirementParts) → ¬ IsOverflow c → IsRefusedProject extra group bytes c →
+    IsProjectOf extra group bytes rs → ⊥
+refused_project extra group bytes c rs told (by_check e) h =
+    cc (one_texts extra group bytes (Err c) (Ok h.0) e h.1)
+refused_project extra group bytes c rs told (by_text texts e t) h =
+    let same : texts ≡ h.0 = cc (one_texts extra group bytes (Ok texts) (Ok h.0) e h.1) in
     let zip = subst (λ (l : List (List ℕ)). AllZip Reads l rs) (sym same) h.2 in
     let read = zip_read texts rs t.text zip (numbered_in texts t.number t.text t.numbered) in
     refused_is_not_read t.text read.0 t.reason t.known
@@ -39,11 +43,11 @@ refused_project extra bytes c rs told (by_text texts e t) h =
     t.refuses read.2
 
 -- .. and one with an undefined marker has it
-pub undefined_project : (e : EnvironmentParts) (bytes : List ℕ) (c : Cause)
-    (rs : List RequirementParts) → IsUndefinedProject e bytes c → IsProjectOf (extra_in e) bytes rs →
-    All (HasDefinedMarker e) rs → ⊥
-undefined_project e bytes c rs (qs, is, at) h defined =
-    let same : rs ≡ qs = one_project (extra_in e) bytes rs qs h is in
+pub undefined_project : (e : EnvironmentParts) (group : Option (List ℕ)) (bytes : List ℕ)
+    (c : Cause) (rs : List RequirementParts) → IsUndefinedProject e group bytes c →
+    IsProjectOf (extra_in e) group bytes rs → All (HasDefinedMarker e) rs → ⊥
+undefined_project e group bytes c rs (qs, is, at) h defined =
+    let same : rs ≡ qs = one_project (extra_in e) group bytes rs qs h is in
     both_markers e at.requirement
     (All-contains (HasDefinedMarker e) qs at.requirement
     (subst (All (HasDefinedMarker e)) same defined)

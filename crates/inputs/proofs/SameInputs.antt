@@ -1,7 +1,6 @@
 -- Inputs that have the same requirements, or the same lines, demand the same.
-use Rattle.std.proofs.Common.{ℕ, ◌⊎◌, List, [], ◌∷◌, refl, sym, subst, inl, inr}
+use Rattle.std.proofs.Common.{◌≡◌, ℕ, ◌⊎◌, List, [], ◌∷◌, Option, Ok, refl, sym, subst, inl, inr}
 use Rattle.std.specs.Prelude.{All, Contains}
-use Rattle.std.specs.List.{AllZip}
 use Rattle.std.proofs.lemmas.List.Elements.{All-contains}
 use Rattle.pep_marker.specs.Environment.{EnvironmentParts, extra_in}
 use Rattle.pep_require.proofs.LineLaws.{one_requirement}
@@ -15,7 +14,8 @@ use Rattle.inputs.specs.declared.input.Kind.{Kind}
 use Rattle.inputs.specs.declared.input.Kind.TheVariants as kind
 use Rattle.inputs.specs.Gathered.{BytesDemand, Gathered, HasLine, HasRequirement, HaveSameLines}
 use Rattle.inputs.specs.Gathered.{AcceptsBytes, HasTable, HaveSameRequirements, IsAccepted}
-use Rattle.inputs.specs.Lists.{HoldsTable, Lists, input_texts}
+use Rattle.inputs.specs.Lists.{HoldsTable, IsInputText, Lists, requirement_lines}
+use Rattle.inputs.proofs.GroupEnds.{one_texts}
 use Rattle.inputs.proofs.ReadTexts.{zip_line, zip_read}
 
 -- ---- by requirements
@@ -45,11 +45,11 @@ demanded_by e (i ∷ inputs) name d (inr g) =
 
 -- .. and what one of them demands, the inputs do
 demands_of : (e : EnvironmentParts) (inputs : List Input) (i : Input) (name : List ℕ)
-    (d : Demand) → Contains inputs i → BytesDemand e i.kind i.bytes.items name d →
+    (d : Demand) → Contains inputs i → BytesDemand e i.kind i.group i.bytes.items name d →
     Gathered e inputs name d
 demands_of e [] i name d has q = absurd (in_none i has)
 demands_of e (j ∷ inputs) i name d has q = elim (in_either j inputs i has) [
-  | inl same ↦ inl (subst (λ (k : Input). BytesDemand e k.kind k.bytes.items name d) (sym same) q)
+  | inl same ↦ inl (subst (λ (k : Input). BytesDemand e k.kind k.group k.bytes.items name d) (sym same) q)
   | inr more ↦ inr (demands_of e inputs i name d more q)
 ]
 
@@ -75,18 +75,33 @@ same_requirements e a b same = λ name d. (
 
 -- ---- by lines
 
-lines_read : (extra : List ℕ) (k : Kind) (bytes : List ℕ) (rs : List RequirementParts) →
-    Lists extra k bytes rs → AllZip Reads (input_texts extra k bytes) rs
-lines_read extra kind.List bytes rs h = h.requirements
-lines_read extra kind.Project bytes rs h = rw h.1 h.2
-lines_read extra kind.Table bytes rs h = absurd h
+-- a text of an input is read as one of its requirements
+text_read : (extra : List ℕ) (k : Kind) (group : Option (List ℕ)) (bytes : List ℕ)
+    (rs : List RequirementParts) (x : List ℕ) → Lists extra k group bytes rs →
+    IsInputText extra k group bytes x → (r : RequirementParts) × Contains rs r × Reads x r
+text_read extra kind.List group bytes rs x h has =
+    zip_read (requirement_lines bytes) rs x h.requirements has
+text_read extra kind.Project group bytes rs x h has =
+    let same : has.0 ≡ h.0 = cc (one_texts extra group bytes (Ok has.0) (Ok h.0) has.1 h.1) in
+    zip_read h.0 rs x h.2 (subst (λ l. Contains l x) same has.2)
+text_read extra kind.Table group bytes rs x h has = absurd h
+
+-- .. and each requirement stands in one of its texts
+text_of : (extra : List ℕ) (k : Kind) (group : Option (List ℕ)) (bytes : List ℕ)
+    (rs : List RequirementParts) (r : RequirementParts) → Lists extra k group bytes rs →
+    Contains rs r → (x : List ℕ) × IsInputText extra k group bytes x × Reads x r
+text_of extra kind.List group bytes rs r h has =
+    zip_line (requirement_lines bytes) rs r h.requirements has
+text_of extra kind.Project group bytes rs r h has =
+    let found = zip_line h.0 rs r h.2 has in (found.0, (h.0, h.1, found.1), found.2)
+text_of extra kind.Table group bytes rs r h has = absurd h
 
 -- a table file has no lines of requirements
-no_texts : (extra : List ℕ) (k : Kind) (bytes : List ℕ) (t : TableParts) (x : List ℕ) →
-    HoldsTable k bytes t → Contains (input_texts extra k bytes) x → ⊥
-no_texts extra kind.List bytes t x is has = is
-no_texts extra kind.Project bytes t x is has = is
-no_texts extra kind.Table bytes t x is has = in_none x has
+no_texts : (extra : List ℕ) (k : Kind) (group : Option (List ℕ)) (bytes : List ℕ) (t : TableParts)
+    (x : List ℕ) → HoldsTable k bytes t → IsInputText extra k group bytes x → ⊥
+no_texts extra kind.List group bytes t x is has = is
+no_texts extra kind.Project group bytes t x is has = is
+no_texts extra kind.Table group bytes t x is has = has
 
 -- what one input has in a line, an accepted one with this line has too
 read_too : (e : EnvironmentParts) (b : List Input) (x : List ℕ) (r : RequirementParts) →
@@ -94,19 +109,17 @@ read_too : (e : EnvironmentParts) (b : List Input) (x : List ℕ) (r : Requireme
 read_too e b x r accepted (i, among, has) reads =
     by (All-contains (IsAccepted e) b i accepted among)
   where
-    by : AcceptsBytes e i.kind i.bytes.items → HasRequirement e b r
+    by : AcceptsBytes e i.kind i.group i.bytes.items → HasRequirement e b r
     by (inl (rs, is, defined)) =
-        let found = zip_read (input_texts (extra_in e) i.kind i.bytes.items) rs x
-        (lines_read (extra_in e) i.kind i.bytes.items rs is) has in
+        let found = text_read (extra_in e) i.kind i.group i.bytes.items rs x is has in
         (i, among, (rs, is, subst (Contains rs) (one_requirement x found.0 r found.2 reads) found.1))
-    by (inr (t, is)) = absurd (no_texts (extra_in e) i.kind i.bytes.items t x is has)
+    by (inr (t, is)) = absurd (no_texts (extra_in e) i.kind i.group i.bytes.items t x is has)
 
 requirement_too : (e : EnvironmentParts) (a b : List Input)
     (same : (x : List ℕ) → HasLine e a x → HasLine e b x) (r : RequirementParts) →
     All (IsAccepted e) b → HasRequirement e a r → HasRequirement e b r
 requirement_too e a b same r accepted (i, among, (rs, is, has)) =
-    let found = zip_line (input_texts (extra_in e) i.kind i.bytes.items) rs r
-    (lines_read (extra_in e) i.kind i.bytes.items rs is) has in
+    let found = text_of (extra_in e) i.kind i.group i.bytes.items rs r is has in
     read_too e b found.0 r accepted (same found.0 (i, among, found.1)) found.2
 
 pub same_lines : (e : EnvironmentParts) (a b : List Input) → All (IsAccepted e) a →

@@ -1,15 +1,13 @@
 -- What is taken of the texts of a list: its requirements, and what these demand in an environment.
 use Rattle.std.proofs.Common.{◌≡◌, ◌≢◌, ℕ, ◌⊎◌, List, [], ◌∷◌, ◌++◌, sym, ap, subst, ◌∙◌}
-use Rattle.std.proofs.Common.{inl, inr, append_assoc, append-nil}
+use Rattle.std.proofs.Common.{inl, inr, append_assoc, append-nil, Option, None}
 use Rattle.std.specs.List.{AllZip}
 use Rattle.pep_marker.specs.Environment.{EnvironmentParts}
 use Rattle.pep_require.specs.Reads.{Reads}
 use Rattle.pep_require.specs.LineParts.{RefusesLine}
 use Rattle.pep_require.specs.Requirement.{RequirementParts}
 use Rattle.pep_require.specs.declared.fault.RequireFault.TheVariants as require
-use Rattle.demands.specs.Gathering.{TakesApplying}
 use Rattle.demands.specs.Table.{TableParts}
-use Rattle.pep_table.proofs.Taking.{all_taken}
 use Rattle.faults.specs.declared.fault.Cause.{Cause}
 use Rattle.faults.specs.declared.fault.Cause.TheVariants as cause
 use Rattle.faults.specs.declared.fault.LineFault.{LineFault}
@@ -20,7 +18,9 @@ use Rattle.inputs.specs.LineReading.{RefusesList, RefusesTextOf, TakesInTurn, Ta
 use Rattle.inputs.specs.Lists.{IsRequirementList, requirement_lines}
 use Rattle.inputs.specs.Refusal.{IsRefusedLine, IsRefusedList, by_content, by_line}
 use Rattle.inputs.specs.TakenTexts.{AddsText, GathersText, RefusesText, RefusesTextIn}
+use Rattle.inputs.specs.Wanted.{TakesWanted}
 use Rattle.inputs.proofs.ListLemmas.{known, line_known}
+use Rattle.inputs.proofs.WantedDemands.{all_wanted}
 
 -- ---- requirements
 
@@ -77,12 +77,12 @@ list_refused bytes c (inr (inr h)) = refused_text bytes c h h.refused.refused
 
 -- .. in an environment
 pub list_refused_in : (e : EnvironmentParts) (bytes : List ℕ) (c : Cause) →
-    RefusesList (RefusesTextIn e) bytes c → RefusesAsInput e kind.List bytes c
+    RefusesList (RefusesTextIn e) bytes c → RefusesAsInput e kind.List None bytes c
 list_refused_in e bytes c (inl memory) = inl memory
 list_refused_in e bytes c (inr (inl h)) = inr (inl h)
 list_refused_in e bytes c (inr (inr h)) = by h.refused.refused
   where
-    by : RefusesTextIn e h.refused.text h.fault → RefusesAsInput e kind.List bytes c
+    by : RefusesTextIn e h.refused.text h.fault → RefusesAsInput e kind.List None bytes c
     by (inl refuses) = elim (refused_text bytes c h refuses) [
       | inl memory ↦ inl memory
       | inr refused ↦ inr (inl refused)
@@ -104,18 +104,19 @@ list_refused_in e bytes c (inr (inr h)) = by h.refused.refused
 
 -- ---- what they demand
 
-gathered_in_turn : (e : EnvironmentParts) (texts : List (List ℕ)) (old new : TableParts) →
-    TakesInTurn (GathersText e) texts old new →
-    (rs : List RequirementParts) × AllZip Reads texts rs × TakesApplying e old rs new
-gathered_in_turn e [] old new t = ([], tt, t)
-gathered_in_turn e (x ∷ texts) old new (mid, (r, reads, one), t) =
-    let more = gathered_in_turn e texts mid new t in
-    (r ∷ more.0, (reads, more.1), all_taken e old (r ∷ []) mid more.0 new one more.2)
+gathered_in_turn : (e : EnvironmentParts) (w : Option (List ℕ)) (texts : List (List ℕ))
+    (old new : TableParts) → TakesInTurn (GathersText e w) texts old new →
+    (rs : List RequirementParts) × AllZip Reads texts rs × TakesWanted e w old rs new
+gathered_in_turn e w [] old new t = ([], tt, t)
+gathered_in_turn e w (x ∷ texts) old new (mid, (r, reads, one), t) =
+    let more = gathered_in_turn e w texts mid new t in
+    (r ∷ more.0, (reads, more.1), all_wanted e w old (r ∷ []) mid more.0 new one more.2)
 
-pub list_gathered : (e : EnvironmentParts) (bytes : List ℕ) (old new : TableParts) →
-    TakesLines (GathersText e) bytes old new → GathersBytes e kind.List bytes old new
-list_gathered e bytes old new t =
-    let gathered = gathered_in_turn e (requirement_lines bytes) old new t.taken in
+pub list_gathered : (e : EnvironmentParts) (w : Option (List ℕ)) (bytes : List ℕ)
+    (old new : TableParts) → TakesLines (GathersText e w) bytes old new →
+    GathersBytes e w kind.List None bytes old new
+list_gathered e w bytes old new t =
+    let gathered = gathered_in_turn e w (requirement_lines bytes) old new t.taken in
     inl (
       gathered.0,
       record {

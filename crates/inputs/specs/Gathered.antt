@@ -1,42 +1,45 @@
 -- Which inputs are accepted in an environment, and what all of them demand there.
-use Rattle.std.specs.Prelude.{ℕ, ◌⊎◌, ◌↔◌, List, [], ◌∷◌, All, Contains}
+use Rattle.std.specs.Prelude.{ℕ, ◌⊎◌, ◌↔◌, List, [], ◌∷◌, Option, All, Contains}
 use Rattle.pep_marker.specs.Environment.{EnvironmentParts, extra_in}
 use Rattle.pep_require.specs.Requirement.{HasDefinedMarker, RequirementParts}
 use Rattle.demands.specs.Demand.{ApplyingDemands, Demands}
 use Rattle.demands.specs.Table.{TableDemands, TableParts}
 use Rattle.inputs.specs.declared.input.Input.{Input}
 use Rattle.inputs.specs.declared.input.Kind.{Kind}
-use Rattle.inputs.specs.Lists.{HoldsTable, Lists, input_texts}
+use Rattle.inputs.specs.Lists.{HoldsTable, IsInputText, Lists}
 
 -- the bytes are requirements, and each of them has a marker that is true or false there; or they
 -- are the text of a table
-abbrev pub AcceptsBytes : EnvironmentParts → Kind → List ℕ → Type 0
-AcceptsBytes e k bytes =
-    ((rs : List RequirementParts) × Lists (extra_in e) k bytes rs × All (HasDefinedMarker e) rs)
+abbrev pub AcceptsBytes : EnvironmentParts → Kind → Option (List ℕ) → List ℕ → Type 0
+AcceptsBytes e k group bytes =
+    ((rs : List RequirementParts) × Lists (extra_in e) k group bytes rs
+    × All (HasDefinedMarker e) rs)
     ⊎ ((t : TableParts) × HoldsTable k bytes t)
 
 abbrev pub IsAccepted : EnvironmentParts → Input → Type 0
-IsAccepted e i = AcceptsBytes e i.kind i.bytes.items
+IsAccepted e i = AcceptsBytes e i.kind i.group i.bytes.items
 
 -- what the bytes demand: what those of their requirements demand that apply there, or what their
 -- table gives
-abbrev pub BytesDemand : EnvironmentParts → Kind → List ℕ → Demands
-BytesDemand e k bytes name d =
-    ((rs : List RequirementParts) × Lists (extra_in e) k bytes rs × ApplyingDemands e rs name d)
+abbrev pub BytesDemand : EnvironmentParts → Kind → Option (List ℕ) → List ℕ → Demands
+BytesDemand e k group bytes name d =
+    ((rs : List RequirementParts) × Lists (extra_in e) k group bytes rs
+    × ApplyingDemands e rs name d)
     ⊎ ((t : TableParts) × HoldsTable k bytes t × TableDemands t name d)
 
 -- the set of the demands of all inputs
 abbrev pub Gathered : EnvironmentParts → List Input → Demands
 Gathered e [] name d = ⊥
 Gathered e (i ∷ inputs) name d =
-    BytesDemand e i.kind i.bytes.items name d ⊎ Gathered e inputs name d
+    BytesDemand e i.kind i.group i.bytes.items name d ⊎ Gathered e inputs name d
 
 -- ---- inputs that demand the same
 
 -- one of the inputs has the requirement
 abbrev pub HasRequirement : EnvironmentParts → List Input → RequirementParts → Type 0
 HasRequirement e inputs r = (i : Input) × Contains inputs i
-    × ((rs : List RequirementParts) × Lists (extra_in e) i.kind i.bytes.items rs × Contains rs r)
+    × ((rs : List RequirementParts) × Lists (extra_in e) i.kind i.group i.bytes.items rs
+    × Contains rs r)
 
 -- one of the inputs is the text of the table
 abbrev pub HasTable : List Input → TableParts → Type 0
@@ -53,7 +56,7 @@ HaveSameRequirements e a b =
 -- file among the texts that are asked for
 abbrev pub HasLine : EnvironmentParts → List Input → List ℕ → Type 0
 HasLine e inputs line = (i : Input) × Contains inputs i
-    × Contains (input_texts (extra_in e) i.kind i.bytes.items) line
+    × IsInputText (extra_in e) i.kind i.group i.bytes.items line
 
 -- the inputs have the same lines and the same tables, in whatever order and grouping, and however
 -- often; empty lines and comments apart

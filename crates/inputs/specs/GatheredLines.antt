@@ -1,8 +1,7 @@
 -- What inputs add to a table: the code's way.
-use Rattle.std.specs.Prelude.{◌≡◌, ℕ, ◌⊎◌, List, [], ◌∷◌}
+use Rattle.std.specs.Prelude.{◌≡◌, ℕ, ◌⊎◌, List, [], ◌∷◌, Option}
 use Rattle.pep_marker.specs.Environment.{EnvironmentParts, extra_in}
 use Rattle.pep_require.specs.Requirement.{RequirementParts}
-use Rattle.demands.specs.Gathering.{TakesApplying}
 use Rattle.demands.specs.Join.{JoinsTables}
 use Rattle.demands.specs.Table.{TableParts}
 use Rattle.faults.specs.declared.fault.Cause.{Cause}
@@ -11,21 +10,26 @@ use Rattle.inputs.specs.declared.input.Input.{Input}
 use Rattle.inputs.specs.declared.input.Kind.{Kind}
 use Rattle.inputs.specs.Lists.{HoldsTable, Lists}
 use Rattle.inputs.specs.Refusal.{IsRefused}
+use Rattle.inputs.specs.Wanted.{TakesWanted, wanted_part}
 
--- the table with what the requirements of an input demand, or joined with its table
-abbrev pub GathersBytes : EnvironmentParts → Kind → List ℕ → TableParts → TableParts → Type 0
-GathersBytes e k bytes old new =
-    ((rs : List RequirementParts) × Lists (extra_in e) k bytes rs × TakesApplying e old rs new)
-    ⊎ ((t : TableParts) × HoldsTable k bytes t × JoinsTables old t new)
+-- the table with what the requirements of an input demand, or joined with its table, as far as it
+-- counts
+abbrev pub GathersBytes : EnvironmentParts → Option (List ℕ) → Kind → Option (List ℕ) → List ℕ →
+    TableParts → TableParts → Type 0
+GathersBytes e w k group bytes old new =
+    ((rs : List RequirementParts) × Lists (extra_in e) k group bytes rs
+    × TakesWanted e w old rs new)
+    ⊎ ((t : TableParts) × HoldsTable k bytes t × JoinsTables old (wanted_part w t) new)
 
 -- .. and of inputs in turn
-abbrev pub GathersInputs : EnvironmentParts → List Input → TableParts → TableParts → Type 0
-GathersInputs e [] old new = old ≡ new
-GathersInputs e (i ∷ inputs) old new =
-    (mid : TableParts) × GathersBytes e i.kind i.bytes.items old mid
-    × GathersInputs e inputs mid new
+abbrev pub GathersInputs : EnvironmentParts → Option (List ℕ) → List Input → TableParts →
+    TableParts → Type 0
+GathersInputs e w [] old new = old ≡ new
+GathersInputs e w (i ∷ inputs) old new =
+    (mid : TableParts) × GathersBytes e w i.kind i.group i.bytes.items old mid
+    × GathersInputs e w inputs mid new
 
 -- why the bytes of an input are refused: want of memory, of which nothing is said, or a cause of
 -- their own
-abbrev pub RefusesAsInput : EnvironmentParts → Kind → List ℕ → Cause → Type 0
-RefusesAsInput e k bytes c = (c ≡ NoMemory) ⊎ IsRefused e k bytes c
+abbrev pub RefusesAsInput : EnvironmentParts → Kind → Option (List ℕ) → List ℕ → Cause → Type 0
+RefusesAsInput e k group bytes c = (c ≡ NoMemory) ⊎ IsRefused e k group bytes c

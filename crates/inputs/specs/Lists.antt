@@ -1,8 +1,7 @@
 -- The requirements of an input: a list, with a requirement on each line, or a project file.
-use Rattle.std.specs.Prelude.{◌≡◌, ℕ, ◌≤◌, Bool, not, ◌||◌, ◌==◌, List, [], length, map, filter}
-use Rattle.std.specs.Prelude.{All}
-use Rattle.std.specs.Prelude.{IsUtf8, Ok, unwrap_or}
-use Rattle.std.specs.Result.{result_ok}
+use Rattle.std.specs.Prelude.{◌≡◌, ℕ, ◌≤◌, Bool, not, ◌||◌, ◌==◌, List, length, map, filter}
+use Rattle.std.specs.Prelude.{All, Contains, Option, Some, None}
+use Rattle.std.specs.Prelude.{IsUtf8, Ok, Result}
 use Rattle.std.specs.List.{AllZip, slice_split}
 use Rattle.std.specs.Str.Lines.{strip_carriage_return}
 use Rattle.texts.specs.Runs.{begins, without_outer_blanks}
@@ -13,7 +12,11 @@ use Rattle.inputs.specs.declared.input.Kind.{Kind}
 use Rattle.inputs.specs.declared.input.Kind.TheVariants as kind
 pub use Rattle.texts.specs.Limits.{input_limit}
 use Rattle.demands.specs.Table.{TableParts}
-use Rattle.inputs.specs.Project.{project_file}
+use Rattle.faults.specs.declared.fault.Cause.{Cause}
+use Rattle.inputs.specs.GroupWalk.{ComesTo, group_file, group_step}
+use Rattle.inputs.specs.Groups.{groups_in}
+use Rattle.inputs.specs.Project.{project_file, project_texts}
+use Rattle.toml.specs.Data.{Members}
 use Rattle.inputs.specs.TableFiles.{IsTableFile}
 
 -- ---- lists
@@ -52,27 +55,41 @@ IsRequirementList bytes rs = IsListBy Reads bytes rs
 
 -- ---- project files
 
--- the bytes are a project file whose texts are these requirements, in an extra's environment
-abbrev pub IsProjectOf : List ℕ → List ℕ → List RequirementParts → Type 0
-IsProjectOf extra bytes rs =
-    (texts : List (List ℕ)) × (project_file extra bytes ≡ Ok texts) × AllZip Reads texts rs
+-- the texts that a project file is asked for, or the first check that fails: those of a dependency
+-- group, or where none is asked for, of its dependencies and of an extra
+abbrev pub ProjectTexts : List ℕ → Option (List ℕ) → List ℕ → Result (List (List ℕ)) Cause → Type 0
+ProjectTexts extra None bytes texts = project_file extra bytes ≡ texts
+ProjectTexts extra (Some group) bytes texts = ComesTo (group_file group bytes) texts
+
+-- .. of the document that it is
+abbrev pub AskedTexts : List ℕ → Option (List ℕ) → Members → Result (List (List ℕ)) Cause → Type 0
+AskedTexts extra None document texts = project_texts extra document ≡ texts
+AskedTexts extra (Some group) document texts = ComesTo (group_step group (groups_in document)) texts
+
+-- the bytes are a project file whose texts are these requirements, in an extra's environment or of
+-- a dependency group
+abbrev pub IsProjectOf : List ℕ → Option (List ℕ) → List ℕ → List RequirementParts → Type 0
+IsProjectOf extra group bytes rs =
+    (texts : List (List ℕ)) × ProjectTexts extra group bytes (Ok texts) × AllZip Reads texts rs
 
 -- ---- inputs
 
--- the requirements of an input of this kind, read for an extra; a table file has none
-abbrev pub Lists : List ℕ → Kind → List ℕ → List RequirementParts → Type 0
-Lists extra kind.List bytes rs = IsRequirementList bytes rs
-Lists extra kind.Project bytes rs = IsProjectOf extra bytes rs
-Lists extra kind.Table bytes rs = ⊥
+-- the requirements of an input of this kind, read for an extra, or for a dependency group of a
+-- project file; a table file has none
+abbrev pub Lists : List ℕ → Kind → Option (List ℕ) → List ℕ → List RequirementParts → Type 0
+Lists extra kind.List group bytes rs = IsRequirementList bytes rs
+Lists extra kind.Project group bytes rs = IsProjectOf extra group bytes rs
+Lists extra kind.Table group bytes rs = ⊥
 
 -- the table of an input of this kind
 abbrev pub HoldsTable : Kind → List ℕ → TableParts → Type 0
 HoldsTable kind.Table bytes t = IsTableFile bytes t
 HoldsTable _ bytes t = ⊥
 
--- the texts of which an input has its requirements: the lines of a list, and the texts of a project
--- file that passes its checks
-abbrev pub input_texts : List ℕ → Kind → List ℕ → List (List ℕ)
-input_texts extra kind.List bytes = requirement_lines bytes
-input_texts extra kind.Project bytes = unwrap_or (result_ok (project_file extra bytes)) []
-input_texts extra kind.Table bytes = []
+-- the text is one of those of which an input has its requirements: of the lines of a list, and of
+-- the texts of a project file that passes its checks
+abbrev pub IsInputText : List ℕ → Kind → Option (List ℕ) → List ℕ → List ℕ → Type 0
+IsInputText extra kind.List group bytes x = Contains (requirement_lines bytes) x
+IsInputText extra kind.Project group bytes x =
+    (texts : List (List ℕ)) × ProjectTexts extra group bytes (Ok texts) × Contains texts x
+IsInputText extra kind.Table group bytes x = ⊥

@@ -1,7 +1,7 @@
 -- What a refusal says of the inputs: which of them is at fault, which line of it, and why. Nothing
 -- else is answered.
 use Rattle.std.specs.Prelude.{◌≡◌, ◌≢◌, ℕ, ◌+◌, ◌<◌, ◌≤◌, ◌⊎◌, false, List, ◌∷◌, ◌++◌, length}
-use Rattle.std.specs.Prelude.{IsUtf8, Ok, Err}
+use Rattle.std.specs.Prelude.{IsUtf8, Ok, Err, Option}
 use Rattle.pep_marker.specs.Environment.{EnvironmentParts, extra_in}
 use Rattle.pep_require.specs.LineParts.{RefusesLine}
 use Rattle.pep_require.specs.Reads.{Reads}
@@ -20,9 +20,8 @@ use Rattle.inputs.specs.declared.input.Input.{Input}
 use Rattle.inputs.specs.declared.input.Kind.{Kind}
 use Rattle.inputs.specs.declared.input.Kind.TheVariants as kind
 use Rattle.inputs.specs.Gathered.{IsAccepted}
-use Rattle.inputs.specs.Lists.{IsProjectOf, content, is_skipped, lines_of}
+use Rattle.inputs.specs.Lists.{IsProjectOf, ProjectTexts, content, is_skipped, lines_of}
 use Rattle.texts.specs.Limits.{input_limit}
-use Rattle.inputs.specs.Project.{project_file}
 use Rattle.inputs.specs.TableFiles.{IsRefusedTable}
 
 -- the element with this number, counted from 1
@@ -55,7 +54,7 @@ pub data IsRefusedList (bytes : List ℕ) (c : Cause) : Type 0 where
       → IsRefusedLine line fault → c ≡ cause.Line number fault →
       IsRefusedList bytes c
 
--- the reader of URLs answered its own overflow, of which nothing is known
+-- the reader of URLs answered its own overflow, of which no more is known than `RefusesLine` says
 abbrev pub IsOverflow : Cause → Type 0
 IsOverflow c =
     (number : ℕ) × (c ≡ cause.Line number (line_fault.Requirement require.UrlOverflow))
@@ -91,12 +90,13 @@ pub record IsRefusedText (texts : List (List ℕ)) (c : Cause) : Type 0 where
   pub refuses : RefusesLine text reason
   pub is : c ≡ cause.Line number (line_fault.Requirement reason)
 
--- Why bytes are refused as a project file, for an extra: a check of the file fails, or one of its
--- texts is refused.
-pub data IsRefusedProject (extra bytes : List ℕ) (c : Cause) : Type 0 where
-  by_check : project_file extra bytes ≡ Err c → IsRefusedProject extra bytes c
-  by_text : (texts : List (List ℕ)) → project_file extra bytes ≡ Ok texts →
-      IsRefusedText texts c → IsRefusedProject extra bytes c
+-- Why bytes are refused as a project file, for an extra or a dependency group: a check of the file
+-- fails, or one of its texts is refused.
+pub data IsRefusedProject (extra : List ℕ) (group : Option (List ℕ)) (bytes : List ℕ) (c : Cause) :
+    Type 0 where
+  by_check : ProjectTexts extra group bytes (Err c) → IsRefusedProject extra group bytes c
+  by_text : (texts : List (List ℕ)) → ProjectTexts extra group bytes (Ok texts) →
+      IsRefusedText texts c → IsRefusedProject extra group bytes c
 
 -- the cause names a requirement whose marker is undefined there, by its number
 pub record IsUndefinedAt (e : EnvironmentParts) (rs : List RequirementParts) (c : Cause) : Type 0
@@ -108,20 +108,20 @@ pub record IsUndefinedAt (e : EnvironmentParts) (rs : List RequirementParts) (c 
     pub is : c ≡ cause.Line number line_fault.Undefined
 
 -- .. of a project file, all of whose texts are requirements
-abbrev pub IsUndefinedProject : EnvironmentParts → List ℕ → Cause → Type 0
-IsUndefinedProject e bytes c =
-    (rs : List RequirementParts) × IsProjectOf (extra_in e) bytes rs × IsUndefinedAt e rs c
+abbrev pub IsUndefinedProject : EnvironmentParts → Option (List ℕ) → List ℕ → Cause → Type 0
+IsUndefinedProject e group bytes c =
+    (rs : List RequirementParts) × IsProjectOf (extra_in e) group bytes rs × IsUndefinedAt e rs c
 
 -- ---- inputs
 
 -- Why bytes are refused as an input of this kind: they are no list of requirements, or no project
 -- file, or one of the requirements has a marker that is undefined there; or they are no table's
 -- text.
-abbrev pub IsRefused : EnvironmentParts → Kind → List ℕ → Cause → Type 0
-IsRefused e kind.List bytes c = IsRefusedList bytes c ⊎ IsUndefinedList e bytes c
-IsRefused e kind.Project bytes c =
-    IsRefusedProject (extra_in e) bytes c ⊎ IsUndefinedProject e bytes c
-IsRefused e kind.Table bytes c = IsRefusedTable bytes c
+abbrev pub IsRefused : EnvironmentParts → Kind → Option (List ℕ) → List ℕ → Cause → Type 0
+IsRefused e kind.List group bytes c = IsRefusedList bytes c ⊎ IsUndefinedList e bytes c
+IsRefused e kind.Project group bytes c =
+    IsRefusedProject (extra_in e) group bytes c ⊎ IsUndefinedProject e group bytes c
+IsRefused e kind.Table group bytes c = IsRefusedTable bytes c
 
 -- The fault names an input, says why it is refused, and unless the reader of URLs answered its own
 -- overflow, that input isn't accepted.
@@ -130,7 +130,7 @@ pub record BlamesInput (e : EnvironmentParts) (inputs : List Input) (fault : Fau
   pub input : Input
   pub numbered : IsNumbered inputs number input
   pub lies : fault.place ≡ place.Input number
-  pub refused : IsRefused e input.kind input.bytes.items fault.cause
+  pub refused : IsRefused e input.kind input.group input.bytes.items fault.cause
   pub not_accepted : ¬ IsOverflow fault.cause → ¬ IsAccepted e input
 
 -- Why inputs are refused with this fault: one of them is at fault, or memory is wanting, of which

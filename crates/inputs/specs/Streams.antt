@@ -1,6 +1,6 @@
 -- What a list is whose bytes come from a reader, in whatever pieces.
 use Rattle.std.specs.Prelude.{◌≡◌, ℕ, ◌+◌, ◌≤◌, ◌⊎◌, IsTrue, false, List, [], ◌∷◌, ◌++◌, All, length}
-use Rattle.std.specs.Prelude.{IsUtf8, Option}
+use Rattle.std.specs.Prelude.{IsUtf8, Option, None}
 use Rattle.std.specs.Io.KnownBytes.{Consumes, IsAtEnd}
 use Rattle.devices.specs.Device.{Device}
 use Rattle.texts.specs.Limits.{line_limit}
@@ -8,7 +8,6 @@ use Rattle.pep_marker.specs.Environment.{EnvironmentParts}
 use Rattle.pep_require.specs.Reads.{Reads}
 use Rattle.pep_require.specs.Requirement.{HasDefinedMarker, RequirementParts}
 use Rattle.demands.specs.Table.{HasExactPoints, IsTable, TableParts}
-use Rattle.faults.specs.declared.fault.Cause.{Cause}
 use Rattle.faults.specs.declared.fault.Cause.TheVariants as cause
 use Rattle.faults.specs.declared.fault.Fault.{Fault}
 use Rattle.faults.specs.declared.fault.Place.TheVariants as place
@@ -26,9 +25,9 @@ ReadsUpTo most left after =
 
 -- the bytes are accepted as a list, and this is the table of what they demand
 pub record IsTableOfList (e : EnvironmentParts) (bytes : List ℕ) (t : TableParts) : Type 0 where
-  pub accepted : AcceptsBytes e kind.List bytes
-  pub is_table : IsTable (BytesDemand e kind.List bytes) t
-  pub points : HasExactPoints (BytesDemand e kind.List bytes) t
+  pub accepted : AcceptsBytes e kind.List None bytes
+  pub is_table : IsTable (BytesDemand e kind.List None bytes) t
+  pub points : HasExactPoints (BytesDemand e kind.List None bytes) t
 
 -- of a reader that tells its bytes: all that was left was read, and this is the table of these bytes
 pub record ReadsTable (e : EnvironmentParts) (left after : Option (List ℕ)) (t : TableParts) :
@@ -80,9 +79,9 @@ pub record RefusesRead (e : EnvironmentParts) (left after : Option (List ℕ)) (
   pub bound : length bytes ≤ input_limit + 1
   pub lies : fault.place ≡ place.Input 1
   pub is_refused : (more : List ℕ) → MayFollow after more →
-      IsRefused e kind.List (bytes ++ more) fault.cause
+      IsRefused e kind.List None (bytes ++ more) fault.cause
   pub not_accepted : ¬ IsOverflow fault.cause → (more : List ℕ) → MayFollow after more →
-      ¬ AcceptsBytes e kind.List (bytes ++ more)
+      ¬ AcceptsBytes e kind.List None (bytes ++ more)
 
 -- reading the list failed, which is input 1
 abbrev pub failed_read : Fault

@@ -1,24 +1,25 @@
 -- What the texts of lines are taken for: the requirements that they are.
-use Rattle.std.specs.Prelude.{◌≡◌, ℕ, ◌⊎◌, List, [], ◌∷◌, ◌++◌}
+use Rattle.std.specs.Prelude.{◌≡◌, ℕ, ◌⊎◌, List, [], ◌∷◌, ◌++◌, Option}
 use Rattle.pep_marker.specs.Environment.{EnvironmentParts}
 use Rattle.pep_require.specs.LineParts as requirement
 use Rattle.pep_require.specs.Reads.{Reads}
 use Rattle.pep_require.specs.Requirement.{HasUndefinedMarker, RequirementParts}
 use Rattle.pep_require.specs.declared.fault.RequireFault.{RequireFault}
 use Rattle.pep_require.specs.declared.fault.RequireFault.TheVariants as require
-use Rattle.demands.specs.Gathering.{TakesApplying}
 use Rattle.demands.specs.Table.{TableParts}
 use Rattle.faults.specs.declared.fault.LineFault.{LineFault}
 use Rattle.faults.specs.declared.fault.LineFault.TheVariants as line_fault
+use Rattle.inputs.specs.Wanted.{TakesWanted}
 
 -- the text's requirement stands behind the others
 abbrev pub AddsText : List ℕ → List RequirementParts → List RequirementParts → Type 0
 AddsText text old new = (r : RequirementParts) × Reads text r × (new ≡ old ++ r ∷ [])
 
--- the table with what the text's requirement demands, if it applies
-abbrev pub GathersText : EnvironmentParts → List ℕ → TableParts → TableParts → Type 0
-GathersText e text old new =
-    (r : RequirementParts) × Reads text r × TakesApplying e old (r ∷ []) new
+-- the table with what the text's requirement demands, if it applies and its name counts
+abbrev pub GathersText : EnvironmentParts → Option (List ℕ) → List ℕ → TableParts → TableParts →
+    Type 0
+GathersText e w text old new =
+    (r : RequirementParts) × Reads text r × TakesWanted e w old (r ∷ []) new
 
 -- why a text is refused as a requirement: want of memory, or a fault of its own
 abbrev pub RefusesText : List ℕ → LineFault → Type 0

@@ -1,5 +1,7 @@
 //! What is merged.
 
+use pep_marker::Name;
+
 /// The kind of an input.
 #[derive(Clone, Copy, Debug, PartialEq, Eq)]
 pub enum Kind {
@@ -12,9 +14,11 @@ pub enum Kind {
     Table,
 }
 
-/// An input: its kind and its bytes.
+/// An input: its kind and its bytes, and the dependency group that is asked for of a project file
+/// (PyPA "Dependency Groups", PEP 735), if there is one. Lists and tables have no groups.
 #[derive(Debug, Drop)]
 pub struct Input {
     pub kind: Kind,
     pub bytes: Vec<u8>,
+    pub group: Option<Name>,
 }

@@ -1,6 +1,6 @@
 //! Laws of the definitions.
 
-ghost use Rattle.std.specs.Prelude.{◌≡◌, ◌∷◌, ◌++◌, [], ℕ, All, List};
+ghost use Rattle.std.specs.Prelude.{◌≡◌, ◌↔◌, ◌∷◌, ◌++◌, [], ℕ, All, Contains, Err, List, Ok, Option};
 ghost use Rattle.pep_marker.specs.Environment.{EnvironmentParts};
 ghost use Rattle.pep_require.specs.Requirement.{RequirementParts};
 ghost use Rattle.demands.specs.Demand.{HaveSameDemands};
@@ -15,6 +15,8 @@ ghost use Rattle.inputs.specs.Gathered.{
   HaveSameRequirements,
   IsAccepted,
 };
+ghost use Rattle.inputs.specs.Groups.{Group, IsGroupFault, IsGroupWhole, IsTextOfGroup};
+ghost use Rattle.inputs.specs.GroupWalk.{ComesTo, at_first, open_group};
 ghost use Rattle.inputs.specs.Lists.{IsProjectOf, IsRequirementList};
 ghost use Rattle.inputs.specs.Merge.{IsMerge};
 ghost use Rattle.inputs.specs.Refusal.{IsOverflow, IsRefused, IsRefusedList, IsRefusedProject};
@@ -32,8 +34,7 @@ pub fn one_text()
 pub fn one_table()
     ensures { (e f : EnvironmentParts) (a b : List Input) (s t : TableParts)
         → HaveSameDemands (Gathered e a) (Gathered f b)
-        → IsTable (Gathered e a) s → HasExactPoints (Gathered e a) s
-        → IsTable (Gathered f b) t → HasExactPoints (Gathered f b) t → s ≡ t }
+        → IsTable (Gathered e a) s → IsTable (Gathered f b) t → s ≡ t }
 {}
 
 /// Inputs that have the same requirements and the same tables demand the same, whatever the order
@@ -93,22 +94,38 @@ pub fn refused_list_is_not_read()
         → IsRefusedList bytes c → ¬ IsRequirementList bytes rs }
 {}
 
-/// Bytes are a project file of one list of requirements at most, for an extra.
+/// Bytes are a project file of one list of requirements at most, for an extra or a dependency group.
 pub fn one_project()
-    ensures { (extra bytes : List ℕ) (rs qs : List RequirementParts) → IsProjectOf extra bytes rs
-        → IsProjectOf extra bytes qs → rs ≡ qs }
+    ensures { (extra : List ℕ) (group : Option (List ℕ)) (bytes : List ℕ)
+        (rs qs : List RequirementParts) → IsProjectOf extra group bytes rs
+        → IsProjectOf extra group bytes qs → rs ≡ qs }
 {}
 
-/// Bytes that are refused as a project file, for an extra, have no requirements for it. Of an
-/// overflow of the reader of URLs, nothing is known.
+/// Bytes that are refused as a project file, for an extra or a dependency group, have no
+/// requirements for it. Of an overflow of the reader of URLs, nothing is known.
 pub fn refused_project_is_not_read()
-    ensures { (extra bytes : List ℕ) (c : Cause) (rs : List RequirementParts) → ¬ IsOverflow c
-        → IsRefusedProject extra bytes c → ¬ IsProjectOf extra bytes rs }
+    ensures { (extra : List ℕ) (group : Option (List ℕ)) (bytes : List ℕ) (c : Cause)
+        (rs : List RequirementParts) → ¬ IsOverflow c → IsRefusedProject extra group bytes c
+        → ¬ IsProjectOf extra group bytes rs }
+{}
+
+/// The walk through a dependency group comes to texts exactly where each group that it reaches by
+/// includes (PyPA "Dependency Groups") is there, has in its array what may stand there, and doesn't
+/// come back to itself; and then these are the texts of the groups that it reaches. Where the walk is
+/// refused, one of them isn't so, which is the fault.
+pub fn group_is_walked()
+    ensures texts { (groups : List Group) (root : List ℕ) (xs : List (List ℕ))
+        → ComesTo (open_group (at_first groups) root) (Ok xs) → IsGroupWhole groups root
+        × ((x : List ℕ) → Contains xs x ↔ IsTextOfGroup groups root x) }
+    ensures fault { (groups : List Group) (root : List ℕ) (c : Cause)
+        → ComesTo (open_group (at_first groups) root) (Err c) → IsGroupFault groups root c }
+    ensures whole { (groups : List Group) (root : List ℕ) → IsGroupWhole groups root
+        → (xs : List (List ℕ)) × ComesTo (open_group (at_first groups) root) (Ok xs) }
 {}
 
 /// An input that is refused in an environment, with whatever cause, isn't accepted there. Of an
 /// overflow of the reader of URLs, nothing is known.
 pub fn refused_is_not_accepted()
     ensures { (e : EnvironmentParts) (i : Input) (c : Cause) → ¬ IsOverflow c
-        → IsRefused e i.kind i.bytes.items c → ¬ IsAccepted e i }
+        → IsRefused e i.kind i.group i.bytes.items c → ¬ IsAccepted e i }
 {}

@@ -4,6 +4,7 @@
 mod document;
 mod environment_file;
 mod gathering;
+mod groups;
 mod input;
 pub mod laws;
 mod lines;

@@ -5,17 +5,23 @@ ghost use Rattle.std.specs.Prelude.{
   ◌≢◌,
   ◌⊎◌,
   ◌≤◌,
+  ◌<◌,
+  ◌==◌,
   ◌+◌,
   ◌++◌,
+  ◌∷◌,
   [],
   List,
   ℕ,
   IfErr,
   IfOk,
+  IfSome,
   length,
   option_map,
 };
+ghost use Rattle.std.specs.List.{slice_split};
 ghost use Rattle.texts.specs.Limits.{line_limit};
+ghost use Rattle.texts.specs.Split.{left_parts};
 ghost use Rattle.inputs.specs.Lists.{content, is_skipped};
 ghost use Rattle.texts.specs.Limits.{input_limit};
 ghost use Rattle.inputs.specs.Refusal.{IsRefusedLine};
@@ -35,9 +41,10 @@ ghost use Rattle.inputs.specs.LineReading.{
 };
 
 use faults::{Cause, LineFault};
+use memchr::memchr;
 use pep_require::RequireFault;
 use std::alloc::Global;
-use texts::{INPUT_LIMIT, LINE_LIMIT, first_part, without_outer_blanks};
+use texts::{INPUT_LIMIT, LINE_LIMIT, without_outer_blanks};
 
 /// Takes the texts of requirements, one after the other, wherever they come from.
 pub(crate) trait Taker {
@@ -53,10 +60,11 @@ pub(crate) trait Taker {
     /// Why a text is refused.
     ghost refuses: { Self → List ℕ → LineFault → Type 0 };
 
-    /// What was taken before, and this text.
-    fn take(&self, taken: Self::Taken, text: &str) -> Result<Self::Taken, LineFault>
-        ensures ok { IfOk result (takes self.now text.now taken) }
-        ensures refused { IfErr result (refuses self.now text.now) };
+    /// What was taken before, and this text. What the taker is doesn't change: it may remember.
+    fn take(&mut self, taken: Self::Taken, text: &str) -> Result<Self::Taken, LineFault>
+        ensures same { self.new ≡ self.old }
+        ensures ok { IfOk result (takes self.old text.now taken) }
+        ensures refused { IfErr result (refuses self.old text.now) };
 }
 
 // The line without a carriage return at its end, and then without white space at both ends.
@@ -78,6 +86,7 @@ fn is_skipped(content: &[u8]) -> bool
 }
 
 // The text of the requirement on a line, or none if the line is skipped.
+#[inline(always)]
 fn text_on(line: &[u8]) -> Result<Option<&str>, LineFault>
     ensures ok { IfOk result (λ found. HasText line.now (option_map (λ text. text.now) found)) }
     ensures refused { IfErr result (IsRefusedLine line.now) }
@@ -109,9 +118,10 @@ pub(crate) fn line_cause(number: u64, fault: LineFault) -> Cause
 }
 
 // What was taken before, and the text on a line, if the line isn't skipped.
-fn take_line<T: Taker>(taker: &T, taken: T::Taken, line: &[u8]) -> Result<T::Taken, LineFault>
-    ensures ok { IfOk result (TakesLine (T.takes taker.now) line.now taken) }
-    ensures refused { IfErr result (RefusesLineBytes (T.refuses taker.now) line.now) }
+fn take_line<T: Taker>(taker: &mut T, taken: T::Taken, line: &[u8]) -> Result<T::Taken, LineFault>
+    ensures same { taker.new ≡ taker.old }
+    ensures ok { IfOk result (TakesLine (T.takes taker.old) line.now taken) }
+    ensures refused { IfErr result (RefusesLineBytes (T.refuses taker.old) line.now) }
 {
     match text_on(line) {
         Ok(Some(text)) => taker.take(taken, text),
@@ -138,14 +148,15 @@ fn grown(held: Vec<u8>, part: &[u8]) -> Result<Vec<u8>, LineFault>
 // What was taken before, and the text on the line that begins with what is held of it and ends with
 // this part. A line of which nothing is held isn't copied.
 fn take_whole<T: Taker>(
-    taker: &T,
+    taker: &mut T,
     taken: T::Taken,
     held: Vec<u8>,
     part: &[u8],
 ) -> Result<T::Taken, LineFault>
     requires { length held.items ≤ line_limit }
-    ensures ok { IfOk result (TakesLine (T.takes taker.now) (held.items ++ part.now) taken) }
-    ensures refused { IfErr result (RefusesWhole (T.refuses taker.now)
+    ensures same { taker.new ≡ taker.old }
+    ensures ok { IfOk result (TakesLine (T.takes taker.old) (held.items ++ part.now) taken) }
+    ensures refused { IfErr result (RefusesWhole (T.refuses taker.old)
         (held.items ++ part.now)) }
 {
     if held.is_empty() {
@@ -182,19 +193,21 @@ impl<A> LinesSoFar<A> {
 }
 
 // The lines with the one that ends with this part.
+#[inline(always)]
 fn take_ended<T: Taker>(
     alloc: Global,
-    taker: &T,
+    taker: &mut T,
     so_far: LinesSoFar<T::Taken>,
     part: &[u8],
 ) -> Result<LinesSoFar<T::Taken>, Cause>
     requires number { so_far.number ≤ input_limit }
     requires held { length so_far.held.items ≤ line_limit }
-    ensures ok { IfOk result (λ new. TakesLine (T.takes taker.now)
+    ensures same { taker.new ≡ taker.old }
+    ensures ok { IfOk result (λ new. TakesLine (T.takes taker.old)
         (so_far.held.items ++ part.now) so_far.taken new.taken) }
     ensures number { IfOk result (λ new. new.number ≡ so_far.number + 1) }
     ensures held { IfOk result (λ new. new.held.items ≡ []) }
-    ensures refused { IfErr result (RefusesEnded (T.refuses taker.now) (so_far.number + 1)
+    ensures refused { IfErr result (RefusesEnded (T.refuses taker.old) (so_far.number + 1)
         (so_far.held.items ++ part.now)) }
     ensures apart { IfErr result (λ cause. cause ≢ Cause.ReadFault) }
 {
@@ -231,27 +244,41 @@ fn hold_part<A: Drop>(so_far: LinesSoFar<A>, part: &[u8]) -> Result<LinesSoFar<A
     }
 }
 
+// The first line of a text, and what stands behind its line feed: `None` where the text has none. It is
+// `texts::first_part` by a search, which pays where parts are as long as lines.
+#[inline(always)]
+fn first_line(text: &[u8]) -> (&[u8], Option<&[u8]>)
+    ensures parts { slice_split (λ b. b == 10) text.now ≡ result.0.now ∷ left_parts 10 result.1 }
+    ensures shorter { IfSome result.1 (λ rest. length rest.now < length text.now) }
+{
+    match memchr(b'\n', text) {
+        Some(at) => (&text[..at], Some(&text[at + 1..])),
+        None => (text, None),
+    }
+}
+
 /// The lines with those of a piece. The cause is that of the first fault, in the order of the
 /// bytes.
 pub(crate) fn take_piece<T: Taker>(
     alloc: Global,
-    taker: &T,
+    taker: &mut T,
     so_far: LinesSoFar<T::Taken>,
     piece: &[u8],
 ) -> Result<LinesSoFar<T::Taken>, Cause>
     requires room { so_far.number + length piece.now ≤ input_limit }
     requires held { IsHeld so_far.held.items }
-    ensures ok { IfOk result (λ new. HasTaken (T.takes taker.now)
+    ensures same { taker.new ≡ taker.old }
+    ensures ok { IfOk result (λ new. HasTaken (T.takes taker.old)
         (so_far.held.items ++ piece.now) so_far.number so_far.taken new.number new.held.items
         new.taken) }
-    ensures refused { IfErr result (RefusesPiece (T.refuses taker.now) so_far.number
+    ensures refused { IfErr result (RefusesPiece (T.refuses taker.old) so_far.number
         (so_far.held.items ++ piece.now)) }
     ensures apart { IfErr result (λ cause. cause ≢ Cause.ReadFault) }
 {
     let mut so_far = so_far;
     let mut left = Some(piece);
     while let Some(text) = left {
-        let (part, after) = first_part(text, b'\n');
+        let (part, after) = first_line(text);
         so_far = match after {
             Some(_) => take_ended(alloc, taker, so_far, part)?,
             None => hold_part(so_far, part)?,
@@ -264,13 +291,14 @@ pub(crate) fn take_piece<T: Taker>(
 /// What was taken before, and the text on the last line, which ends with the list.
 pub(crate) fn take_last<T: Taker>(
     alloc: Global,
-    taker: &T,
+    taker: &mut T,
     so_far: LinesSoFar<T::Taken>,
 ) -> Result<T::Taken, Cause>
     requires number { so_far.number ≤ input_limit }
     requires held { length so_far.held.items ≤ line_limit }
-    ensures ok { IfOk result (TakesLine (T.takes taker.now) so_far.held.items so_far.taken) }
-    ensures refused { IfErr result (RefusesEnded (T.refuses taker.now) (so_far.number + 1)
+    ensures same { taker.new ≡ taker.old }
+    ensures ok { IfOk result (TakesLine (T.takes taker.old) so_far.held.items so_far.taken) }
+    ensures refused { IfErr result (RefusesEnded (T.refuses taker.old) (so_far.number + 1)
         so_far.held.items) }
     ensures apart { IfErr result (λ cause. cause ≢ Cause.ReadFault) }
 {
@@ -283,13 +311,14 @@ pub(crate) fn take_last<T: Taker>(
 /// Why a list is refused that goes on behind its largest size, which ends with this piece.
 pub(crate) fn refused_over<T: Taker>(
     alloc: Global,
-    taker: &T,
+    taker: &mut T,
     so_far: LinesSoFar<T::Taken>,
     piece: &[u8],
 ) -> Cause
     requires room { so_far.number + length piece.now ≤ input_limit }
     requires held { IsHeld so_far.held.items }
-    ensures refused { (result ≡ Cause.TooLarge) ⊎ RefusesPiece (T.refuses taker.now)
+    ensures same { taker.new ≡ taker.old }
+    ensures refused { (result ≡ Cause.TooLarge) ⊎ RefusesPiece (T.refuses taker.old)
         so_far.number (so_far.held.items ++ piece.now) result }
     ensures apart { result ≢ Cause.ReadFault }
 {
@@ -303,12 +332,13 @@ pub(crate) fn refused_over<T: Taker>(
 /// that of the first fault, in the order of the bytes: see [`list_of`](crate::list_of).
 pub(crate) fn take_lines<T: Taker>(
     alloc: Global,
-    taker: &T,
+    taker: &mut T,
     taken: T::Taken,
     bytes: &[u8],
 ) -> Result<T::Taken, Cause>
-    ensures ok { IfOk result (TakesLines (T.takes taker.now) bytes.now taken) }
-    ensures refused { IfErr result (RefusesList (T.refuses taker.now) bytes.now) }
+    ensures same { taker.new ≡ taker.old }
+    ensures ok { IfOk result (TakesLines (T.takes taker.old) bytes.now taken) }
+    ensures refused { IfErr result (RefusesList (T.refuses taker.old) bytes.now) }
 {
     let so_far = LinesSoFar::new(alloc, taken);
     if bytes.len() <= INPUT_LIMIT {

@@ -41,7 +41,7 @@ impl Taker for RequirementTaker {
     ghost refuses = { λ _ text fault. RefusesText text fault };
 
     fn take(
-        &self,
+        &mut self,
         mut requirements: Vec<Requirement>,
         text: &str,
     ) -> Result<Vec<Requirement>, LineFault> {
@@ -66,7 +66,12 @@ pub fn list_of(alloc: Global, bytes: &[u8]) -> Result<Vec<Requirement>, Fault>
         ⊎ ((fault.place ≡ Place.Input 1)
         × IsRefusedList bytes.now fault.cause)) }
 {
-    match take_lines(alloc, &RequirementTaker { alloc }, Vec::new(alloc), bytes) {
+    match take_lines(
+        alloc,
+        &mut RequirementTaker { alloc },
+        Vec::new(alloc),
+        bytes,
+    ) {
         Ok(requirements) => Ok(requirements),
         Err(cause) => Err(fault_in(Place::Input(1), cause)),
     }

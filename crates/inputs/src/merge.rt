@@ -8,7 +8,7 @@ ghost use Rattle.inputs.specs.Gathered.{Gathered, IsAccepted};
 ghost use Rattle.inputs.specs.Merge.{IsMerge};
 ghost use Rattle.inputs.specs.Refusal.{RefusesInputs, no_memory};
 
-use crate::gathering::gather;
+use crate::gathering::{gather, gather_named};
 use crate::input::Input;
 use faults::Fault;
 use pep_marker::{Environment, Name};
@@ -33,8 +33,8 @@ pub fn text_of(alloc: Global, gathering: Gathering) -> Result<String, Fault>
 /// the inputs, and of the lines of lists, don't matter.
 ///
 /// An input that isn't accepted is refused, with its number, counted from 1, as the place: 56 where
-/// it has more than 16,777,216 bytes; 51 to 55 for a project file that fails a check (see
-/// [`project_of`](crate::project_of)); 51 for a table file that isn't UTF-8; 57 for a line of a
+/// it has more than 16,777,216 bytes; 51 to 55, or with a group 65 to 67, for a project file that
+/// fails a check (see [`project_of`](crate::project_of)); 51 for a table file that isn't UTF-8; 57 for a line of a
 /// list or of a table file, or a text of a project file (see [`gather`]). The first fault of the
 /// first such input is answered. Want of memory is 60, without a place.
 pub fn merge_bytes(
@@ -70,7 +70,9 @@ fn answer(
 /// it is no pre-release unless these are wanted; else `No`. Where nothing is demanded of the
 /// package the answer is `Yes`, for a pre-release only if these are wanted.
 ///
-/// All inputs are read, and refused as by [`merge_bytes`].
+/// All inputs are read, and refused as by [`merge_bytes`]; what they demand of other packages isn't
+/// kept: a line's or a table entry's is dropped where it is found, a project file's once all its
+/// texts are read.
 pub fn check_bytes(
     alloc: Global,
     inputs: &[Input],
@@ -84,7 +86,7 @@ pub fn check_bytes(
         version.now want_pre) }
     ensures refused { IfErr result (RefusesInputs environment.now inputs.now) }
 {
-    let gathering = gather(alloc, inputs, environment)?;
+    let gathering = gather_named(alloc, inputs, environment, name)?;
     // Its clause tells that the parts make a version.
     let _ = version.release();
     match answer(alloc, gathering, name, version, want_pre) {

@@ -13,13 +13,14 @@ ghost use Rattle.std.specs.Prelude.{
   Some,
   codes,
   map,
+  option_copied,
 };
 ghost use Rattle.std.specs.List.{AllZip};
 ghost use Rattle.toml.specs.View.{table_view};
-ghost use Rattle.pep_marker.specs.Name.{name_of, normalized};
+ghost use Rattle.pep_marker.specs.Name.{normalized};
 ghost use Rattle.pep_require.specs.Reads.{Reads};
 ghost use Rattle.pep_require.specs.View.{requirement_parts};
-ghost use Rattle.inputs.specs.Lists.{IsProjectOf};
+ghost use Rattle.inputs.specs.Lists.{AskedTexts, IsProjectOf};
 ghost use Rattle.inputs.specs.Project.{
   checks_dynamic,
   extra_at,
@@ -34,36 +35,51 @@ ghost use Rattle.inputs.specs.Refusal.{IsRefusedProject, IsRefusedText, no_memor
 ghost use Rattle.inputs.specs.Texts.{lent_texts};
 
 use crate::document::{read_document, texts_at, texts_of};
+use crate::groups::{group_texts, name_in};
 use crate::lines::line_cause;
 use faults::{Cause, Fault, LineFault, Place, fault_in};
-use pep_marker::{MarkerFault, Name, norm_of};
+use pep_marker::{Name, norm_of};
 use pep_require::Requirement;
 use std::alloc::Global;
 use std::collections::BTreeSet;
 use toml::Table;
 
-/// The requirements of a project file, which is at most 16,777,216 bytes of TOML: those of
-/// `project.dependencies`, and then, unless the extra is the empty text, those of the extra's array
-/// in `project.optional-dependencies` (PyPA "pyproject.toml", "dependencies" and
-/// "optional-dependencies"). Names of extras are compared when normalized (PEP 503, "Normalized
-/// Names"); of an extra that the file doesn't have there are none.
+/// The requirements of a project file, which is at most 16,777,216 bytes of TOML.
+///
+/// Without a group they are those of `project.dependencies`, and then, unless the extra is the empty
+/// text, those of the extra's array in `project.optional-dependencies` (PyPA "pyproject.toml",
+/// "dependencies" and "optional-dependencies"); of an extra that the file doesn't have there are none.
+/// With one they are those of that group in `dependency-groups`, and of the groups that it includes,
+/// each where it is included first; `project` isn't read (PyPA "Dependency Groups", PEP 735). Names of
+/// extras and groups are compared when normalized (PEP 503, "Normalized Names").
 ///
 /// The fault is that of input 1, by the first check that fails: 56 for more bytes; 51 where they
-/// aren't UTF-8; 52 where they are no TOML document; 53 without a key `project`; 55 where `project`
-/// is no table, or has a `dynamic` that is no array of texts; 54 where `dynamic` names
-/// `dependencies`, or, unless the extra is the empty text, `optional-dependencies`; 55 where
-/// `dependencies` is no array of texts, or `optional-dependencies` is no table of such arrays,
-/// under keys that are names, all different when normalized. Then 57 with the fault of a text,
-/// which is counted from 1 through both arrays (see [`Requirement::read`]). Want of memory, 60,
+/// aren't UTF-8; 52 where they are no TOML document. Then, without a group: 53 without a key
+/// `project`; 55 where `project` is no table, or has a `dynamic` that is no array of texts; 54 where
+/// `dynamic` names `dependencies`, or, unless the extra is the empty text, `optional-dependencies`; 55
+/// where `dependencies` is no array of texts, or `optional-dependencies` is no table of such arrays,
+/// under keys that are names, all different when normalized. With a group: 65 without a key
+/// `dependency-groups`; 55 where it is no table of arrays under keys that are names; 66 where two of
+/// these are equal when normalized; 65 where none is the group; and in the order in which the group's
+/// array is gone through, and that of each group where it is included first: 55 for a value that is
+/// neither a text nor a table whose one key is `include-group`, with a name; 65 for a group that isn't
+/// there; 67 for one that is being gone through. Last, with and without a group, 57 with the fault of
+/// a text, counted from 1 in the order of the texts (see [`Requirement::read`]). Want of memory, 60,
 /// has no place.
-pub fn project_of(alloc: Global, bytes: &[u8], extra: &str) -> Result<Vec<Requirement>, Fault>
+pub fn project_of(
+    alloc: Global,
+    bytes: &[u8],
+    extra: &str,
+    group: Option<&Name>,
+) -> Result<Vec<Requirement>, Fault>
     ensures ok { IfOk result (λ requirements.
-        IsProjectOf extra.now bytes.now (map requirement_parts requirements.items)) }
+        IsProjectOf extra.now (option_copied group.entry) bytes.now
+        (map requirement_parts requirements.items)) }
     ensures refused { IfErr result (λ fault. (fault ≡ no_memory)
         ⊎ ((fault.place ≡ Place.Input 1)
-        × IsRefusedProject extra.now bytes.now fault.cause)) }
+        × IsRefusedProject extra.now (option_copied group.entry) bytes.now fault.cause)) }
 {
-    match project_requirements(alloc, bytes, extra) {
+    match project_requirements(alloc, bytes, extra, group) {
         Ok(requirements) => Ok(requirements),
         Err(cause) => Err(fault_in(Place::Input(1), cause)),
     }
@@ -74,15 +90,36 @@ pub(crate) fn project_requirements(
     alloc: Global,
     bytes: &[u8],
     extra: &str,
+    group: Option<&Name>,
 ) -> Result<Vec<Requirement>, Cause>
     ensures ok { IfOk result (λ requirements.
-        IsProjectOf extra.now bytes.now (map requirement_parts requirements.items)) }
+        IsProjectOf extra.now (option_copied group.entry) bytes.now
+        (map requirement_parts requirements.items)) }
     ensures refused { IfErr result (λ cause. (cause ≡ Cause.NoMemory)
-        ⊎ IsRefusedProject extra.now bytes.now cause) }
+        ⊎ IsRefusedProject extra.now (option_copied group.entry) bytes.now cause) }
 {
     let document = read_document(alloc, bytes)?;
-    let texts = project_texts(alloc, &document, extra)?;
+    let texts = asked_texts(alloc, &document, extra, group)?;
     requirements_of_texts(alloc, texts.as_slice())
+}
+
+// The texts that a document is asked for: those of the group, or where none is asked for, those of its
+// dependencies and of the extra.
+fn asked_texts<'a>(
+    alloc: Global,
+    document: &'a Table,
+    extra: &str,
+    group: Option<&Name>,
+) -> Result<Vec<&'a str>, Cause>
+    ensures ok { IfOk result (λ texts. AskedTexts extra.now (option_copied group.entry)
+        (table_view document.now) (Ok (lent_texts texts.items))) }
+    ensures refused { IfErr result (λ cause. (cause ≡ Cause.NoMemory)
+        ⊎ AskedTexts extra.now (option_copied group.entry) (table_view document.now) (Err cause)) }
+{
+    match group {
+        Some(group) => group_texts(alloc, document, group),
+        None => project_texts(alloc, document, extra),
+    }
 }
 
 // The requirements that texts are.
@@ -179,7 +216,7 @@ fn wanted_texts<'a>(alloc: Global, extras: &'a Table, wanted: &str) -> Result<Ve
     let mut names = BTreeSet::new(alloc);
     let mut found = Vec::new(alloc);
     for (key, value) in extras.iter() {
-        let name = extra_name(alloc, key)?;
+        let name = name_in(alloc, key)?;
         let is_wanted = name.text() == wanted;
         if !names.insert(name)? {
             return Err(Cause::WrongShape);
@@ -190,17 +227,4 @@ fn wanted_texts<'a>(alloc: Global, extras: &'a Table, wanted: &str) -> Result<Ve
         }
     }
     Ok(found)
-}
-
-// The name that a key is.
-fn extra_name(alloc: Global, key: &str) -> Result<Name, Cause>
-    ensures ok { IfOk result (λ name. name_of key.now ≡ Some name) }
-    ensures refused { IfErr result (λ cause. (cause ≡ Cause.NoMemory)
-        ⊎ ((cause ≡ Cause.WrongShape) × (name_of key.now ≡ None))) }
-{
-    match Name::read(alloc, key) {
-        Ok(name) => Ok(name),
-        Err(MarkerFault::BadName) => Err(Cause::WrongShape),
-        Err(_) => Err(Cause::NoMemory),
-    }
 }

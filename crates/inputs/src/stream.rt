@@ -39,14 +39,14 @@ const PIECE: usize = 65_536;
 // one, behind the bytes read before it.
 fn take_source<T: Taker, S: Source>(
     alloc: Global,
-    taker: &T,
+    taker: &mut T,
     taken: T::Taken,
     source: &mut S,
 ) -> Result<T::Taken, Cause>
     requires { IsFresh (S.device source.old) }
-    ensures ok { IfOk result (TakesSource (T.takes taker.now) (S.left source.old)
+    ensures ok { IfOk result (TakesSource (T.takes taker.old) (S.left source.old)
         (S.left source.new) taken) }
-    ensures refused { IfErr result (RefusesSource (T.takes taker.now) (T.refuses taker.now)
+    ensures refused { IfErr result (RefusesSource (T.takes taker.old) (T.refuses taker.old)
         (S.left source.old) (S.left source.new) (S.device source.new).failed taken) }
     ensures failed { IsTrue (S.device source.new).failed ↔ IsErrOf result Cause.ReadFault }
     ensures bytes { ReadsUpTo (input_limit + 1) (S.left source.old) (S.left source.new) }
@@ -94,8 +94,9 @@ pub fn gather_reader<S: Source>(
     ensures bytes { ReadsUpTo (input_limit + 1) (S.left source.old) (S.left source.new) }
     ensures calls { (S.device source.new).calls ≤ input_limit + 1 }
 {
-    let taker = DemandTaker { alloc, environment };
-    match take_source(alloc, &taker, Gathering::new(alloc), source) {
+    let mut taker = DemandTaker::new(alloc, environment, None)?;
+    let nothing = Gathering::new(alloc);
+    match take_source(alloc, &mut taker, nothing, source) {
         Ok(gathering) => Ok(gathering),
         Err(cause) => Err(fault_in(Place::Input(1), cause)),
     }

@@ -1,9 +1,13 @@
 //! Table files.
 
 ghost use Rattle.std.specs.Prelude.{◌≡◌, ◌⊎◌, ℕ, IfErr, IfOk};
-ghost use Rattle.inputs.specs.TableFiles.{IsRefusedTable, IsTableFile};
+ghost use Rattle.demands.specs.Table.{IsValidTable, TableParts};
+ghost use Rattle.pep_table.specs.TableText.{IsBadTable, IsTableText};
+ghost use Rattle.inputs.specs.TableFiles.{IsRefusedTable};
+ghost use Rattle.inputs.specs.Wanted.{IsPartOfFile, wanted_name, wanted_part};
 
 use faults::{Cause, LineFault};
+use pep_marker::Name;
 use pep_table::{Table, TableFault};
 use std::alloc::Global;
 use texts::INPUT_LIMIT;
@@ -20,11 +24,24 @@ fn table_cause(fault: TableFault) -> Cause
     }
 }
 
-/// The table whose text the bytes are, at most 16,777,216 of them. The causes of a refusal, in this
-/// order: 56 where there are more; 51 where they aren't UTF-8; 57 with 41 for the first line that
-/// can't stand in a table behind those before it (see [`Table::read`]). Want of memory is 60.
-pub(crate) fn table_in(alloc: Global, bytes: &[u8]) -> Result<Table, Cause>
-    ensures ok { IfOk result (IsTableFile bytes.now) }
+// The table whose text this is: of the wanted name alone, where there is one.
+fn read_part(alloc: Global, text: &str, wanted: Option<&Name>) -> Result<Table, TableFault>
+    ensures ok { IfOk result (λ part. (t : TableParts) × IsTableText t text.now × IsValidTable t
+        × (part ≡ wanted_part (wanted_name wanted.entry) t)) }
+    ensures refused { IfErr result (λ e. (e ≡ TableFault.NoMemory) ⊎ IsBadTable text.now e) }
+{
+    match wanted {
+        Some(name) => Table::read_named(alloc, text, name),
+        None => Table::read(alloc, text),
+    }
+}
+
+/// The table whose text the bytes are, at most 16,777,216 of them: of the wanted name alone, where
+/// there is one. The causes of a refusal, in this order: 56 where there are more bytes; 51 where they
+/// aren't UTF-8; 57 with 41 for the first line that can't stand in a table behind those before it
+/// (see [`Table::read`]). Want of memory is 60.
+pub(crate) fn table_in(alloc: Global, bytes: &[u8], wanted: Option<&Name>) -> Result<Table, Cause>
+    ensures ok { IfOk result (IsPartOfFile (wanted_name wanted.entry) bytes.now) }
     ensures refused { IfErr result (λ cause. (cause ≡ Cause.NoMemory)
         ⊎ IsRefusedTable bytes.now cause) }
 {
@@ -34,7 +51,7 @@ pub(crate) fn table_in(alloc: Global, bytes: &[u8]) -> Result<Table, Cause>
     let Ok(text) = std::str::from_utf8(bytes) else {
         return Err(Cause::NotUtf8);
     };
-    match Table::read(alloc, text) {
+    match read_part(alloc, text, wanted) {
         Ok(table) => Ok(table),
         Err(fault) => Err(table_cause(fault)),
     }

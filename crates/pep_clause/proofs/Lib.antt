@@ -10,6 +10,7 @@ pub mod CutOrderLemmas
 pub mod JoinedPoints
 pub mod NormalJoined
 pub mod Sweeping
+pub mod MovedSweep
 pub mod Rows
 pub mod OrderRows
 pub mod NextPlace

@@ -163,7 +163,7 @@ cut_first (x ∷ rest) r n some e f =
     (λ i. sym e i ∷ rest) ∙ ap (λ xs. r ∷ xs) (sym (take_all n rest (omega (arith, f))))
 
 -- a turn that passes the left range, or the right one
-left_swept : (ranges others found : List Range) (r s : Range) (rest more : List Range) →
+pub left_swept : (ranges others found : List Range) (r s : Range) (rest more : List Range) →
     IsSwept ranges others found (r ∷ rest) (s ∷ more) → is_lt (cut_cmp r.high s.high) ≡ true →
     IsSwept ranges others (found ++ range_joined r s) rest (s ∷ more)
 left_swept ranges others found r s rest more h e = record {
@@ -174,7 +174,7 @@ left_swept ranges others found r s rest more h e = record {
   right_apart = h.right_apart;
 }
 
-right_swept : (ranges others found : List Range) (r s : Range) (rest more : List Range) →
+pub right_swept : (ranges others found : List Range) (r s : Range) (rest more : List Range) →
     IsSwept ranges others found (r ∷ rest) (s ∷ more) → is_lt (cut_cmp r.high s.high) ≡ false →
     IsSwept ranges others (found ++ range_joined r s) (r ∷ rest) more
 right_swept ranges others found r s rest more h e = record {

@@ -1,10 +1,11 @@
 -- THE CODE'S WAY, and no definition of what two sets have in common: range by range. The code finds
 -- it by one sweep.
-use Rattle.std.specs.Prelude.{◌&&◌, Bool, false, List, [], ◌∷◌, ◌++◌, if◌then◌else◌}
+use Rattle.std.specs.Prelude.{◌≡◌, ◌⊎◌, ◌&&◌, Bool, false, List, [], ◌∷◌, ◌++◌, if◌then◌else◌}
 use Rattle.std.specs.List.{list_all}
 use Rattle.std.specs.Ordering.{is_ge, is_lt}
 use Rattle.std.specs.declared.cmp.Ordering.{Ordering}
-use Rattle.pep_clause.specs.Cut.{cut_cmp}
+use Rattle.std.specs.declared.cmp.Ordering.TheVariants.{Less}
+use Rattle.pep_clause.specs.Cut.{Cut, cut_cmp}
 use Rattle.pep_clause.specs.OperatorTable.{range}
 use Rattle.pep_clause.specs.VersionSet.{Range}
 
@@ -18,6 +19,12 @@ earlier R a b = if is_lt (R a b) then a else b
 -- what two ranges have in common: one range or none
 abbrev pub range_joined : Range → Range → List Range
 range_joined r s = range (later cut_cmp r.low s.low) (earlier cut_cmp r.high s.high)
+
+-- Two ranges are the same behind a place: they are one, or both begin below it and end together.
+abbrev pub SameBehind : Cut → Range → Range → Type 0
+SameBehind p r s =
+    (s ≡ r)
+    ⊎ ((s.high ≡ r.high) × (cut_cmp r.low p ≡ Less) × (cut_cmp s.low p ≡ Less))
 
 -- what a range has in common with each of a list
 abbrev pub row_joined : Range → List Range → List Range

@@ -1,9 +1,12 @@
 // Laws of version sets and cuts, as contracts, and those of clauses.
 
 ghost use Rattle.std.specs.Prelude.{◌≡◌, List};
+ghost use Rattle.std.specs.declared.cmp.Ordering.TheVariants.{Less};
 ghost use Rattle.pep_version.specs.Order.{place_of};
 ghost use Rattle.pep_version.specs.Version.{Version};
+ghost use Rattle.pep_clause.specs.Cut.{Cut, IsCut, cut_cmp};
 ghost use Rattle.pep_clause.specs.CutBytes.{CutsKeepOrder};
+ghost use Rattle.pep_clause.specs.CutOrder.{LiesStrictlyIn};
 ghost use Rattle.pep_clause.specs.SetEquality.{SamePoints, SameVersions};
 ghost use Rattle.pep_clause.specs.VersionSet.{IsNormal, Range, is_in};
 
@@ -21,6 +24,12 @@ pub fn one_list()
 pub fn one_list_of_versions()
     ensures { (ranges others : List Range) → IsNormal ranges → IsNormal others
         → SameVersions ranges others → ranges ≡ others }
+{}
+
+/// Between two cuts, one below the other, there is a version: it lies under the one alone, and
+/// whatever lies under the other lies under it too.
+pub fn between_cuts()
+    ensures { (c d : Cut) → IsCut c → IsCut d → cut_cmp c d ≡ Less → LiesStrictlyIn c d }
 {}
 
 /// Sets hold all versions that are the same in order or none of them: a version is in a set exactly

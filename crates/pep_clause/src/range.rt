@@ -1,9 +1,10 @@
 // Ranges between cuts.
 
-ghost use Rattle.std.specs.Prelude.{◌≡◌, ◌&&◌, ◌↔◌, not, option_to_list, IfErr, IfOk, IfSome, IsSome};
+ghost use Rattle.std.specs.Prelude.{◌≡◌, ◌&&◌, ◌↔◌, ◌∷◌, [], not, option_to_list, IfErr, IfOk, IfSome, IsSome};
+ghost use Rattle.std.specs.Prelude.{if◌then◌else◌};
 ghost use Rattle.std.specs.Cmp.{partial_equiv_from_equiv};
 ghost use Rattle.std.specs.declared.cmp.Ordering.TheVariants.{Less};
-ghost use Rattle.pep_clause.specs.Joined.{earlier, later, range_joined, is_within};
+ghost use Rattle.pep_clause.specs.Joined.{SameBehind, later, range_joined, is_within};
 ghost use Rattle.pep_clause.specs.Cut.{IsCut, cut_cmp, is_under};
 ghost use Rattle.pep_clause.specs.OperatorTable.{range};
 ghost use Rattle.pep_clause.specs.SetEquality.{same_range, same_range-equiv};
@@ -14,6 +15,7 @@ use specifiers::ClauseFault;
 use std::alloc::Global;
 use std::cmp::Ordering;
 use std::marker::Model;
+use std::mem::swap;
 
 /// What lies under the high cut and not under the low one; the low cut is below the high one.
 #[derive(Drop)]
@@ -35,16 +37,11 @@ impl Model for Range {
     ghost invariant = { λ a. (cut_cmp a.low a.high ≡ Less) × IsCut a.low × IsCut a.high };
 }
 
-fn later<'a>(a: &'a Cut, b: &'a Cut) -> &'a Cut
+/// The cut that is not below the other.
+pub(crate) fn later<'a>(a: &'a Cut, b: &'a Cut) -> &'a Cut
     ensures { result.now ≡ later cut_cmp a.now b.now }
 {
     if a < b { b } else { a }
-}
-
-fn earlier<'a>(a: &'a Cut, b: &'a Cut) -> &'a Cut
-    ensures { result.now ≡ earlier cut_cmp a.now b.now }
-{
-    if a < b { a } else { b }
 }
 
 impl Range {
@@ -74,24 +71,7 @@ impl Range {
         Some(Range { low, high })
     }
 
-    /// The range that both have in common, or none.
-    pub(crate) fn joined(&self, alloc: Global, other: &Range) -> Result<Option<Range>, ClauseFault>
-        ensures joined { IfOk result (λ r. option_to_list r ≡ range_joined self.now other.now) }
-        ensures faults { IfErr result (λ e. e ≡ ClauseFault.NoMemory) }
-    {
-        let low = later(self.low(), other.low());
-        let high = earlier(self.high(), other.high());
-        if low < high {
-            Ok(Some(Range {
-                low: low.copied(alloc)?,
-                high: high.copied(alloc)?,
-            }))
-        } else {
-            Ok(None)
-        }
-    }
-
-    /// The same of ranges that are used up: nothing is copied.
+    /// The range that both have in common, which are used up, or none.
     pub(crate) fn common(self, other: Range) -> Option<Range>
         ensures { option_to_list result ≡ range_joined self other }
     {
@@ -103,6 +83,26 @@ impl Range {
         let low = if low < other_low { other_low } else { low };
         let high = if high < other_high { high } else { other_high };
         Range::of(low, high)
+    }
+
+    /// Makes the range what of it doesn't lie under the other's beginning, and says whether there is any;
+    /// the other range is then left for what comes behind this one. The cuts are exchanged and no
+    /// range is moved: what is left of the other may begin elsewhere below the end of this range.
+    pub(crate) fn part(&mut self, other: &mut Range) -> bool
+        ensures both { (if result then self.new ∷ [] else [])
+            ≡ range (later cut_cmp self.old.low other.old.low) self.old.high }
+        ensures left { SameBehind self.old.high other.old other.new }
+        ensures above { cut_cmp other.new.low other.new.high ≡ Less }
+        ensures spelled { IsCut self.old.low × IsCut other.old.low }
+    {
+        if self.low < other.low {
+            if other.low < self.high {
+                swap(&mut self.low, &mut other.low);
+                return true;
+            }
+            return false;
+        }
+        true
     }
 
     /// Whether the range lies in the other.

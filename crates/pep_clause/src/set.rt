@@ -42,7 +42,7 @@ ghost use Rattle.pep_clause.specs.VersionSet.{HasFewRanges, is_point};
 use crate::cut::Cut;
 use crate::range::Range;
 use crate::range_ends::{greater_from, less_to, matching_to, next, prefix_end};
-use crate::sweep::swept_ranges;
+use crate::sweep::{moved_ranges, swept_ranges};
 use crate::turns::Turns;
 use pep_version::{Key, Version};
 use specifiers::{Clause, ClauseFault, ClauseForm};
@@ -104,7 +104,7 @@ fn push_range(done: &mut Vec<Range>, low: Cut, high: Cut) -> Result<(), ClauseFa
     Ok(())
 }
 
-// What two lists of ranges have in common, which are used up: where each has one, nothing is copied.
+// What two lists of ranges have in common, which are used up: no cut is copied.
 fn common_ranges(
     alloc: Global,
     ranges: Vec<Range>,
@@ -116,12 +116,7 @@ fn common_ranges(
     ensures faults { IfErr result (λ e. e ≡ ClauseFault.NoMemory) }
 {
     if ranges.len() != 1 || others.len() != 1 {
-        return swept_ranges(
-            alloc,
-            ranges.as_slice(),
-            others.as_slice(),
-            &mut Turns::none(),
-        );
+        return moved_ranges(alloc, ranges, others);
     }
     let (mut ranges, mut others) = (ranges, others);
     if let (Some(range), Some(other)) = (ranges.pop(), others.pop()) {
@@ -382,8 +377,8 @@ impl VersionSet {
         self.swept(alloc, other, &mut Turns::none())
     }
 
-    /// The versions that are in both sets, which are used up: where each is one range, nothing is
-    /// copied. The only fault is `NoMemory`.
+    /// The versions that are in both sets, which are used up: their cuts are moved. The only fault is
+    /// `NoMemory`.
     pub fn common(self, alloc: Global, other: VersionSet) -> Result<VersionSet, ClauseFault>
         ensures points { IfOk result (λ s. (c : Cut) → is_point s c
             ≡ (is_point self c && is_point other c)) }

@@ -1,29 +1,55 @@
 //! What two lists of ranges have in common, by one sweep over both.
 
 ghost use Rattle.std.specs.Prelude.{◌≡◌, ◌+◌, ◌++◌, ◌≤◌, IfErr, IfOk, OnOk, length};
-ghost use Rattle.pep_clause.specs.Joined.{joined, range_joined};
+ghost use Rattle.std.specs.Ordering.{is_lt};
+ghost use Rattle.std.specs.declared.cmp.Ordering.TheVariants.{Less};
+ghost use Rattle.pep_clause.specs.Cut.{IsCut, cut_cmp};
+ghost use Rattle.pep_clause.specs.OperatorTable.{range};
+ghost use Rattle.pep_clause.specs.Joined.{SameBehind, joined, later, range_joined};
 ghost use Rattle.pep_clause.specs.VersionSet.{IsNormal};
 
-use crate::range::Range;
+use crate::cut::Cut;
+use crate::range::{Range, later};
 use crate::turns::Turns;
 use specifiers::ClauseFault;
 use std::alloc::Global;
 
-// What two ranges have in common goes to the end of the list.
+// What lies between two cuts goes to the end of the list, if these are in order.
+fn push_between(
+    alloc: Global,
+    done: &mut Vec<Range>,
+    low: &Cut,
+    high: &Cut,
+) -> Result<(), ClauseFault>
+    ensures ok { OnOk result (done.new.items ≡ done.old.items ++ range low.now high.now) }
+    ensures faults { IfErr result (λ e. e ≡ ClauseFault.NoMemory) }
+{
+    if low < high {
+        let (low, high) = (low.copied(alloc)?, high.copied(alloc)?);
+        done.push(Range::between(low, high))?;
+    }
+    Ok(())
+}
+
+// What two ranges have in common goes to the end of the list. It gives whether the first one ends
+// before the other, which is found out here.
 fn push_common(
     alloc: Global,
     done: &mut Vec<Range>,
     range: &Range,
     other: &Range,
-) -> Result<(), ClauseFault>
+) -> Result<bool, ClauseFault>
     ensures ok { OnOk result (done.new.items ≡ done.old.items
         ++ range_joined range.now other.now) }
+    ensures first { IfOk result (λ first.
+        first ≡ is_lt (cut_cmp range.now.high other.now.high)) }
     ensures faults { IfErr result (λ e. e ≡ ClauseFault.NoMemory) }
 {
-    if let Some(both) = range.joined(alloc, other)? {
-        done.push(both)?;
-    }
-    Ok(())
+    let (end, other_end) = (range.high(), other.high());
+    let ends_first = end < other_end;
+    let high = if ends_first { end } else { other_end };
+    push_between(alloc, done, later(range.low(), other.low()), high)?;
+    Ok(ends_first)
 }
 
 /// What two lists have in common. Each turn passes a range of one of them: one that doesn't end behind
@@ -53,11 +79,62 @@ pub(crate) fn swept_ranges(
             return Ok(done);
         };
         turns.tick();
-        push_common(alloc, &mut done, range, other)?;
-        if range.high() < other.high() {
+        if push_common(alloc, &mut done, range, other)? {
             left = left_rest;
         } else {
             right = right_rest;
+        }
+    }
+}
+
+// What the range that ends first has in common with the other goes to the end of the list.
+fn push_first(done: &mut Vec<Range>, mut first: Range, other: &mut Range) -> Result<(), ClauseFault>
+    ensures both { OnOk result (done.new.items ≡ done.old.items
+        ++ range (later cut_cmp first.low other.old.low) first.high) }
+    ensures left { SameBehind first.high other.old other.new }
+    ensures above { cut_cmp other.new.low other.new.high ≡ Less }
+    ensures spelled { IsCut first.low × IsCut other.old.low }
+    ensures faults { IfErr result (λ e. e ≡ ClauseFault.NoMemory) }
+{
+    if first.part(other) {
+        done.push(first)?;
+    }
+    Ok(())
+}
+
+/// What two lists that are used up have in common: the same sweep, whose ranges are moved.
+pub(crate) fn moved_ranges(
+    alloc: Global,
+    ranges: Vec<Range>,
+    others: Vec<Range>,
+) -> Result<Vec<Range>, ClauseFault>
+    requires ranges { IsNormal ranges.items }
+    requires others { IsNormal others.items }
+    ensures ok { IfOk result (λ done. done.items ≡ joined ranges.items others.items) }
+    ensures faults { IfErr result (λ e. e ≡ ClauseFault.NoMemory) }
+{
+    let most = ranges.len().saturating_add(others.len().saturating_sub(1));
+    let mut done = Vec::with_capacity(alloc, most)?;
+    let (mut left, mut right) = (ranges.into_iter(), others.into_iter());
+    let Some(mut range) = left.next() else {
+        return Ok(done);
+    };
+    let Some(mut other) = right.next() else {
+        return Ok(done);
+    };
+    'sweep: loop {
+        if range.high() < other.high() {
+            push_first(&mut done, range, &mut other)?;
+            let Some(next) = left.next() else {
+                return Ok(done);
+            };
+            range = next;
+        } else {
+            push_first(&mut done, other, &mut range)?;
+            let Some(next) = right.next() else {
+                return Ok(done);
+            };
+            other = next;
         }
     }
 }

@@ -6,6 +6,7 @@ pub mod Slots
 pub mod Marker
 pub mod MarkerText
 pub mod Holds
+pub mod Judged
 pub mod Code
 pub mod View
 pub mod NormalView

@@ -100,6 +100,8 @@ fn is_extra(operand: &Operand) -> bool
     matches!(operand, Operand::Variable(Variable::Extra))
 }
 
+// Not part of the frame of `tree_truth`, of which there are as many as comparisons in a chain.
+#[inline(never)]
 fn comparison_truth(
     alloc: Global,
     environment: &Environment,

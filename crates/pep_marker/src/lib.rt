@@ -6,6 +6,7 @@ mod compared_text;
 mod environment;
 mod fault;
 mod holds;
+mod judged;
 pub mod laws;
 mod marker;
 mod name;
@@ -16,5 +17,6 @@ mod value;
 
 pub use crate::environment::{Environment, Variable};
 pub use crate::fault::MarkerFault;
+pub use crate::judged::JudgedMarkers;
 pub use crate::marker::{Marker, Operand, Operator};
 pub use crate::name::{Name, norm_of};

@@ -63,8 +63,8 @@ one_bounds_fault closed x f g (later_bound {behind = behind} {c = c} b e h)
 one_url_fault : (x : List ℕ) (f g : RequireFault) → f ≢ fault.UrlOverflow →
     g ≢ fault.UrlOverflow → RefusesUrl x f → RefusesUrl x g → f ≡ g
 one_url_fault x f g known told (inl h) (inl k) = h.0 ∙ sym k.0
-one_url_fault x f g known told (inl h) (inr k) = absurd (told k)
-one_url_fault x f g known told (inr h) k = absurd (known h)
+one_url_fault x f g known told (inl h) (inr k) = absurd (told k.0)
+one_url_fault x f g known told (inr h) k = absurd (known h.0)
 
 one_target_fault : {x : List ℕ} {f g : RequireFault} → f ≢ fault.UrlOverflow →
     g ≢ fault.UrlOverflow → RefusesTarget x f → RefusesTarget x g → f ≡ g

@@ -266,7 +266,7 @@ pub refused_target : {x rest : List ℕ} {t : TargetParts} {f : RequireFault} �
     f ≢ fault.UrlOverflow → RefusesTarget x f → TargetFrom x t rest → ⊥
 refused_target known (bad_url h) (no_target e) = cc e
 refused_target known (bad_url (inl h)) (url_target {u = u} g) = h.1 u g.url
-refused_target known (bad_url (inr h)) (url_target g) = known h
+refused_target known (bad_url (inr h)) (url_target g) = known h.0
 refused_target known (bad_url h) (bare_target e g) = cc e
 refused_target known (bad_closed h) (no_target e) = cc e
 refused_target known (bad_closed {x = x} {f = f} h) (closed_target {rest = rest} {cs = cs} g) =

@@ -2,21 +2,23 @@
 -- that fails where the line is refused: the code's way. The grammar stands in `Reads`; PyPA
 -- "Dependency specifiers", "Grammar" (PEP 508).
 use Rattle.std.specs.Prelude.{◌≡◌, ◌≢◌, ℕ, ◌==◌, ◌⊎◌, Bool, true, false, not, ◌||◌, List, []}
-use Rattle.std.specs.Prelude.{◌∷◌, ◌++◌, drop, length, take_while, Option, Some, None, Err}
+use Rattle.std.specs.Prelude.{◌∷◌, ◌++◌, drop, length, take_while, Option, Some, None, Err, IsTrue}
+use Rattle.std.specs.Prelude.{nat_lt}
+use Rattle.std.specs.List.{list_all}
 use Rattle.specifiers.specs.Clause.{Clause, ClauseOf, IsClauseOf, operator_of}
 use Rattle.texts.specs.Bytes.{is_clause_byte}
 use Rattle.specifiers.specs.Clause.{operator_text}
 use Rattle.specifiers.specs.declared.fault.ClauseFault.{ClauseFault}
 use Rattle.specifiers.specs.declared.fault.ClauseFault.TheVariants as clause_fault
 use Rattle.specifiers.specs.declared.op.Op.{Op}
-use Rattle.pep_marker.specs.Marker.{NoMarker}
+use Rattle.pep_marker.specs.Marker.{MarkerParts, NoMarker}
 use Rattle.pep_marker.specs.Name.{name_of}
 use Rattle.texts.specs.Runs.{begins, without_leading_blanks}
 use Rattle.texts.specs.Bytes.{is_blank_byte}
 use Rattle.pep_marker.specs.declared.fault.MarkerFault.{MarkerFault}
 use Rattle.pep_marker.specs.declared.fault.MarkerFault.TheVariants as marker_fault
 use Rattle.pep_require.specs.Faults.{beginning_fault, after_name, name_run}
-use Rattle.pep_require.specs.Reads.{ReadsExtras, ReadsUrl, ReadsMarker}
+use Rattle.pep_require.specs.Reads.{Reads, ReadsExtras, ReadsUrl, ReadsMarker}
 use Rattle.pep_require.specs.Requirement.{RequirementParts, TargetParts, bounds, direct, UrlParts}
 use Rattle.pep_require.specs.declared.fault.RequireFault.{RequireFault}
 use Rattle.pep_require.specs.declared.fault.RequireFault.TheVariants as fault
@@ -114,10 +116,12 @@ pub record UrlFrom (x : List ℕ) (u : UrlParts) (rest : List ℕ) : Type 0 wher
   pub url : ReadsUrl (url_run (without_leading_blanks x)) u
   pub left : rest ≡ drop (length (url_run (without_leading_blanks x))) (without_leading_blanks x)
 
--- The text is no URL, or the reader of URLs answers its own overflow, of which nothing is known.
+-- The text is no URL; or it holds no space and no character U+0000 to U+001F, and the reader of URLs
+-- answers its own overflow, of which nothing more is known.
 abbrev pub RefusesWritten : List ℕ → RequireFault → Type 0
 RefusesWritten written f =
-    ((f ≡ fault.BadUrl) × ((u : UrlParts) → ¬ ReadsUrl written u)) ⊎ (f ≡ fault.UrlOverflow)
+    ((f ≡ fault.BadUrl) × ((u : UrlParts) → ¬ ReadsUrl written u))
+    ⊎ ((f ≡ fault.UrlOverflow) × IsTrue (list_all (λ b. nat_lt 32 b) written))
 
 abbrev pub RefusesUrl : List ℕ → RequireFault → Type 0
 RefusesUrl x f = RefusesWritten (url_run (without_leading_blanks x)) f
@@ -192,3 +196,15 @@ pub data RefusesLine (x : List ℕ) (f : RequireFault) : Type 0 where
       TargetFrom (without_leading_blanks rest) t behind →
       RefusesEnding (without_leading_blanks behind) f → RefusesLine x f
   no_memory : f ≡ fault.NoMemory → RefusesLine x f
+
+-- ---- a line up to its marker
+
+abbrev pub with_marker : Option MarkerParts → RequirementParts → RequirementParts
+with_marker m r = record { name = r.name; extras = r.extras; target = r.target; marker = m }
+
+-- The line is read as the requirement, which has no marker, but for what is left of it: with the
+-- marker that this is read as, and where it is none, the line is refused as it is.
+pub record ReadsFront (x : List ℕ) (r : RequirementParts) (left : List ℕ) : Type 0 where
+  pub bare : r.marker ≡ None
+  pub read : (m : Option MarkerParts) → ReadsMarker left m → Reads x (with_marker m r)
+  pub refused : (f : RequireFault) → RefusesEnding left f → RefusesLine x f

@@ -1,6 +1,6 @@
 // The clauses of a line (PEP 508, "Grammar"), read from left to right. No text is copied.
 
-ghost use Rattle.std.specs.Prelude.{◌≡◌, ◌⊎◌, [], if◌then◌else◌, IfErr, IfOk};
+ghost use Rattle.std.specs.Prelude.{◌≡◌, ◌⊎◌, ◌++◌, ◌∷◌, [], if◌then◌else◌, IfErr, IfOk, OnOk};
 ghost use Rattle.pep_require.specs.LineParts.{
   BoundFrom,
   BoundsFrom,
@@ -69,12 +69,39 @@ pub(crate) fn clauses_at<'a>(
     ensures refused { IfErr result (λ e. (e ≡ RequireFault.NoMemory)
         ⊎ RefusesBounds closed text.now e) }
 {
-    let (listed, _) = first_part(text.as_bytes(), end_byte(closed));
-    let mut clauses = Vec::with_capacity(alloc, pieces(listed))?;
+    let mut clauses = Vec::new(alloc);
     let rest = read_clauses(alloc, text, closed, &mut clauses)?;
     // A `,` behind the last clause was counted.
     clauses.shrink_to_fit();
     Ok(Bounds { clauses, rest })
+}
+
+// How many clauses a list has at most whose first one stands before this text: most lists have one,
+// behind which no `,` stands.
+fn count(rest: &str, closed: bool) -> usize {
+    if behind(rest, ',').is_none() {
+        return 1;
+    }
+    let (listed, _) = first_part(rest.as_bytes(), end_byte(closed));
+    pieces(listed)
+}
+
+// A clause behind which this text stands goes to the end of the list, which has room for all clauses once
+// it has the first.
+fn keep_clause(
+    clauses: &mut Vec<Clause>,
+    clause: Clause,
+    rest: &str,
+    closed: bool,
+) -> Result<(), RequireFault>
+    ensures items { OnOk result (clauses.new.items ≡ clauses.old.items ++ clause ∷ []) }
+    ensures faults { IfErr result (λ e. e ≡ RequireFault.NoMemory) }
+{
+    if clauses.is_empty() {
+        clauses.reserve_exact(count(rest, closed))?;
+    }
+    clauses.push(clause)?;
+    Ok(())
 }
 
 // Reads the clauses in front of the text into the vector, which is empty, and gives the text behind
@@ -94,7 +121,7 @@ fn read_clauses<'a>(
     let mut left = text;
     loop {
         let (clause, rest) = clause_at(alloc, left)?;
-        clauses.push(clause)?;
+        keep_clause(clauses, clause, rest, closed)?;
         let Some(others) = behind(rest, ',') else {
             return Ok(rest);
         };

@@ -13,5 +13,6 @@ mod text;
 mod url_text;
 
 pub use crate::fault::RequireFault;
+pub use crate::read::{Front, marker_text};
 pub use crate::requirement::{Requirement, Target};
 pub use crate::url_text::UrlText;

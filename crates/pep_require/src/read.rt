@@ -1,6 +1,6 @@
 // How a requirement line is read, part by part from left to right.
 
-ghost use Rattle.std.specs.Prelude.{◌≡◌, ◌⊎◌, IfErr, IfOk, None, Some};
+ghost use Rattle.std.specs.Prelude.{◌≡◌, ◌⊎◌, ◌∷◌, [], IfErr, IfOk, MatchOption, None, Some};
 ghost use Rattle.std.specs.Option.{option_map};
 ghost use Rattle.pep_marker.specs.Name.{name_of};
 ghost use Rattle.pep_marker.specs.View.{marker_parts};
@@ -19,7 +19,7 @@ use texts::{LINE_LIMIT, name_run};
 
 impl Requirement {
     ghost use Rattle.std.specs.Prelude.{IfErr, IfOk};
-    ghost use Rattle.pep_require.specs.LineParts.{RefusesLine};
+    ghost use Rattle.pep_require.specs.LineParts.{ReadsFront, RefusesLine};
     ghost use Rattle.pep_require.specs.Reads.{Reads};
     ghost use Rattle.pep_require.specs.View.{requirement_parts};
 
@@ -36,17 +36,48 @@ impl Requirement {
         ensures ok { IfOk result (λ r. Reads line.now (requirement_parts r)) }
         ensures refused { IfErr result (RefusesLine line.now) }
     {
-        let start = name_at(alloc, line)?;
-        let extras = extras_at(alloc, start.rest)?;
-        let target = target_at(alloc, stripped(extras.rest))?;
-        let marker = marker_at(alloc, stripped(target.rest))?;
+        let front = Requirement::front(alloc, line)?;
+        let marker = marker_at(alloc, front.left)?;
+        let requirement = front.requirement;
         Ok(Requirement {
-            name: start.name,
-            extras: extras.names,
-            target: target.target,
+            name: requirement.name,
+            extras: requirement.extras,
+            target: requirement.target,
             marker,
         })
     }
+
+    /// Reads a requirement line up to its marker: the requirement without it, and what is left of the
+    /// line, which is nothing, or `;` and a marker, or else a fault of the line as
+    /// [`Requirement::read`] tells it. The refusals are among those of `read`.
+    #[inline(always)]
+    pub fn front<'a>(alloc: Global, line: &'a str) -> Result<Front<'a>, RequireFault>
+        ensures ok { IfOk result (λ front.
+            ReadsFront line.now (requirement_parts front.requirement) front.left.now) }
+        ensures refused { IfErr result (RefusesLine line.now) }
+    {
+        let start = name_at(alloc, line)?;
+        let extras = extras_at(alloc, start.rest)?;
+        let target = target_at(alloc, stripped(extras.rest))?;
+        Ok(Front {
+            requirement: Requirement {
+                name: start.name,
+                extras: extras.names,
+                target: target.target,
+                marker: None,
+            },
+            left: stripped(target.rest),
+        })
+    }
+}
+
+/// A requirement line that is read up to its marker.
+#[derive(Drop)]
+pub struct Front<'a> {
+    /// The requirement without its marker.
+    pub requirement: Requirement,
+    /// What is left of the line, without white space before it.
+    pub left: &'a str,
 }
 
 // The name that a line begins with, and the text behind it.
@@ -79,19 +110,34 @@ fn name_at<'a>(alloc: Global, line: &'a str) -> Result<Start<'a>, RequireFault>
     })
 }
 
-// The marker of a line, whose end this text is, without white space before it.
-fn marker_at(alloc: Global, text: &str) -> Result<Option<Marker>, RequireFault>
-    ensures read { IfOk result (λ found. ReadsMarker text.now (option_map marker_parts found)) }
-    ensures refused { IfErr result (λ e. (e ≡ RequireFault.NoMemory)
-        ⊎ RefusesEnding text.now e) }
+/// The text of the marker that this is, which is left of a line that is read up to its marker;
+/// nothing where nothing is left. The only fault is `Trailing`, 36, where something else stands there
+/// than `;` and what is to be a marker (PEP 508, "Grammar").
+pub fn marker_text(left: &str) -> Result<Option<&str>, RequireFault>
+    ensures found { IfOk result (λ found. MatchOption found (left.now ≡ [])
+        (λ text. left.now ≡ 59 ∷ text.now)) }
+    ensures refused { IfErr result (λ e. (e ≡ RequireFault.Trailing) × RefusesEnding left.now e) }
 {
-    if text.is_empty() {
+    if left.is_empty() {
         return Ok(None);
     }
-    let Some(marker) = behind(text, ';') else {
-        return Err(RequireFault::Trailing);
+    match behind(left, ';') {
+        Some(text) => Ok(Some(text)),
+        None => Err(RequireFault::Trailing),
+    }
+}
+
+// The marker of a line, whose end this text is, without white space before it.
+fn marker_at(alloc: Global, left: &str) -> Result<Option<Marker>, RequireFault>
+    ensures read { IfOk result (λ found. ReadsMarker left.now (option_map marker_parts found)) }
+    ensures refused { IfErr result (λ e. (e ≡ RequireFault.NoMemory)
+        ⊎ RefusesEnding left.now e) }
+{
+    let found = marker_text(left)?;
+    let Some(text) = found else {
+        return Ok(None);
     };
-    match Marker::read(alloc, marker) {
+    match Marker::read(alloc, text) {
         Ok(marker) => Ok(Some(marker)),
         Err(MarkerFault::NoMemory) => Err(RequireFault::NoMemory),
         Err(fault) => Err(RequireFault::BadMarker(fault)),

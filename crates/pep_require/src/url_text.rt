@@ -48,8 +48,8 @@ impl UrlText {
     /// characters U+0000 to U+001F, which the standard prints with the characters U+0021 to U+007E
     /// alone.
     ///
-    /// Any other text is `BadUrl`, 34. Where the reader of URLs answers its own overflow it is
-    /// `UrlOverflow`, 39, and there may be want of memory, 40.
+    /// Any other text is `BadUrl`, 34. Where the reader of URLs answers its own overflow for a text
+    /// without spaces and such characters it is `UrlOverflow`, 39, and there may be want of memory, 40.
     pub fn read(alloc: Global, written: &str) -> Result<UrlText, RequireFault>
         ensures ok { IfOk result (λ u. ReadsUrl written.now u) }
         ensures refused { IfErr result (λ e. (e ≡ RequireFault.NoMemory)

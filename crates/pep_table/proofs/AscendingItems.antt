@@ -10,6 +10,7 @@ use Rattle.std.specs.List.{slice_get}
 use Rattle.std.specs.Ordering.{is_lt, nat_cmp}
 use Rattle.pep_clause.proofs.Between.{less_told}
 use Rattle.pep_require.specs.Requirement.{IsAscending}
+use Rattle.pep_table.specs.EntryReading.{FollowsAlike}
 
 -- a list is what stands before its last item, and that
 pub last_split : {X : Type 0} (xs : List X) (x : X) → slice_get xs (length xs - 1) ≡ Some x →
@@ -29,6 +30,13 @@ rises_further (x ∷ []) a b h = (λ e. (h.0, (e, tt)), λ g. g.1.0)
 rises_further (x ∷ y ∷ fs) a b h =
     let more = rises_further (y ∷ fs) a b h.1 in (λ e. (h.0, more.0 e), λ g. more.1 g.1)
 
+-- behind texts in order stands what stands behind the last
+pub behind_one : (fs : List (List ℕ)) (a : List ℕ) → IsAscending (fs ++ a ∷ []) →
+    FollowsAlike (fs ++ a ∷ []) (a ∷ [])
+behind_one fs a h m =
+    let all = rises_further fs a m h in
+    let one = rises_further [] a m tt in ((λ u. one.0 (all.1 u)), λ u. all.0 (one.1 u))
+
 -- a text stands behind all exactly if it does behind the last
 pub behind_last : {X : Type 0} (text : X → List ℕ) (xs : List X) (x : X) (y : List ℕ) →
     slice_get xs (length xs - 1) ≡ Some x → IsAscending (map text xs) →
@@ -42,3 +50,13 @@ behind_last text xs x y e h =
           (further.0 (less_told (slice_cmp nat_cmp (text x) y) t)),
       λ g. rw (further.1 (subst (λ l. IsAscending (l ++ y ∷ [])) split g)) refl,
     )
+
+pub last_alike : {X : Type 0} (text : X → List ℕ) (xs : List X) (x : X) →
+    slice_get xs (length xs - 1) ≡ Some x → IsAscending (map text xs) →
+    FollowsAlike (map text xs) (text x ∷ [])
+last_alike text xs x e h =
+    let front = map text (take (length xs - 1) xs) in
+    let split : map text xs ≡ front ++ text x ∷ [] =
+    ap (map text) (last_split xs x e) ∙ map-append text (take (length xs - 1) xs) (x ∷ []) in
+    subst (λ l. FollowsAlike l (text x ∷ [])) (sym split)
+    (behind_one front (text x) (subst IsAscending split h))

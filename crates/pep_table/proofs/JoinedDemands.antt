@@ -14,7 +14,7 @@ use Rattle.pep_clause.proofs.SetLemmas.{is_in-place_of}
 use Rattle.pep_clause.proofs.UnderCut.{is_in-is_point}
 use Rattle.specifiers.specs.Clause.{demanded}
 use Rattle.pep_clause.specs.Cut.{Cut, IsCut, before}
-use Rattle.pep_clause.specs.VersionSet.{In, IsPoint, Range, all_versions, is_in, is_point}
+use Rattle.pep_clause.specs.VersionSet.{IsPoint, Range, all_versions, is_in, is_point}
 use Rattle.pep_table.specs.TableLaws.{right_kept}
 use Rattle.demands.proofs.OwnEntry.{own_entry}
 use Rattle.demands.specs.Demand.{AdmitsBesideTexts, Demand, Demands, Together, presence, extra}

@@ -10,6 +10,7 @@ pub mod MergeLaws
 pub mod SameDemands
 pub mod Members
 pub mod Taking
+pub mod EntryRanges
 pub mod Runs
 pub mod CutTexts
 pub mod TableLines

@@ -35,8 +35,7 @@ pub merges_alike : MergesAlike
 merges_alike e a b x y v w same h g =
     let first = tree_table e a h.0 v h.1 in
     let second = tree_table e b g.0 w g.1 in
-    one_text (TreeDemands e a) (TreeDemands e b) h.0 g.0 x y same first.0 first.1 second.0 second.1
-    h.2 g.2
+    one_text (TreeDemands e a) (TreeDemands e b) h.0 g.0 x y same first.0 second.0 h.2 g.2
 
 -- tables that are joined to a first one, one after the other, are made by such a tree
 pub all_made : (e : EnvironmentParts) (a : MergeTree) (trees : List MergeTree) (s : TableParts)

@@ -16,6 +16,7 @@ use Rattle.pep_require.proofs.Ascending.{Contains-from_IsIn, IsIn-from_Contains,
 use Rattle.demands.specs.EntryLaws.{IsJoin-JoinsEntries}
 use Rattle.demands.specs.Gathering.{HasValidParts, TakesEntry, TakesRequirement, bare_entry}
 use Rattle.demands.specs.Join.{JoinsAt, JoinsEntries, JoinsTables}
+use Rattle.pep_table.specs.NamedEntry.{entry_alone}
 use Rattle.pep_table.specs.OneText.{entry_first, entry_other, entry_there, eq_false, eq_true}
 use Rattle.pep_table.specs.OneText.{first_apart, name_there, valid_at}
 use Rattle.demands.specs.JoinLaws.{IsJoin-IsUnion}
@@ -107,6 +108,22 @@ changed_valid old new n w v normal valid up is = record {
     entry q e false other at =
         let there : entry_at old q ≡ Some e = rw other at at in
         valid_at old q e v.entries there
+
+-- what a valid table has of one name is a valid table
+pub alone_valid : (t : TableParts) (n : List ℕ) (o : Option EntryParts) → o ≡ entry_at t n →
+    IsValidTable t → IsValidTable (entry_alone n o)
+alone_valid t n None at v = record {
+  names = (tt, All-nil IsNormalName);
+  entries = All-nil (λ p. IsValidEntry p.1);
+}
+alone_valid t n (Some e) at v =
+    let normal : IsNormalName n = All-contains IsNormalName (names t) n v.names.1
+    (Contains-from_IsIn (names t) n (name_there t n e (sym at))) in
+    record {
+      names = (tt, All-cons IsNormalName n [] normal (All-nil IsNormalName));
+      entries = All-cons (λ p. IsValidEntry p.1) (n, e) [] (valid_at t n e v.entries (sym at))
+          (All-nil (λ p. IsValidEntry p.1));
+    }
 
 -- ---- what a change is
 

@@ -1,7 +1,8 @@
 -- The entries of a table's text, read one by one.
 use Rattle.std.proofs.Common.{◌≡◌, ◌⊎◌, ℕ, true, List, [], ◌∷◌, ◌++◌, codes, inl, inr}
 use Rattle.std.proofs.Common.{refl, sym, ap, subst, ◌∙◌, append_assoc, append-nil, arith, length, map, ◌<◌, ◌≤◌, ◌+◌}
-use Rattle.std.specs.Prelude.{All}
+use Rattle.std.proofs.Common.{Option, Some, None}
+use Rattle.std.specs.Prelude.{All, bytes_eq, if◌then◌else◌}
 use Rattle.std.specs.List.{list_all}
 use Rattle.std.proofs.lemmas.Bool.Decides.{nat_tests}
 use Rattle.std.proofs.lemmas.List.{length-append, map-append}
@@ -9,16 +10,20 @@ use Rattle.std.proofs.lemmas.List.Elements.{All-head, All-nil, All-push, All-tai
 use Rattle.texts.proofs.Connectives.{and_first}
 use Rattle.pep_marker.specs.Name.{IsNormalName}
 use Rattle.pep_require.specs.Requirement.{IsAscending}
+use Rattle.pep_table.proofs.AscendingItems.{behind_one}
 use Rattle.pep_table.proofs.CutTexts.{is_plain}
+use Rattle.pep_table.proofs.EntryPlaces.{found_more}
 use Rattle.pep_table.proofs.ReadItems.{all_behind, ascending_front}
 use Rattle.pep_table.proofs.ReadParts.{one_head}
 use Rattle.pep_table.proofs.TableLines.{name_plain, regroup}
-use Rattle.pep_table.specs.OneText.{entry_verdict_one}
+use Rattle.demands.proofs.Verdicts.{verdict_one}
 use Rattle.demands.specs.declared.verdict.Verdict.{Verdict}
-use Rattle.pep_table.specs.EntryReading.{BeginsSpace, HasHead, HasNext, HasNoHead, HasNoNext}
+use Rattle.pep_table.specs.EntryReading.{BeginsSpace, FollowsAlike, HasHead, HasNext, HasNoHead}
+use Rattle.pep_table.specs.EntryReading.{HasNoNext}
 use Rattle.pep_table.specs.EntryReading.{HasNoParts, HasOtherVerdict, HasParts, IsEntryAt, head_line}
 use Rattle.pep_table.specs.EntryReading.{parts_then, ranges_then, texts_then, urls_then}
-use Rattle.demands.specs.Table.{EntryParts, IsValidEntry, IsValidTable, TableParts, names}
+use Rattle.demands.specs.Table.{EntryDemands, EntryParts, IsValidEntry, IsValidTable, TableParts}
+use Rattle.demands.specs.Table.{entry_at, names}
 use Rattle.pep_table.specs.TableText.{IsNoTableText, IsTableText, Shows, entry_text, kind_lines}
 use Rattle.pep_table.specs.TableText.{line, range_text}
 use Rattle.demands.specs.Verdict.{verdict_word}
@@ -65,7 +70,7 @@ module _ (before : List (List ℕ)) (x : List ℕ) where
       other_verdict right shows other m f y out next =
           let same = same_head m f y next in
           let entry = (parts.one f y next.valid out same.2).0 in
-          other (entry_verdict_one e right next.text.0 shows
+          other (verdict_one (EntryDemands e) right next.text.0 shows
           (subst (λ g. Shows g next.text.0) (sym entry) next.text.1) ∙ sym same.1)
 
       pub entry_read : IsAscending (before ++ name ∷ []) → Shows e verdict →
@@ -92,6 +97,33 @@ module _ (before : List (List ℕ)) (x : List ℕ) where
     not_read (inl none) = no_parts none
     not_read (inr (e, behind, right, parts, shows, other)) =
         other_verdict e behind parts right shows other
+
+-- ---- behind names that are followed alike
+
+module _ (before after : List (List ℕ)) (x : List ℕ) (alike : FollowsAlike before after) where
+  entry_alike : (m : List ℕ) (f : EntryParts) (y : List ℕ) → IsEntryAt before x m f y →
+      IsEntryAt after x m f y
+  entry_alike m f y at = record {
+    is_name = at.is_name;
+    behind = (alike m).0 at.behind;
+    valid = at.valid;
+    text = at.text;
+  }
+
+  pub next_alike : (name : List ℕ) (e : EntryParts) (rest : List ℕ) →
+      HasNext after x name e rest → HasNext before x name e rest
+  next_alike name e rest found = record {
+    next = record {
+      is_name = found.next.is_name;
+      behind = (alike name).1 found.next.behind;
+      valid = found.next.valid;
+      text = found.next.text;
+    };
+    one = λ m f y at out. found.one m f y (entry_alike m f y at) out;
+  }
+
+  pub none_alike : HasNoNext after x → HasNoNext before x
+  none_alike none m f y out at = none m f y out (entry_alike m f y at)
 
 -- ---- what a table goes on with
 
@@ -238,3 +270,46 @@ module _ (x : List ℕ) (t : TableParts) (rest : List ℕ) (s : EntriesSoFar x t
           subst (IsTableText more) (sym same.2) left,
         );
   }
+
+-- ---- the entry of one name
+
+-- entries are read, of which the last name is kept, and what they have of one name
+pub record NamedSoFar (x n : List ℕ) (last : List (List ℕ)) (found : Option EntryParts)
+    (rest : List ℕ) : Type 0 where
+  pub done : TableParts
+  pub entries : EntriesSoFar x done rest
+  pub alike : FollowsAlike (names done) last
+  pub kept : found ≡ entry_at done n
+
+pub none_named : (x n : List ℕ) → NamedSoFar x n [] None x
+none_named x n = record {
+  done = [];
+  entries = none_read x;
+  alike = λ m. ((λ h. h), λ h. h);
+  kept = refl;
+}
+
+module _ (x n : List ℕ) (last : List (List ℕ)) (found : Option EntryParts) (rest : List ℕ)
+    (s : NamedSoFar x n last found rest) where
+  pub named_read : length rest ≡ 0 →
+      (t : TableParts) × IsTableText t x × IsValidTable t × (found ≡ entry_at t n)
+  named_read e = (s.done, all_read x s.done rest s.entries e, s.entries.valid, s.kept)
+
+  pub no_named : ¬ (rest ≡ []) → HasNoNext last rest → IsNoTableText x
+  no_named some none =
+      no_next x s.done rest s.entries some (none_alike (names s.done) last rest s.alike none)
+
+  pub named_more : (name : List ℕ) (e : EntryParts) (behind : List ℕ) → ¬ (rest ≡ []) →
+      HasNext last rest name e behind → NamedSoFar x n (name ∷ [])
+      (if bytes_eq name n then Some e else found) behind
+  named_more name e behind some next =
+      let own = next_alike (names s.done) last rest s.alike name e behind next in
+      let more = entry_more x s.done rest s.entries name e behind some own in
+      let split = map-append (λ q. q.0) s.done ((name, e) ∷ []) in
+      record {
+        done = s.done ++ (name, e) ∷ [];
+        entries = more;
+        alike = subst (λ l. FollowsAlike l (name ∷ [])) (sym split)
+            (behind_one (names s.done) name own.next.behind);
+        kept = found_more s.done (name, e) n found more.valid.names.0 s.kept;
+      }

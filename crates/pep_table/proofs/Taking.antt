@@ -256,7 +256,7 @@ old_entry Q (Some a) h = (h.entry, h.points)
 
 -- ---- the table at one name
 
-demand_name : (r : RequirementParts) (name : List ℕ) (d : Demand) → RequirementDemands r name d →
+pub demand_name : (r : RequirementParts) (name : List ℕ) (d : Demand) → RequirementDemands r name d →
     name ≡ r.name
 demand_name r name presence h = h
 demand_name r name (extra x) h = h.0
@@ -317,7 +317,7 @@ taken_is_table Q s r t h g k =
 
 -- ---- requirements that apply
 
-marker_one : (e : EnvironmentParts) (m : Option MarkerParts) (p q : Truth) → MarkerSays e m p →
+pub marker_one : (e : EnvironmentParts) (m : Option MarkerParts) (p q : Truth) → MarkerSays e m p →
     MarkerSays e m q → p ≡ q
 marker_one e None p q h g = h ∙ sym g
 marker_one e (Some m) p q h g = evaluates_one e m p q h g
@@ -344,7 +344,7 @@ own_or_more e r rs name d q = by (in_either r rs q.0 q.1)
         )
     by (inr m) = inr (q.0, m, q.2, q.3)
 
-with_taken : (e : EnvironmentParts) (Q : Demands) (r : RequirementParts)
+pub with_taken : (e : EnvironmentParts) (Q : Demands) (r : RequirementParts)
     (rs : List RequirementParts) (name : List ℕ) (d : Demand) → Applies e r →
     Together (Together Q (RequirementDemands r)) (ApplyingDemands e rs) name d
     ↔ Together Q (ApplyingDemands e (r ∷ rs)) name d
@@ -366,7 +366,7 @@ with_taken e Q r rs name d applies = (there, back)
     back (inl q) = inl (inl q)
     back (inr w) = split (own_or_more e r rs name d w)
 
-without_passed : (e : EnvironmentParts) (Q : Demands) (r : RequirementParts)
+pub without_passed : (e : EnvironmentParts) (Q : Demands) (r : RequirementParts)
     (rs : List RequirementParts) (name : List ℕ) (d : Demand) → (Applies e r → ⊥) →
     Together Q (ApplyingDemands e rs) name d ↔ Together Q (ApplyingDemands e (r ∷ rs)) name d
 without_passed e Q r rs name d never = (there, back)

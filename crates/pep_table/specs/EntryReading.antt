@@ -1,5 +1,7 @@
 -- What stands in front of a text of a table: an entry.
-use Rattle.std.specs.Prelude.{◌≡◌, ℕ, codes, List, [], ◌∷◌, ◌++◌, map}
+use Rattle.std.specs.Prelude.{◌≡◌, ◌↔◌, ℕ, codes, List, [], ◌∷◌, ◌++◌, map, Option}
+use Rattle.std.specs.Borrow.{Bor}
+use Rattle.std.specs.Option.{option_copied, option_to_list}
 use Rattle.pep_marker.specs.Name.{IsNormalName}
 use Rattle.pep_require.specs.Requirement.{IsAscending}
 use Rattle.demands.specs.declared.verdict.Verdict.{Verdict}
@@ -54,6 +56,15 @@ HasOtherVerdict verdict x = (e : EntryParts) × (rest : List ℕ) × (right : Ve
     × HasParts x e rest × Shows e right × ¬ (right ≡ verdict)
 
 -- ---- an entry behind those with these names
+
+-- the name of the last entry, if there is one, of what the code has of it
+abbrev pub last_name : Option (Bor (List ℕ)) → List (List ℕ)
+last_name last = option_to_list (option_copied last)
+
+-- behind both lists stand the same names
+abbrev pub FollowsAlike : List (List ℕ) → List (List ℕ) → Type 0
+FollowsAlike before after =
+    (m : List ℕ) → IsAscending (before ++ m ∷ []) ↔ IsAscending (after ++ m ∷ [])
 
 -- the entry, whose name stands behind these, has its text in front of the rest
 pub record IsEntryAt (before : List (List ℕ)) (x name : List ℕ) (e : EntryParts) (rest : List ℕ) :

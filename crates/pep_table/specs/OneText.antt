@@ -1,7 +1,7 @@
--- One text for one set of demands: two tables of the same demands, with the points that all the
--- demands have, are one table, and a table has one text.
-use Rattle.std.proofs.Common.{◌≡◌, ℕ, ◌<◌, ◌≤◌, Bool, true, false, List, [], ◌∷◌, ◌++◌, length}
-use Rattle.std.proofs.Common.{refl, sym, ap, subst, ◌∙◌, arith, inl, inr, Option, Some, None}
+-- One text for one set of demands: two tables of the same demands are one table, and a table has one
+-- text.
+use Rattle.std.proofs.Common.{◌≡◌, ℕ, Bool, true, false, List, [], ◌∷◌, ◌++◌}
+use Rattle.std.proofs.Common.{refl, sym, ap, subst, ◌∙◌, inl, inr, Option, Some, None}
 use Rattle.std.specs.Prelude.{⊤, Contains, IsSome, bytes_eq, is_some, ◌↔◌}
 use Rattle.std.specs.Cmp.Lexicographic.{slice_cmp}
 use Rattle.std.specs.List.{All}
@@ -11,51 +11,23 @@ use Rattle.std.proofs.lemmas.Bool.{false_from_ne_true}
 use Rattle.std.proofs.lemmas.List.Elements.{All-head, All-tail}
 use Rattle.std.proofs.lemmas.Option.{MatchOption-at_some}
 use Rattle.std.proofs.lemmas.Slice.Eq.{bytes_eq-Decides}
-use Rattle.pep_clause.specs.Cut.{Cut, IsCut}
-use Rattle.pep_clause.proofs.OneList.{same_points}
-use Rattle.pep_clause.specs.VersionSet.{IsPoint, all_versions, is_point}
+use Rattle.pep_clause.proofs.SameVersions.{same_versions}
+use Rattle.pep_clause.specs.VersionSet.{is_in}
 use Rattle.specifiers.specs.Clause.{demanded}
 use Rattle.pep_require.specs.Requirement.{IsAscending}
 use Rattle.pep_require.proofs.Ascending.{Contains-from_IsIn, IsIn, IsIn-from_Contains}
 use Rattle.pep_require.proofs.Ascending.{ascending_same, first_below, irreflexive, rest_ascends}
-use Rattle.demands.specs.declared.verdict.Verdict.{Verdict}
-use Rattle.demands.specs.declared.verdict.Verdict.TheVariants.{Possible, Nothing, Conflict}
+use Rattle.demands.proofs.Verdicts.{verdict_one}
 use Rattle.demands.specs.Demand.{Demand, Demands, HaveSameDemands, clause, extra, url}
-use Rattle.demands.specs.Table.{AdmitsPoint, EntryParts, HasExactPoints, IsEntry, IsTable}
+use Rattle.demands.specs.Table.{EntryDemands, EntryParts, IsEntry, IsTable}
 use Rattle.demands.specs.Table.{IsValidEntry, TableParts, entry_at, names}
 use Rattle.pep_table.specs.TableText.{IsTableText, entry_text}
-use Rattle.demands.specs.Verdict.{IsEntryVerdict}
-
--- ---- an entry has one verdict
-
-apart : (n : ℕ) → 2 ≤ n → n < 2 → ⊥
-apart n h g = omega (arith, h, g)
-
-some_text : (xs : List (List ℕ)) → xs ≡ [] → 0 < length xs → ⊥
-some_text xs e h = let none : length xs ≡ 0 = ap length e in omega (arith, none, h)
-
-exclusive : (e : EntryParts) → IsEntryVerdict e Nothing → IsEntryVerdict e Possible → ⊥
-exclusive e (few, inl none) (small, some, way) = some none
-exclusive e (few, inr (texts, never)) (small, some, inl no_text) = some_text e.texts no_text texts
-exclusive e (few, inr (texts, never)) (small, some, inr (v, is, fits)) = never v is fits
-
-pub entry_verdict_one : (e : EntryParts) (v w : Verdict) → IsEntryVerdict e v → IsEntryVerdict e w →
-    v ≡ w
-entry_verdict_one e Possible Possible h g = refl
-entry_verdict_one e Nothing Nothing h g = refl
-entry_verdict_one e Conflict Conflict h g = refl
-entry_verdict_one e Possible Nothing h g = absurd (exclusive e g h)
-entry_verdict_one e Nothing Possible h g = absurd (exclusive e h g)
-entry_verdict_one e Conflict Possible h g = absurd (apart (length e.urls) h g.0)
-entry_verdict_one e Conflict Nothing h g = absurd (apart (length e.urls) h g.0)
-entry_verdict_one e Possible Conflict h g = absurd (apart (length e.urls) g h.0)
-entry_verdict_one e Nothing Conflict h g = absurd (apart (length e.urls) g h.0)
 
 -- a table has one text
 pub one_table_text : (t : TableParts) (x y : List ℕ) → IsTableText t x → IsTableText t y → x ≡ y
 one_table_text [] x y h g = h ∙ sym g
 one_table_text (p ∷ t) x y h g =
-    let verdict : h.0 ≡ g.0 = entry_verdict_one p.1 h.0 g.0 h.2 g.2 in
+    let verdict : h.0 ≡ g.0 = verdict_one (EntryDemands p.1) h.0 g.0 h.2 g.2 in
     let rest : h.1 ≡ g.1 = one_table_text t h.1 g.1 h.3 g.3 in
     h.4 ∙ (λ i. entry_text p.0 (verdict i) p.1 ++ rest i) ∙ sym g.4
 
@@ -75,16 +47,9 @@ one_answer_of true b h = sym (h.0 refl)
 one_answer_of false true h = h.1 refl
 one_answer_of false false h = refl
 
--- the points of an entry are those that all its demands have
-abbrev ExactEntry : (Demand → Type 0) → EntryParts → Type 0
-ExactEntry Q e =
-    (cut : Cut) → IsCut cut → IsPoint e.versions cut ↔ (IsPoint all_versions cut
-    × ((d : Demand) → Q d → AdmitsPoint d cut))
-
 one_entry : (Q W : Demand → Type 0) (e f : EntryParts) → ((d : Demand) → Q d ↔ W d) →
-    IsValidEntry e → IsValidEntry f → IsEntry Q e → IsEntry W f →
-    ExactEntry Q e → ExactEntry W f → e ≡ f
-one_entry Q W e f same ve vf ie fi pe pf =
+    IsValidEntry e → IsValidEntry f → IsEntry Q e → IsEntry W f → e ≡ f
+one_entry Q W e f same ve vf ie fi =
     let extras =
     same_texts e.extras f.extras ve.extras.0 vf.extras.0
     (λ x. through (ie.extras x) (same (extra x)) (fi.extras x)) in
@@ -95,10 +60,10 @@ one_entry Q W e f same ve vf ie fi pe pf =
     same_texts e.texts f.texts ve.texts.0 vf.texts.0 (λ t.
     through (ie.texts t) (same (clause (demanded t))) (fi.texts t)) in
     let versions =
-    same_points e.versions f.versions ve.versions vf.versions
-    (λ cut is. one_answer_of (is_point e.versions cut) (is_point f.versions cut) (
-      (λ m. let q = (pe cut is).0 m in (pf cut is).1 (q.0, λ d w. q.1 d ((same d).1 w))),
-      λ m. let w = (pf cut is).0 m in (pe cut is).1 (w.0, λ d q. w.1 d ((same d).0 q)),
+    same_versions e.versions f.versions ve.versions vf.versions
+    (λ v is. one_answer_of (is_in e.versions v) (is_in f.versions v) (
+      (λ m. let q = (ie.versions v is).0 m in (fi.versions v is).1 (λ d w. q d ((same d).1 w))),
+      λ m. let w = (fi.versions v is).0 m in (ie.versions v is).1 (λ d q. w d ((same d).0 q)),
     )) in
     λ i. record { extras = extras i; urls = urls i; texts = texts i; versions = versions i }
 
@@ -218,9 +183,8 @@ is_some_of : (o : Option EntryParts) (e : EntryParts) → o ≡ Some e → IsSom
 is_some_of o e h = ap is_some h
 
 same_entry_at : (Q W : Demands) (t s : TableParts) → HaveSameDemands Q W → IsTable Q t →
-    HasExactPoints Q t → IsTable W s → HasExactPoints W s →
-    (name : List ℕ) → entry_at t name ≡ entry_at s name
-same_entry_at Q W t s same h hp g gp name = by (entry_at t name) (entry_at s name) refl refl
+    IsTable W s → (name : List ℕ) → entry_at t name ≡ entry_at s name
+same_entry_at Q W t s same h g name = by (entry_at t name) (entry_at s name) refl refl
   where
     by : (o r : Option EntryParts) → entry_at t name ≡ o → entry_at s name ≡ r → o ≡ r
     by None None e f = refl
@@ -236,19 +200,16 @@ same_entry_at Q W t s same h hp g gp name = by (entry_at t name) (entry_at s nam
         ap Some (one_entry (Q name) (W name) a b (same name) (valid_at t name a h.valid.entries e)
         (valid_at s name b g.valid.entries f)
         (MatchOption-at_some ⊤ (IsEntry (Q name)) a e (h.entries name))
-        (MatchOption-at_some ⊤ (IsEntry (W name)) b f (g.entries name))
-        (MatchOption-at_some ⊤ (ExactEntry (Q name)) a e (hp name))
-        (MatchOption-at_some ⊤ (ExactEntry (W name)) b f (gp name)))
+        (MatchOption-at_some ⊤ (IsEntry (W name)) b f (g.entries name)))
 
--- the tables of the same demands, with their points, are one table, and print one text
+-- the tables of the same demands are one table, and print one text
 pub same_table_of : (Q W : Demands) (t s : TableParts) → HaveSameDemands Q W → IsTable Q t →
-    HasExactPoints Q t → IsTable W s → HasExactPoints W s → t ≡ s
-same_table_of Q W t s same h hp g gp =
-    one_table t s h.valid.names.0 g.valid.names.0 (same_entry_at Q W t s same h hp g gp)
+    IsTable W s → t ≡ s
+same_table_of Q W t s same h g =
+    one_table t s h.valid.names.0 g.valid.names.0 (same_entry_at Q W t s same h g)
 
 pub one_text : (Q W : Demands) (t s : TableParts) (x y : List ℕ) → HaveSameDemands Q W →
-    IsTable Q t → HasExactPoints Q t → IsTable W s → HasExactPoints W s →
-    IsTableText t x → IsTableText s y → x ≡ y
-one_text Q W t s x y same h hp g gp tx sy =
+    IsTable Q t → IsTable W s → IsTableText t x → IsTableText s y → x ≡ y
+one_text Q W t s x y same h g tx sy =
     one_table_text s x y (subst (λ (u : TableParts). IsTableText u x)
-    (same_table_of Q W t s same h hp g gp) tx) sy
+    (same_table_of Q W t s same h g) tx) sy

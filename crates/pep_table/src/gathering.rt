@@ -102,17 +102,18 @@ impl Gathering {
         }
     }
 
-    /// What is demanded so far and by the table. The only fault is `NoMemory`, 42.
-    pub fn take_table(self, alloc: Global, table: &Table) -> Result<Gathering, TableFault>
-        ensures joined { IfOk result (λ new. JoinsTables self table.now new) }
-        ensures valid { IsValidTable table.now }
+    /// What is demanded so far and by the table, whose names and ranges are moved. The only fault
+    /// is `NoMemory`, 42.
+    pub fn take_table(self, alloc: Global, table: Table) -> Result<Gathering, TableFault>
+        ensures joined { IfOk result (λ new. JoinsTables self table new) }
+        ensures valid { IsValidTable table }
         ensures faults { IfErr result (λ e. e ≡ TableFault.NoMemory) }
     {
         // Where a field is read, the invariant is at hand.
         let _ = self.entries.len();
-        let entries = table.entries();
+        let _ = table.entries();
         let mut all = self;
-        for (name, entry) in entries {
+        for (name, entry) in table.into_entries() {
             all = all.take_entry(alloc, name, entry)?;
         }
         Ok(all)
@@ -122,22 +123,18 @@ impl Gathering {
     fn take_entry(
         mut self,
         alloc: Global,
-        name: &Name,
-        entry: &Entry,
+        name: Name,
+        entry: Entry,
     ) -> Result<Gathering, TableFault>
-        ensures joined { IfOk result (λ new.
-            JoinsTables self ((name.now, entry.now) ∷ []) new) }
+        ensures joined { IfOk result (λ new. JoinsTables self ((name, entry) ∷ []) new) }
         ensures faults { IfErr result (λ e. e ≡ TableFault.NoMemory) }
     {
         // Its clause tells that the name is in its normalized form.
         let _ = name.text();
-        if let Some(kept) = self.entries.get_mut(name) {
-            kept.join(alloc, entry)?;
-            return Ok(self);
-        }
-        let mut kept = PackageDemands::bare(alloc);
+        // One look finds the name's place, where it is there and where it is new.
+        let place = self.entries.entry(name)?;
+        let kept = place.or_insert(PackageDemands::bare(alloc));
         kept.join(alloc, entry)?;
-        self.entries.insert(name.kept(alloc)?, kept)?;
         Ok(self)
     }
 

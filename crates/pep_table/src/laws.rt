@@ -1,6 +1,6 @@
 //! Laws of the definitions.
 
-ghost use Rattle.std.specs.Prelude.{◌≡◌, ◌↔◌, ℕ, Bool, Contains, IsUtf8, List};
+ghost use Rattle.std.specs.Prelude.{◌≡◌, ◌↔◌, ℕ, [], Bool, Contains, IsUtf8, List};
 ghost use Rattle.std.specs.List.{AllZip};
 ghost use Rattle.pep_version.specs.Version.{IsVersion, Version};
 ghost use Rattle.pep_marker.specs.Environment.{EnvironmentParts};
@@ -8,6 +8,7 @@ ghost use Rattle.demands.specs.Answer.{IsAnswer};
 ghost use Rattle.demands.specs.Demand.{
   ApplyingDemands,
   Demand,
+  HaveSameDemands,
   Listed,
   RequirementDemands,
   Together,
@@ -30,6 +31,7 @@ ghost use Rattle.demands.specs.Table.{
   TableDemands,
   TableParts,
 };
+ghost use Rattle.pep_table.specs.EntryRanges.{HasFewEntryRanges};
 ghost use Rattle.pep_table.specs.TableText.{IsTableText};
 ghost use Rattle.demands.specs.Verdict.{IsVerdict};
 ghost use Rattle.pep_require.specs.Requirement.{IsAscending, RequirementParts};
@@ -115,10 +117,30 @@ pub fn applying_is_table()
         × HasExactPoints (Together (Listed q) (ApplyingDemands e rs)) t }
 {}
 
+/// A table that takes requirements one after the other, from nothing, has in each entry at most one
+/// range more than those that apply have `!=` clauses on its name.
+pub fn few_ranges()
+    ensures { (e : EnvironmentParts) (rs : List RequirementParts) (t : TableParts)
+        → TakesApplying e [] rs t → HasFewEntryRanges e rs t }
+{}
+
 /// A table is the table of its own demands, with just their points.
 pub fn own_table()
     ensures { (t : TableParts) → IsValidTable t
         → IsTable (TableDemands t) t × HasExactPoints (TableDemands t) t }
+{}
+
+/// A set of demands has one table, in whatever order and however often each is told.
+pub fn one_table_of_demands()
+    ensures { (q w : List (List ℕ × Demand)) (s t : TableParts)
+        → HaveSameDemands (Listed q) (Listed w) → IsTable (Listed q) s → IsTable (Listed w) t
+        → s ≡ t }
+{}
+
+/// A set of demands has one verdict on a name.
+pub fn one_verdict()
+    ensures { (q : List (List ℕ × Demand)) (name : List ℕ) (v w : Verdict)
+        → IsVerdict (Listed q name) v → IsVerdict (Listed q name) w → v ≡ w }
 {}
 
 /// What a table says of a version of a package, and of the package, all demands say of which it is

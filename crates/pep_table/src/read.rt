@@ -4,9 +4,11 @@ mod items;
 mod ranges;
 
 ghost use Rattle.std.specs.Prelude.{◌≡◌, ◌⊎◌, ◌↔◌, ◌++◌, ◌∷◌, []};
-ghost use Rattle.std.specs.Prelude.{IfErr, IfOk, IfSome, IsTrue, None};
+ghost use Rattle.std.specs.Prelude.{IfErr, IfOk, IfSome, IsTrue, None, Some};
+ghost use Rattle.std.specs.Prelude.{bytes_eq, if◌then◌else◌};
 ghost use Rattle.pep_require.specs.Requirement.{IsAscending};
 ghost use Rattle.pep_table.specs.EntryReading.{
+  FollowsAlike,
   HasHead,
   HasNext,
   HasNoHead,
@@ -14,8 +16,10 @@ ghost use Rattle.pep_table.specs.EntryReading.{
   HasNoParts,
   HasOtherVerdict,
   HasParts,
+  last_name,
 };
-ghost use Rattle.demands.specs.Table.{IsValidTable, names};
+ghost use Rattle.demands.specs.Table.{IsValidTable, TableParts, entry_at, names};
+ghost use Rattle.pep_table.specs.NamedEntry.{entry_alone};
 ghost use Rattle.pep_table.specs.TableText.{IsBadTable, IsNoTableText, IsTableText, Shows};
 ghost use Rattle.demands.specs.Verdict.{verdict_word};
 
@@ -124,14 +128,24 @@ fn wrong_verdict<'a>(alloc: Global, name: &Name, text: &'a str, behind: &'a str)
     }
 }
 
-// Whether the name stands behind those of the entries.
-fn is_behind(entries: &[(Name, Entry)], name: &Name) -> bool
+// Whether the name stands behind the last one, if there is one.
+fn is_behind(last: Option<&Name>, name: &Name) -> bool
+    ensures { IsTrue result ↔ IsAscending (last_name last.entry ++ name.now ∷ []) }
+{
+    match last {
+        Some(last) => last < name,
+        None => true,
+    }
+}
+
+// The name of the last entry.
+fn name_of_last(entries: &[(Name, Entry)]) -> Option<&Name>
     requires { IsAscending (names entries.now) }
-    ensures { IsTrue result ↔ IsAscending (names entries.now ++ name.now ∷ []) }
+    ensures { FollowsAlike (names entries.now) (last_name result) }
 {
     match entries.last() {
-        Some((last, _)) => last < name,
-        None => true,
+        Some((last, _)) => Some(last),
+        None => None,
     }
 }
 
@@ -154,19 +168,18 @@ fn read_judged<'a>(
     Ok((entry, behind))
 }
 
-// The entry in front, whose name stands behind those of the others, and the text behind it.
+// The entry in front, whose name stands behind the last one, and the text behind it.
 fn read_entry<'a>(
     alloc: Global,
-    entries: &[(Name, Entry)],
+    last: Option<&Name>,
     text: &'a str,
 ) -> Result<(Name, Entry, &'a str), Halt<'a>>
-    requires { IsAscending (names entries.now) }
-    ensures ok { IfOk result (λ r. HasNext (names entries.now) text.now r.0 r.1 r.2.now) }
+    ensures ok { IfOk result (λ r. HasNext (last_name last.entry) text.now r.0 r.1 r.2.now) }
     ensures refused { IfErr result (λ e. (e ≡ Halt.NoMemory)
-        ⊎ HasNoNext (names entries.now) text.now) }
+        ⊎ HasNoNext (last_name last.entry) text.now) }
 {
     let (name, verdict, parts) = read_head(alloc, text)?;
-    if !is_behind(entries, &name) {
+    if !is_behind(last, &name) {
         return Err(Halt::At(text));
     }
     match read_judged(alloc, &name, verdict, text, parts) {
@@ -184,11 +197,38 @@ fn read_entries(alloc: Global, text: &str) -> Result<Vec<(Name, Entry)>, Halt<'_
     let mut entries = Vec::new(alloc);
     let mut rest = text;
     while !rest.is_empty() {
-        let (name, entry, behind) = read_entry(alloc, entries.as_slice(), rest)?;
+        let last = name_of_last(entries.as_slice());
+        let (name, entry, behind) = read_entry(alloc, last, rest)?;
         entries.push((name, entry))?;
         rest = behind;
     }
     Ok(entries)
+}
+
+// What was found before, or this entry where it has the wanted name.
+fn found_with(found: Option<Entry>, wanted: &Name, name: &Name, entry: Entry) -> Option<Entry>
+    ensures { result ≡ (if bytes_eq name.now wanted.now then Some entry else found) }
+{
+    if *name == *wanted { Some(entry) } else { found }
+}
+
+// The entry of the wanted name in a table's text, if there is one. All entries are read, and the
+// others dropped.
+fn read_wanted<'a>(alloc: Global, text: &'a str, wanted: &Name) -> Result<Option<Entry>, Halt<'a>>
+    ensures ok { IfOk result (λ found. (t : TableParts) × IsTableText t text.now
+        × IsValidTable t × (found ≡ entry_at t wanted.now)) }
+    ensures refused { IfErr result (λ e. (e ≡ Halt.NoMemory) ⊎ IsNoTableText text.now) }
+{
+    let mut last = None;
+    let mut found = None;
+    let mut rest = text;
+    while !rest.is_empty() {
+        let (name, entry, behind) = read_entry(alloc, last.as_ref(), rest)?;
+        found = found_with(found, wanted, &name, entry);
+        last = Some(name);
+        rest = behind;
+    }
+    Ok(found)
 }
 
 // The number of the line at which this rest of the text begins, counted from 1.
@@ -217,6 +257,23 @@ impl Table {
     {
         match read_entries(alloc, text) {
             Ok(entries) => Ok(Table::of_entries(entries)),
+            Err(Halt::NoMemory) => Err(TableFault::NoMemory),
+            Err(Halt::At(rest)) => Err(TableFault::BadTable(line_number(text, rest))),
+        }
+    }
+
+    /// What the table whose text this is has of one name: a table of its entry alone, or of nothing
+    /// where there is none. The whole text is read, and refused as by [`Table::read`]; of the other
+    /// entries none is kept.
+    pub fn read_named(alloc: Global, text: &str, name: &Name) -> Result<Table, TableFault>
+        ensures text { IfOk result (λ part. (t : TableParts) × IsTableText t text.now
+            × IsValidTable t × (part ≡ entry_alone name.now (entry_at t name.now))) }
+        ensures valid { IfOk result (λ part. IsValidTable part) }
+        ensures refused { IfErr result (λ e. (e ≡ TableFault.NoMemory)
+            ⊎ IsBadTable text.now e) }
+    {
+        match read_wanted(alloc, text, name) {
+            Ok(found) => Table::alone(alloc, name, found),
             Err(Halt::NoMemory) => Err(TableFault::NoMemory),
             Err(Halt::At(rest)) => Err(TableFault::BadTable(line_number(text, rest))),
         }

@@ -7,6 +7,8 @@ ghost use Rattle.pep_require.specs.View.{requirement_parts};
 ghost use Rattle.demands.specs.Demand.{ApplyingDemands};
 ghost use Rattle.demands.specs.Gathering.{IsFirstUndefined};
 ghost use Rattle.demands.specs.Table.{HasExactPoints, IsTable, IsValidTable, entry_at};
+ghost use Rattle.pep_table.specs.EntryRanges.{HasFewEntryRanges};
+ghost use Rattle.pep_table.specs.NamedEntry.{entry_alone};
 
 use crate::gathering::Gathering;
 use demands::{Entry, Join, Kept, TableFault};
@@ -61,12 +63,37 @@ impl Table {
         Table { entries }
     }
 
+    /// The table of one name with its entry, or of nothing. The only fault is `NoMemory`, 42.
+    pub(crate) fn alone(
+        alloc: Global,
+        name: &Name,
+        entry: Option<Entry>,
+    ) -> Result<Table, TableFault>
+        requires { IsValidTable (entry_alone name.now entry) }
+        ensures same { IfOk result (λ t. t ≡ entry_alone name.now entry) }
+        ensures faults { IfErr result (λ e. e ≡ TableFault.NoMemory) }
+    {
+        let Some(entry) = entry else {
+            return Ok(Table::empty(alloc));
+        };
+        let mut entries = Vec::with_capacity(alloc, 1)?;
+        entries.push((name.kept(alloc)?, entry))?;
+        Ok(Table::of_entries(entries))
+    }
+
     /// The names in byte order, each with its entry.
     pub(crate) fn entries(&self) -> &[(Name, Entry)]
         ensures entries { result.now ≡ self.now }
         ensures valid { IsValidTable self.now }
     {
         self.entries.as_slice()
+    }
+
+    /// The same of a table that is used up.
+    pub(crate) fn into_entries(self) -> Vec<(Name, Entry)>
+        ensures { result.items ≡ self }
+    {
+        self.entries
     }
 
     /// The entry of the name, if there is one.
@@ -79,7 +106,8 @@ impl Table {
         }
     }
 
-    /// The table of the requirements that apply in the environment. The fault `Undefined`, 28,
+    /// The table of the requirements that apply in the environment. An entry has at most one range
+    /// more than these have `!=` clauses on its name. The fault `Undefined`, 28,
     /// names the first requirement whose marker is undefined there, counted from 1; any other is
     /// `NoMemory`, 42.
     pub fn of(
@@ -91,6 +119,8 @@ impl Table {
             (ApplyingDemands environment.now (map requirement_parts requirements.now)) t) }
         ensures points { IfOk result (λ t. HasExactPoints
             (ApplyingDemands environment.now (map requirement_parts requirements.now)) t) }
+        ensures few { IfOk result (λ t. HasFewEntryRanges environment.now
+            (map requirement_parts requirements.now) t) }
         ensures defined { IfOk result (λ t. All (HasDefinedMarker environment.now)
             (map requirement_parts requirements.now)) }
         ensures refused { IfErr result (λ e. (e ≡ TableFault.NoMemory) ⊎ IsFirstUndefined
@@ -135,8 +165,8 @@ impl Join for Table {
         let _ = self.entries();
         let _ = other.entries();
         Gathering::new(alloc)
-            .take_table(alloc, self)?
-            .take_table(alloc, other)?
+            .take_table(alloc, self.copied(alloc)?)?
+            .take_table(alloc, other.copied(alloc)?)?
             .finish(alloc)
     }
 }

@@ -1,11 +1,10 @@
 -- What replies and refusals of the program mean, and the line that tells one of them.
-use Rattle.std.proofs.Common.{◌≡◌, ◌⊎◌, ◌∙◌, ℕ, ◌+◌, ◌≤◌, false, ap, List, [], ◌∷◌, ◌++◌}
+use Rattle.std.proofs.Common.{◌≡◌, ◌⊎◌, ◌∙◌, ℕ, false, ap, List, []}
 use Rattle.std.proofs.Common.{Option, Some, None, subst, Result, Ok, Err, IfOk, IfErr, codes, refl}
-use Rattle.std.proofs.Common.{inl, inr, length}
+use Rattle.std.proofs.Common.{inl, inr}
 use Rattle.std.specs.Fmt.{digits}
-use Rattle.std.specs.Io.KnownBytes.{Consumes, IsAtEnd, Keeps}
+use Rattle.std.specs.Io.KnownBytes.{Keeps}
 use Rattle.std.specs.Prelude.{All, IsTrue}
-use Rattle.std.proofs.lemmas.List.Elements.{All-head}
 use Rattle.std.proofs.lemmas.Result.{IfErr-weaker}
 use Rattle.command_line.specs.Plan.{Text}
 use Rattle.pep_marker.specs.Environment.{EnvironmentParts}
@@ -22,7 +21,6 @@ use Rattle.pep_version.specs.declared.fault.VersionFault.{VersionFault}
 use Rattle.pep_version.specs.declared.fault.VersionFault.TheVariants as version_fault
 use Rattle.faults.specs.declared.fault.ArgumentFault.TheVariants as argument
 use Rattle.faults.specs.declared.fault.Fault.{Fault}
-use Rattle.faults.specs.declared.fault.Place.TheVariants as place
 use Rattle.inputs.specs.declared.input.Input.{Input}
 use Rattle.inputs.specs.declared.input.Kind.{Kind}
 use Rattle.inputs.specs.declared.input.Kind.TheVariants as kind
@@ -33,7 +31,6 @@ use Rattle.inputs.specs.Gathered.{BytesDemand, Gathered, IsAccepted}
 use Rattle.faults.specs.InnerFault.{fault_of_argument}
 use Rattle.inputs.specs.ListedText.{listed_text}
 use Rattle.inputs.specs.Lists.{Lists}
-use Rattle.inputs.specs.Lists.{input_limit}
 use Rattle.inputs.specs.Merge.{IsMerge}
 use Rattle.inputs.specs.Refusal.{RefusesInputs, no_memory}
 use Rattle.inputs.specs.Streams.{IsTableOfList, ReadsTable, RefusesReading}
@@ -44,7 +41,8 @@ use Rattle.command_line.specs.Plan.{Asks, CheckRequest, Request, check_version}
 use Rattle.pep_tool.specs.Run.{Refuses, Tells, TellsRefusal, by_memory, by_output, by_request}
 use Rattle.pep_tool.specs.Run.{write_fault}
 use Rattle.pep_tool.specs.RunReplies.{IsReply, ChecksFiles, ListsFile, MergesFiles, MergesInput}
-use Rattle.pep_tool.specs.RunReplies.{IsAsked, RefusesCheck, RefusesFiles, answer_line}
+use Rattle.pep_tool.specs.RunReplies.{IsAsked, IsGroup, RefusesCheck, RefusesFiles, RefusesMerge}
+use Rattle.pep_tool.specs.RunReplies.{answer_line, by_merged}
 use Rattle.pep_tool.specs.RunReplies.{answer_status}
 use Rattle.pep_tool.specs.RunReplies.{by_checked}
 use Rattle.pep_tool.specs.RunReplies.{RefusesName, RefusesRequest, RefusesVersion}
@@ -71,7 +69,7 @@ merges_input text_of (Ok text) left after e t standard read h = record {
   table = t;
   of_list = of_list;
   is_text = h;
-  verdicts = shows_verdicts (BytesDemand standard_environment kind.List read.bytes) t
+  verdicts = shows_verdicts (BytesDemand standard_environment kind.List None read.bytes) t
       of_list.is_table;
 }
   where
@@ -114,55 +112,74 @@ refused_name text reason none (inr memory) = inl (ap (λ f. fault_of_argument (a
 -- the lines of the requirements that a file has
 pub lists_file : {A File : Type 0} (text_of : A → List ℕ) (r : Result A Fault)
     (files : Text → KnownFile) (left_of : File → Option (List ℕ)) (device_of : File → Device)
-    (path : Text) (k : Kind) (bytes given : List ℕ) (rs listed : List RequirementParts) →
-    ReadsFile files left_of device_of path bytes
-    → k ≡ kind_of path → given ≡ bytes → Lists [] k given rs → listed ≡ rs →
+    (group : Option Text) (name lent : Option (List ℕ)) (path : Text) (k : Kind)
+    (bytes given : List ℕ) (rs listed : List RequirementParts) → IsGroup group name →
+    lent ≡ name → ReadsFile files left_of device_of path bytes
+    → k ≡ kind_of path → given ≡ bytes → Lists [] k lent given rs → listed ≡ rs →
     IfOk r (λ text. text_of text ≡ listed_text listed)
-    → IfOk r (λ text. ListsFile files left_of device_of path (text_of text))
-lists_file text_of (Ok text) files left_of device_of path k bytes given rs listed reads kind_is same
-    is all h =
+    → IfOk r (λ text. ListsFile files left_of device_of group path (text_of text))
+lists_file text_of (Ok text) files left_of device_of group name lent path k bytes given rs listed
+    named lends reads kind_is same is all h =
     record {
+      name = name;
+      is_group = named;
       bytes = bytes;
       reads = reads;
       requirements = rs;
-      lists = subst (λ (x : Kind). Lists [] x bytes rs) kind_is
-          (subst (λ (l : List ℕ). Lists [] k l rs) same is);
+      lists = subst (λ (x : Kind). Lists [] x name bytes rs) kind_is
+          (subst (λ (l : List ℕ). Lists [] k name l rs) same
+          (subst (λ g. Lists [] k g given rs) lends is));
       is_text = h ∙ ap listed_text all;
     }
-lists_file text_of (Err f) files left_of device_of path k bytes given rs listed reads kind_is same
-    is all h =
+lists_file text_of (Err f) files left_of device_of group name lent path k bytes given rs listed named
+    lends reads kind_is same is all h =
     tt
 
 -- the table of inputs
 pub merges_files : {A File : Type 0} (text_of : A → List ℕ) (r : Result A Fault)
     (files : Text → KnownFile) (left_of : File → Option (List ℕ)) (device_of : File → Device)
-    (env : Text) (paths : List Text) (e : EnvironmentParts) (inputs given : List Input) →
+    (env : Text) (group : Option Text) (name : Option (List ℕ)) (paths : List Text)
+    (e : EnvironmentParts) (inputs given : List Input) → IsGroup group name →
     ReadsEnvironment files left_of device_of env e
-    → ReadsInputs files left_of device_of paths inputs → given ≡ inputs →
+    → ReadsInputs files left_of device_of name paths inputs → given ≡ inputs →
     IfOk r (λ text. IsMerge e given (text_of text))
-    → IfOk r (λ text. MergesFiles files left_of device_of env paths (text_of text))
-merges_files text_of (Ok text) files left_of device_of env paths e inputs given has reads same h =
+    → IfOk r (λ text. MergesFiles files left_of device_of env group paths (text_of text))
+merges_files text_of (Ok text) files left_of device_of env group name paths e inputs given named has
+    reads same h =
     record {
       environment = e;
       has_environment = has;
       inputs = inputs;
       reads = reads;
       merges = subst (λ (is : List Input). IsMerge e is (text_of text)) same h;
+      name = name;
+      is_group = named;
     }
-merges_files text_of (Err f) files left_of device_of env paths e inputs given has reads same h = tt
+merges_files text_of (Err f) files left_of device_of env group name paths e inputs given named has
+    reads same h =
+    tt
 
 -- inputs that are refused
 pub files_refuse : {A File : Type 0} (r : Result A Fault) (files : Text → KnownFile)
     (left_of : File → Option (List ℕ)) (device_of : File → Device) (env : Text)
-    (paths : List Text) (e : EnvironmentParts) (inputs given : List Input) →
+    (name : Option (List ℕ)) (paths : List Text) (e : EnvironmentParts) (inputs given : List Input) →
     ReadsEnvironment files left_of device_of env e
-    → ReadsInputs files left_of device_of paths inputs → given ≡ inputs →
+    → ReadsInputs files left_of device_of name paths inputs → given ≡ inputs →
     IfErr r (RefusesInputs e given)
-    → IfErr r (λ f. (f ≡ no_memory) ⊎ RefusesFiles files left_of device_of env paths f)
-files_refuse (Ok a) files left_of device_of env paths e inputs given has reads same h = tt
-files_refuse (Err f) files left_of device_of env paths e inputs given has reads same h =
+    → IfErr r (λ f. (f ≡ no_memory) ⊎ RefusesFiles files left_of device_of env name paths f)
+files_refuse (Ok a) files left_of device_of env name paths e inputs given has reads same h = tt
+files_refuse (Err f) files left_of device_of env name paths e inputs given has reads same h =
     further (by_inputs e inputs has reads)
     (subst (λ (is : List Input). RefusesInputs e is f) same h)
+
+-- .. of a merge
+pub merge_refused : {A File : Type 0} (r : Result A Fault) (files : Text → KnownFile)
+    (left_of : File → Option (List ℕ)) (device_of : File → Device) (env : Text)
+    (group : Option Text) (name : Option (List ℕ)) (paths : List Text) → IsGroup group name →
+    IfErr r (λ f. (f ≡ no_memory) ⊎ RefusesFiles files left_of device_of env name paths f)
+    → IfErr r (λ f. (f ≡ no_memory) ⊎ RefusesMerge files left_of device_of env group paths f)
+merge_refused r files left_of device_of env group name paths named h =
+    IfErr-weaker r _ _ (λ f refused. further (by_merged name named) refused) h
 
 -- the version and the name that a check asks for
 pub asked : {c : CheckRequest} {v : Version} {name : List ℕ} → Reads c.version (Ok v) →
@@ -172,14 +189,16 @@ asked version name = record { version = version; name = name }
 -- the answer of a check
 pub checks_files : {File : Type 0} (r : Result Answer Fault) (files : Text → KnownFile)
     (left_of : File → Option (List ℕ)) (device_of : File → Device) (c : CheckRequest)
-    (v : Version) (name : List ℕ) (e : EnvironmentParts) (inputs given : List Input) →
-    Reads c.version (Ok v)
-    → name_of c.name ≡ Some name → ReadsEnvironment files left_of device_of c.env e →
-    ReadsInputs files left_of device_of c.files inputs
+    (v : Version) (name : List ℕ) (group : Option (List ℕ)) (e : EnvironmentParts)
+    (inputs given : List Input) → Reads c.version (Ok v)
+    → name_of c.name ≡ Some name → IsGroup c.group group →
+    ReadsEnvironment files left_of device_of c.env e →
+    ReadsInputs files left_of device_of group c.files inputs
     → given ≡ inputs → IfOk r (λ a. All (IsAccepted e) given) →
     IfOk r (IsAnswer (Gathered e given name) v c.pre)
     → IfOk r (ChecksFiles files left_of device_of c)
-checks_files (Ok a) files left_of device_of c v name e inputs given is named has reads same all h =
+checks_files (Ok a) files left_of device_of c v name group e inputs given is named grouped has reads
+    same all h =
     record {
       version = v;
       name = name;
@@ -190,19 +209,22 @@ checks_files (Ok a) files left_of device_of c v name e inputs given is named has
       reads = reads;
       accepted = subst (All (IsAccepted e)) same all;
       is_answer = subst (λ (is : List Input). IsAnswer (Gathered e is name) v c.pre a) same h;
+      group = group;
+      is_group = grouped;
     }
-checks_files (Err f) files left_of device_of c v name e inputs given is named has reads same all h =
+checks_files (Err f) files left_of device_of c v name group e inputs given is named grouped has reads
+    same all h =
     tt
 
 -- .. and its refusal
 pub check_refused : {A File : Type 0} (r : Result A Fault) (files : Text → KnownFile)
     (left_of : File → Option (List ℕ)) (device_of : File → Device) (c : CheckRequest)
-    (v : Version) (name : List ℕ) → Reads c.version (Ok v) → name_of c.name ≡ Some name →
-    IfErr r (λ f. (f ≡ no_memory) ⊎ RefusesFiles files left_of device_of c.env c.files f)
+    (v : Version) (name : List ℕ) (group : Option (List ℕ)) → IsAsked c v name →
+    IsGroup c.group group →
+    IfErr r (λ f. (f ≡ no_memory) ⊎ RefusesFiles files left_of device_of c.env group c.files f)
     → IfErr r (λ f. (f ≡ no_memory) ⊎ RefusesCheck files left_of device_of c f)
-check_refused r files left_of device_of c v name is named h =
-    IfErr-weaker r _ _
-    (λ f refused. further (by_checked v name (asked is named)) refused) h
+check_refused r files left_of device_of c v name group is grouped h =
+    IfErr-weaker r _ _ (λ f refused. further (by_checked v name group is grouped) refused) h
 
 Keeps-itself : (a : Option (List ℕ)) → Keeps a a
 Keeps-itself None = tt

@@ -19,6 +19,7 @@ use Rattle.devices.specs.Device.{Device}
 use Rattle.devices.specs.Folder.{KnownFile}
 use Rattle.inputs.specs.Lists.{input_limit}
 use Rattle.inputs.specs.Refusal.{no_memory}
+use Rattle.inputs.specs.Streams.{ReadsUpTo}
 use Rattle.pep_tool.specs.RunFiles.{CannotRead, CannotReadOne, IsOpened, ReadsFile, ReadsInput}
 use Rattle.pep_tool.specs.RunFiles.{ReadsInputs, RefusesFile, by_bytes, by_reading, read_fault}
 use Rattle.pep_tool.specs.RunFiles.{unread}
@@ -31,6 +32,11 @@ known_read (Some x) None after bytes k h = absurd k
 known_read (Some x) (Some y) None bytes k h = absurd h
 known_read (Some x) (Some y) (Some z) bytes k h = sym k ∙ h
 
+-- .. so no more of the known bytes was read
+known_up_to : (most : ℕ) (known left after : Option (List ℕ)) → Keeps known left →
+    ReadsUpTo most left after → ReadsUpTo most known after
+known_up_to most known left after k h = (h.0, known_read known left after h.0 k h.1, h.2)
+
 not_true : (b : Bool) → (IsTrue b → ⊥) → b ≡ false
 not_true true h = absurd (h refl)
 not_true false h = refl
@@ -40,12 +46,15 @@ pub opened : {File : Type 0} (files : Text → KnownFile) (left_of : File → Op
     (device_of : File → Device) (path : Text) (old new : File) → IsTrue (files path).may_open →
     Keeps (files path).identity (device_of old).identity →
     (device_of new).identity ≡ (device_of old).identity → (device_of new).calls ≤ input_limit + 1 →
+    Keeps (files path).bytes (left_of old) →
+    ReadsUpTo (input_limit + 1) (left_of old) (left_of new) →
     IsOpened files left_of device_of path new
-opened files left_of device_of path old new opens is same calls =
+opened files left_of device_of path old new opens is same calls keeps most =
     record {
       opens = opens;
       is_it = subst (Keeps (files path).identity) (sym same) is;
       calls = calls;
+      most = known_up_to (input_limit + 1) (files path).bytes (left_of old) (left_of new) keeps most;
     }
 
 -- the bytes that were read of it
@@ -116,31 +125,32 @@ zip_more R (z ∷ xs) (w ∷ ys) x y h s = (h.0, zip_more R xs ys x y h.1 s)
 
 -- the next file was read too
 pub inputs_more : {A File : Type 0} (text : A → Text) (files : Text → KnownFile)
-    (left_of : File → Option (List ℕ)) (device_of : File → Device) (paths : List A) (k : ℕ)
+    (left_of : File → Option (List ℕ)) (device_of : File → Device) (group : Option (List ℕ))
+    (paths : List A) (k : ℕ)
     (path : A) (given : Text) (inputs : List Input) (input : Input) →
     path ≡ get_or paths k path → given ≡ text path → k < length paths →
-    ReadsInputs files left_of device_of (map text (take k paths)) inputs →
-    ReadsInput files left_of device_of given input →
-    ReadsInputs files left_of device_of (map text (take (k + 1) paths)) (inputs ++ input ∷ [])
-inputs_more text files left_of device_of paths k path given inputs input is same lt h more =
-    subst (λ (l : List Text). ReadsInputs files left_of device_of l (inputs ++ input ∷ []))
+    ReadsInputs files left_of device_of group (map text (take k paths)) inputs →
+    ReadsInput files left_of device_of group given input →
+    ReadsInputs files left_of device_of group (map text (take (k + 1) paths)) (inputs ++ input ∷ [])
+inputs_more text files left_of device_of group paths k path given inputs input is same lt h more =
+    subst (λ (l : List Text). ReadsInputs files left_of device_of group l (inputs ++ input ∷ []))
     (sym (next_mapped text paths k path is lt))
-    (zip_more (ReadsInput files left_of device_of) (map text (take k paths)) inputs (text path)
-    input h (subst (λ (t : Text). ReadsInput files left_of device_of t input) same more))
+    (zip_more (ReadsInput files left_of device_of group) (map text (take k paths)) inputs (text path)
+    input h (subst (λ (t : Text). ReadsInput files left_of device_of group t input) same more))
 
 -- .. or it is the first that can't be read
 pub one_unread : {A File : Type 0} (text : A → Text) (files : Text → KnownFile)
-    (left_of : File → Option (List ℕ)) (device_of : File → Device) (paths : List A)
+    (left_of : File → Option (List ℕ)) (device_of : File → Device) (group : Option (List ℕ)) (paths : List A)
     (k number : ℕ) (path : A) (given : Text) (inputs : List Input) (f : Fault) →
     path ≡ get_or paths k path → given ≡ text path → k < length paths → number ≡ k →
-    ReadsInputs files left_of device_of (map text (take k paths)) inputs →
+    ReadsInputs files left_of device_of group (map text (take k paths)) inputs →
     (f ≡ no_memory)
     ⊎ CannotRead files left_of device_of given (place.Input (number + 1)) f
-    → (f ≡ no_memory) ⊎ CannotReadOne files left_of device_of (map text paths) f
-one_unread text files left_of device_of paths k number path given inputs f is same lt at reads
+    → (f ≡ no_memory) ⊎ CannotReadOne files left_of device_of group (map text paths) f
+one_unread text files left_of device_of group paths k number path given inputs f is same lt at reads
     (inl memory) =
     inl memory
-one_unread text files left_of device_of paths k number path given inputs f is same lt at reads
+one_unread text files left_of device_of group paths k number path given inputs f is same lt at reads
     (inr h) =
     inr (record {
       number = number + 1;

@@ -10,6 +10,8 @@ pub use Rattle.faults.specs.InnerFault
 pub use Rattle.command_line.specs.Plan
 pub use Rattle.inputs.specs.Document
 pub use Rattle.inputs.specs.Project
+pub use Rattle.inputs.specs.Groups
+pub use Rattle.inputs.specs.GroupWalk
 pub use Rattle.inputs.specs.EnvironmentFile
 pub use Rattle.inputs.specs.Lists
 pub use Rattle.inputs.specs.TableFiles

@@ -18,6 +18,7 @@ use Rattle.inputs.specs.EnvironmentFile.{environment_file}
 use Rattle.devices.specs.Folder.{KnownFile}
 use Rattle.inputs.specs.Lists.{input_limit}
 use Rattle.inputs.specs.Refusal.{IsNumbered}
+use Rattle.inputs.specs.Streams.{ReadsUpTo}
 
 -- what lies in this place can't be opened, or reading it failed
 abbrev pub read_fault : Place → Fault
@@ -38,6 +39,7 @@ module _ {File : Type 0} (files : Text → KnownFile) (left_of : File → Option
     pub opens : IsTrue (files path).may_open
     pub is_it : Keeps (files path).identity (device_of file).identity
     pub calls : (device_of file).calls ≤ input_limit + 1
+    pub most : ReadsUpTo (input_limit + 1) (files path).bytes (left_of file)
 
   -- These bytes were read of the file with the path, and no read failed: all of it, or one byte
   -- more than an input may have.
@@ -79,20 +81,23 @@ module _ {File : Type 0} (files : Text → KnownFile) (left_of : File → Option
 
   -- ---- inputs
 
-  -- the file was read as this input, of the kind that its name tells
-  abbrev pub ReadsInput : Text → Input → Type 0
-  ReadsInput path input = (input.kind ≡ kind_of path) × ReadsFile path input.bytes.items
+  -- the file was read as this input, of the kind that its name tells, with this dependency group or
+  -- none
+  abbrev pub ReadsInput : Option (List ℕ) → Text → Input → Type 0
+  ReadsInput group path input = (input.kind ≡ kind_of path) × (input.group ≡ group)
+      × ReadsFile path input.bytes.items
 
   -- .. and each of the files as the input in its place
-  abbrev pub ReadsInputs : List Text → List Input → Type 0
-  ReadsInputs paths inputs = AllZip ReadsInput paths inputs
+  abbrev pub ReadsInputs : Option (List ℕ) → List Text → List Input → Type 0
+  ReadsInputs group paths inputs = AllZip (ReadsInput group) paths inputs
 
   -- The first of the files that can't be read, the input with the number that is its place: those
   -- before it were read.
-  pub record CannotReadOne (paths : List Text) (fault : Fault) : Type 0 where
-    pub number : ℕ
-    pub path : Text
-    pub numbered : IsNumbered paths number path
-    pub earlier : List Input
-    pub reads : ReadsInputs numbered.before earlier
-    pub unread : CannotRead path (place.Input number) fault
+  pub record CannotReadOne (group : Option (List ℕ)) (paths : List Text) (fault : Fault) : Type 0
+    where
+      pub number : ℕ
+      pub path : Text
+      pub numbered : IsNumbered paths number path
+      pub earlier : List Input
+      pub reads : ReadsInputs group numbered.before earlier
+      pub unread : CannotRead path (place.Input number) fault

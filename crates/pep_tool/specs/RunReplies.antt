@@ -1,6 +1,7 @@
 -- What the program replies to what it is asked, and why it refuses to.
-use Rattle.std.specs.Prelude.{◌≡◌, ◌≢◌, ℕ, ◌≤◌, IsTrue, false, List, [], ◌∷◌, ◌++◌, Option, Some}
-use Rattle.std.specs.Prelude.{None, All, Ok, Err, codes, length}
+use Rattle.std.specs.Prelude.{◌≡◌, ◌≢◌, ℕ, List, [], ◌++◌, Option, Some}
+use Rattle.std.specs.Prelude.{None, All, Ok, Err, codes, Bool, String, map, option_map, string_bytes}
+use Rattle.std.specs.declared.alloc.Global.{Global}
 use Rattle.std.specs.Io.KnownBytes.{Consumes, IsAtEnd, Keeps}
 use Rattle.command_line.specs.Plan.{Text}
 use Rattle.pep_marker.specs.Environment.{EnvironmentParts}
@@ -28,16 +29,15 @@ use Rattle.devices.specs.Folder.{KnownFile}
 use Rattle.inputs.specs.Gathered.{BytesDemand, Gathered, IsAccepted}
 use Rattle.inputs.specs.ListedText.{listed_text}
 use Rattle.inputs.specs.Lists.{Lists}
-use Rattle.inputs.specs.Lists.{input_limit}
 use Rattle.inputs.specs.Merge.{IsMerge, ShowsVerdicts}
 use Rattle.inputs.specs.Streams.{IsTableOfList, RefusesReading}
 use Rattle.demands.specs.Table.{TableParts}
 use Rattle.pep_table.specs.TableText.{IsTableText}
 use Rattle.command_line.specs.Plan.{CheckRequest, Request, check_version, merge_files, show_lines}
 use Rattle.command_line.specs.Plan.{show_version, standard}
-use Rattle.inputs.specs.Refusal.{BlamesInput, IsRefused, IsRefusedList, IsRefusedProject}
+use Rattle.inputs.specs.Refusal.{BlamesInput, IsRefusedList, IsRefusedProject}
 use Rattle.pep_tool.specs.RunFiles.{CannotReadOne, ReadsEnvironment, ReadsFile, ReadsInputs}
-use Rattle.pep_tool.specs.RunFiles.{RefusesEnvironment, RefusesFile, kind_of, read_fault}
+use Rattle.pep_tool.specs.RunFiles.{RefusesEnvironment, RefusesFile, kind_of}
 use Rattle.pep_tool.specs.Standard.{standard_environment}
 
 -- ---- the table of the input
@@ -51,7 +51,7 @@ pub record MergesInput (left after : Option (List ℕ)) (text : List ℕ) : Type
   pub table : TableParts
   pub of_list : IsTableOfList standard_environment bytes table
   pub is_text : IsTableText table text
-  pub verdicts : ShowsVerdicts (BytesDemand standard_environment kind.List bytes) table
+  pub verdicts : ShowsVerdicts (BytesDemand standard_environment kind.List None bytes) table
 
 -- ---- versions and names among the words
 
@@ -79,7 +79,29 @@ pub record RefusesName (text : Text) (fault : Fault) : Type 0 where
     cause = cause.BadArgument (argument.Name marker_fault.BadName);
   }
 
+-- the dependency group that the words name, where they name one
+abbrev pub IsGroup : Option Text → Option (List ℕ) → Type 0
+IsGroup None group = group ≡ None
+IsGroup (Some text) group = (name : List ℕ) × (name_of text ≡ Some name) × (group ≡ Some name)
+
+-- .. can't be read as a name
+abbrev pub RefusesGroup : Option Text → Fault → Type 0
+RefusesGroup None fault = ⊥
+RefusesGroup (Some text) fault = RefusesName text fault
+
 -- ---- the answer of a check
+
+-- a check that these texts ask for
+abbrev pub check_asked : Text → Option (String Global) → Bool → Text → Text →
+    List (String Global) → CheckRequest
+check_asked env group pre name version files = record {
+  env = env;
+  group = option_map string_bytes group;
+  pre = pre;
+  name = name;
+  version = version;
+  files = map string_bytes files;
+}
 
 -- the version and the name that a check is asked of
 pub record IsAsked (c : CheckRequest) (v : Version) (n : List ℕ) : Type 0 where
@@ -99,10 +121,10 @@ answer_status _ = 1
 -- ---- what files are asked for
 
 -- why bytes are refused as a file of this kind, of which no marker is judged, without an extra
-abbrev pub IsUnlisted : Kind → List ℕ → Cause → Type 0
-IsUnlisted kind.List bytes c = IsRefusedList bytes c
-IsUnlisted kind.Project bytes c = IsRefusedProject [] bytes c
-IsUnlisted kind.Table bytes c = ⊥
+abbrev pub IsUnlisted : Kind → Option (List ℕ) → List ℕ → Cause → Type 0
+IsUnlisted kind.List group bytes c = IsRefusedList bytes c
+IsUnlisted kind.Project group bytes c = IsRefusedProject [] group bytes c
+IsUnlisted kind.Table group bytes c = ⊥
 
 -- a table file has no requirements to show
 abbrev pub no_requirements : Fault
@@ -111,27 +133,35 @@ no_requirements = record { place = place.Input 1; cause = cause.NoRequirements }
 module _ {File : Type 0} (files : Text → KnownFile) (left_of : File → Option (List ℕ))
     (device_of : File → Device) where
   -- the file has these requirements, without an extra, and the text has a line for each of them
-  pub record ListsFile (path : Text) (text : List ℕ) : Type 0 where
+  pub record ListsFile (group : Option Text) (path : Text) (text : List ℕ) : Type 0 where
+    pub name : Option (List ℕ)
+    pub is_group : IsGroup group name
     pub bytes : List ℕ
     pub reads : ReadsFile files left_of device_of path bytes
     pub requirements : List RequirementParts
-    pub lists : Lists [] (kind_of path) bytes requirements
+    pub lists : Lists [] (kind_of path) name bytes requirements
     pub is_text : text ≡ listed_text requirements
 
-  -- why the lines of a file are refused: it is a table file, whatever stands in it; or it can't be
-  -- read, or what was read of it is refused
-  pub data RefusesLines (path : Text) (fault : Fault) : Type 0 where
-    by_kind : kind_of path ≡ kind.Table → fault ≡ no_requirements → RefusesLines path fault
-    by_listing : kind_of path ≢ kind.Table →
-        RefusesFile files left_of device_of (IsUnlisted (kind_of path)) path (place.Input 1) fault →
-        RefusesLines path fault
+  -- why the lines of a file are refused: the group can't be read; or else it is a table file,
+  -- whatever stands in it; or it can't be read, or what was read of it is refused
+  pub data RefusesLines (group : Option Text) (path : Text) (fault : Fault) : Type 0 where
+    by_group : RefusesGroup group fault → RefusesLines group path fault
+    by_kind : (name : Option (List ℕ)) → IsGroup group name → kind_of path ≡ kind.Table →
+        fault ≡ no_requirements → RefusesLines group path fault
+    by_listing : (name : Option (List ℕ)) → IsGroup group name → kind_of path ≢ kind.Table →
+        RefusesFile files left_of device_of (IsUnlisted (kind_of path) name) path (place.Input 1)
+        fault → RefusesLines group path fault
 
-  -- the text is that of the table of the files in the environment of a file
-  pub record MergesFiles (env : Text) (paths : List Text) (text : List ℕ) : Type 0 where
+  -- the text is that of the table of the files in the environment of a file, with a dependency group
+  -- of the project files or none
+  pub record MergesFiles (env : Text) (group : Option Text) (paths : List Text) (text : List ℕ) :
+      Type 0 where
+    pub name : Option (List ℕ)
+    pub is_group : IsGroup group name
     pub environment : EnvironmentParts
     pub has_environment : ReadsEnvironment files left_of device_of env environment
     pub inputs : List Input
-    pub reads : ReadsInputs files left_of device_of paths inputs
+    pub reads : ReadsInputs files left_of device_of name paths inputs
     pub merges : IsMerge environment inputs text
 
   -- what the files demand in the environment of a file says this of the version of the package
@@ -139,10 +169,12 @@ module _ {File : Type 0} (files : Text → KnownFile) (left_of : File → Option
     pub version : Version
     pub name : List ℕ
     pub asked : IsAsked c version name
+    pub group : Option (List ℕ)
+    pub is_group : IsGroup c.group group
     pub environment : EnvironmentParts
     pub has_environment : ReadsEnvironment files left_of device_of c.env environment
     pub inputs : List Input
-    pub reads : ReadsInputs files left_of device_of c.files inputs
+    pub reads : ReadsInputs files left_of device_of group c.files inputs
     pub accepted : All (IsAccepted environment) inputs
     pub is_answer : IsAnswer (Gathered environment inputs name) version c.pre answer
 
@@ -151,26 +183,38 @@ module _ {File : Type 0} (files : Text → KnownFile) (left_of : File → Option
   TellsCheck c text status = (answer : Answer) × ChecksFiles c answer
       × (text ≡ answer_line answer) × (status ≡ answer_status answer)
 
-  -- Why files that are merged or checked are refused: the environment is; or one of the others
-  -- can't be read; or, once all of them are read, one isn't accepted.
-  pub data RefusesFiles (env : Text) (paths : List Text) (fault : Fault) : Type 0 where
+  -- Why files that are merged or checked, with this dependency group or none, are refused: the
+  -- environment is; or one of the others can't be read; or, once all of them are read, one isn't
+  -- accepted.
+  pub data RefusesFiles (env : Text) (name : Option (List ℕ)) (paths : List Text) (fault : Fault) :
+      Type 0 where
     by_environment : RefusesEnvironment files left_of device_of env fault →
-        RefusesFiles env paths fault
+        RefusesFiles env name paths fault
     by_files : (e : EnvironmentParts) → ReadsEnvironment files left_of device_of env e →
-        CannotReadOne files left_of device_of paths fault
-        → RefusesFiles env paths fault
+        CannotReadOne files left_of device_of name paths fault
+        → RefusesFiles env name paths fault
     by_inputs : (e : EnvironmentParts) (inputs : List Input)
         → ReadsEnvironment files left_of device_of env e →
-        ReadsInputs files left_of device_of paths inputs
-        → BlamesInput e inputs fault → RefusesFiles env paths fault
+        ReadsInputs files left_of device_of name paths inputs
+        → BlamesInput e inputs fault → RefusesFiles env name paths fault
 
-  -- why a check is refused: the version can't be read; or else the name; or else files are refused
+  -- why a merge is refused: the group can't be read; or else files are refused
+  pub data RefusesMerge (env : Text) (group : Option Text) (paths : List Text) (fault : Fault) :
+      Type 0 where
+    by_merge_group : RefusesGroup group fault → RefusesMerge env group paths fault
+    by_merged : (name : Option (List ℕ)) → IsGroup group name → RefusesFiles env name paths fault →
+        RefusesMerge env group paths fault
+
+  -- why a check is refused: the version can't be read; or else the name; or else the group; or else
+  -- files are refused
   pub data RefusesCheck (c : CheckRequest) (fault : Fault) : Type 0 where
     by_version : RefusesVersion c.version fault → RefusesCheck c fault
     by_name : (v : Version) → Reads c.version (Ok v) → RefusesName c.name fault →
         RefusesCheck c fault
-    by_checked : (v : Version) (name : List ℕ) → IsAsked c v name →
-        RefusesFiles c.env c.files fault → RefusesCheck c fault
+    by_check_group : (v : Version) (name : List ℕ) → IsAsked c v name →
+        RefusesGroup c.group fault → RefusesCheck c fault
+    by_checked : (v : Version) (name : List ℕ) (group : Option (List ℕ)) → IsAsked c v name →
+        IsGroup c.group group → RefusesFiles c.env group c.files fault → RefusesCheck c fault
 
   -- ---- requests
 
@@ -180,10 +224,10 @@ module _ {File : Type 0} (files : Text → KnownFile) (left_of : File → Option
   IsReply standard left after text status = MergesInput left after text × (status ≡ 0)
   IsReply (show_version version) left after text status =
       IsVersionLine version text × (status ≡ 0) × Keeps left after
-  IsReply (show_lines path) left after text status =
-      ListsFile path text × (status ≡ 0) × Keeps left after
-  IsReply (merge_files env paths) left after text status =
-      MergesFiles env paths text × (status ≡ 0) × Keeps left after
+  IsReply (show_lines group path) left after text status =
+      ListsFile group path text × (status ≡ 0) × Keeps left after
+  IsReply (merge_files env group paths) left after text status =
+      MergesFiles env group paths text × (status ≡ 0) × Keeps left after
   IsReply (check_version c) left after text status = TellsCheck c text status × Keeps left after
 
   -- why what is asked for is refused, want of memory apart
@@ -191,6 +235,7 @@ module _ {File : Type 0} (files : Text → KnownFile) (left_of : File → Option
   RefusesRequest standard left after input fault =
       RefusesReading standard_environment left after input fault
   RefusesRequest (show_version version) left after input fault = RefusesVersion version fault
-  RefusesRequest (show_lines path) left after input fault = RefusesLines path fault
-  RefusesRequest (merge_files env paths) left after input fault = RefusesFiles env paths fault
+  RefusesRequest (show_lines group path) left after input fault = RefusesLines group path fault
+  RefusesRequest (merge_files env group paths) left after input fault =
+      RefusesMerge env group paths fault
   RefusesRequest (check_version c) left after input fault = RefusesCheck c fault

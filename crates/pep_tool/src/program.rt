@@ -47,25 +47,28 @@ const REFUSED: u8 = 2;
 ///
 /// - `version TEXT`: the normal text of the version (PEP 440, "Normalization") and a line feed,
 ///   status 0.
-/// - `lines FILE`: each requirement's text (PEP 508, "Grammar") and a line feed, of the file with
-///   this path, without an extra; status 0.
-/// - `merge --env E FILE..`: the text of the table of the files (see
+/// - `lines [--group G] FILE`: each requirement's text (PEP 508, "Grammar") and a line feed, of the
+///   file with this path, without an extra; status 0.
+/// - `merge --env E [--group G] FILE..`: the text of the table of the files (see
 ///   [`merge_bytes`](crate::merge_bytes)), in the environment of the file E (see
 ///   [`environment_of`](crate::environment_of)); status 0.
-/// - `check --env E [--pre] NAME VERSION FILE..`: `yes`, `no` or `conflict` and a line feed (see
-///   [`check_bytes`](crate::check_bytes)), with pre-releases wanted where `--pre` is given; status
-///   0 for `yes`, else 1.
+/// - `check --env E [--group G] [--pre] NAME VERSION FILE..`: `yes`, `no` or `conflict` and a line
+///   feed (see [`check_bytes`](crate::check_bytes)), with pre-releases wanted where `--pre` is given;
+///   status 0 for `yes`, else 1.
 ///
-/// A file whose name ends in `.toml` is a project file (PEP 621), one whose name ends in `.table` a
-/// printed table, every other file a list; E is an environment whatever its name. Of the input and of each file at most 16,777,217 bytes are read.
-/// A check reads VERSION first, then NAME. Then E is read and judged, then all files are read in
-/// their order, and then they are judged.
+/// With `--group` what counts of project files is that dependency group (PEP 735). A file whose name
+/// ends in `.toml` is a project file (PEP 621), one whose name ends in `.table` a printed table, every
+/// other file a list; E is an environment whatever its name. Of the input and of each file at most
+/// 16,777,217 bytes are read. A check reads VERSION first, then NAME. Then G is read, where it is
+/// given, before any file; then E is read and judged, then all files are read in their order, and then
+/// they are judged.
 ///
 /// Any refusal is status 2, with the line of [`Fault::text`] on `faults` and nothing on `output`
 /// but where writing there failed:
 ///
 /// - 61 for other words, with the text of `clap`.
-/// - 62 with 1 or 2 for a text that is no version, with 21 for one that is no name.
+/// - 62 with 1 or 2 for a text that is no version, with 21 for a NAME or a G that is
+///   no name.
 /// - 58 where a file can't be opened or reading failed. It lies in the environment, or in the input
 ///   with the file's number. A file's comes before any fault of the bytes of inputs; without words
 ///   a failed read has its place among the bytes: the fault of a line that ended before it is told.

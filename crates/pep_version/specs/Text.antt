@@ -1,6 +1,6 @@
 -- The normal text of a version, which has one spelling for each version ("Normalization").
 use Rattle.std.specs.Prelude.{ℕ, ◌==◌, ◌||◌, Bool, List, [], ◌∷◌, ◌++◌, map, Option, Some, None}
-use Rattle.std.specs.Prelude.{codes, decimal, if◌then◌else◌}
+use Rattle.std.specs.Prelude.{◌≡◌, codes, decimal, if◌then◌else◌}
 use Rattle.std.specs.List.{join_with_byte}
 use Rattle.pep_version.specs.declared.parts.Phase.{Phase}
 use Rattle.pep_version.specs.declared.parts.Phase.TheVariants.{Alpha, Beta, Rc}
@@ -57,3 +57,7 @@ normal_text v =
 -- a byte of a normal text: a letter in lower case, a digit, `.`, `+` or `!`
 abbrev pub is_text_byte : ℕ → Bool
 is_text_byte b = is_word_byte b || b == 46 || b == 43 || b == 33
+
+-- the text is what it was, with a part behind it at most
+abbrev pub KeepsFront : List ℕ → List ℕ → Type 0
+KeepsFront old new = (part : List ℕ) × (new ≡ old ++ part)

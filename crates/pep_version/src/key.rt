@@ -17,6 +17,7 @@ ghost use Rattle.std.specs.Prelude.{
   IfOk,
   IfSome,
   IsSome,
+  OnErr,
   OnOk,
 };
 ghost use Rattle.std.specs.Cmp.{
@@ -38,7 +39,7 @@ ghost use Rattle.pep_version.specs.Order.{
   with_suffixes,
   without_end_zeros,
 };
-ghost use Rattle.pep_version.specs.Text.{normal_text};
+ghost use Rattle.pep_version.specs.Text.{KeepsFront, normal_text};
 ghost use Rattle.pep_version.specs.Version.{IsVersion};
 ghost use Rattle.pep_version.specs.View.{segment_of, version_with};
 
@@ -209,11 +210,13 @@ impl Key {
     }
 
     /// Appends the normal text of the version that stands at this place (PEP 440, "Normalization").
-    /// The only fault is `NoMemory`.
+    /// The only fault is `NoMemory`; a refusal leaves what stood in the text, with perhaps a part
+    /// behind it.
     pub fn push_text(&self, text: &mut String) -> Result<(), VersionFault>
         ensures ok { OnOk result (string_bytes text.new
             ≡ string_bytes text.old ++ normal_text self.now) }
         ensures faults { IfErr result (λ e. e ≡ VersionFault.NoMemory) }
+        ensures kept { OnErr result (KeepsFront (string_bytes text.old) (string_bytes text.new)) }
     {
         let version = self.version(*text.allocator())?;
         version.push_text(text)

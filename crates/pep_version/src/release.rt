@@ -16,7 +16,8 @@ pub(crate) fn release_numbers(alloc: Global, text: &[u8]) -> Result<Vec<u64>, Ve
     requires { IsTrue (list_all is_number (dotted_parts text.now)) }
     ensures { NumbersOf (map (digits_value 10) (dotted_parts text.now)) result }
 {
-    let mut numbers = Vec::new(alloc);
+    // As much room as the first of them would make.
+    let mut numbers = Vec::with_capacity(alloc, 4)?;
     let mut rest = Some(text);
     while let Some(text) = rest {
         let (digits, after) = first_part(text, b'.');

@@ -39,6 +39,7 @@ pub(crate) fn written_number(digits: &[u8]) -> Result<u64, VersionFault>
 }
 
 /// The number of a part, if the part is there.
+#[inline(always)]
 pub(crate) fn optional_number(digits: Option<&[u8]>) -> Result<Option<u64>, VersionFault>
     requires { IfSome digits IsDigits }
     ensures { OptionalOf (optional_of digits.entry) result }
@@ -97,8 +98,22 @@ fn first_run(text: &[u8]) -> (&[u8], Option<&[u8]>)
     (text, None)
 }
 
-/// The segments of a label.
-pub(crate) fn read_segments(alloc: Global, label: Option<&[u8]>) -> Result<Vec<Label>, VersionFault>
+/// The segments of a label, if it is there: most versions have none.
+pub(crate) fn label_segments(
+    alloc: Global,
+    label: Option<&[u8]>,
+) -> Result<Vec<Label>, VersionFault>
+    requires { IsTrue (list_all is_run (left_runs label)) }
+    ensures { SegmentsOf (label_of label.entry) result }
+{
+    match label {
+        Some(_) => read_segments(alloc, label),
+        None => Ok(Vec::new(alloc)),
+    }
+}
+
+// The segments of a label.
+fn read_segments(alloc: Global, label: Option<&[u8]>) -> Result<Vec<Label>, VersionFault>
     requires { IsTrue (list_all is_run (left_runs label)) }
     ensures { SegmentsOf (label_of label.entry) result }
 {

@@ -10,10 +10,12 @@ ghost use Rattle.std.specs.Prelude.{
   if◌then◌else◌,
   map,
   string_bytes,
+  OnErr,
   OnOk,
   IfErr,
 };
 ghost use Rattle.pep_version.specs.Text.{
+  KeepsFront,
   epoch_text,
   label_text,
   part_text,
@@ -31,6 +33,7 @@ use itoa::Buffer;
 fn push_number(text: &mut String, n: u64) -> Result<(), VersionFault>
     ensures ok { OnOk result (string_bytes text.new ≡ string_bytes text.old ++ decimal n) }
     ensures faults { IfErr result (λ e. e ≡ VersionFault.NoMemory) }
+    ensures kept { OnErr result (KeepsFront (string_bytes text.old) (string_bytes text.new)) }
 {
     let mut buffer = Buffer::new();
     text.push_str(buffer.format(n))?;
@@ -42,6 +45,7 @@ fn push_dot(text: &mut String, position: usize) -> Result<(), VersionFault>
     ensures ok { OnOk result (string_bytes text.new ≡ string_bytes text.old
         ++ (if position == 0 then [] else codes ".")) }
     ensures faults { IfErr result (λ e. e ≡ VersionFault.NoMemory) }
+    ensures kept { OnErr result (KeepsFront (string_bytes text.old) (string_bytes text.new)) }
 {
     if position > 0 {
         text.push_str(".")?;
@@ -53,6 +57,7 @@ fn push_dot(text: &mut String, position: usize) -> Result<(), VersionFault>
 pub(crate) fn push_epoch(text: &mut String, epoch: u64) -> Result<(), VersionFault>
     ensures ok { OnOk result (string_bytes text.new ≡ string_bytes text.old ++ epoch_text epoch) }
     ensures faults { IfErr result (λ e. e ≡ VersionFault.NoMemory) }
+    ensures kept { OnErr result (KeepsFront (string_bytes text.old) (string_bytes text.new)) }
 {
     if epoch != 0 {
         push_number(text, epoch)?;
@@ -66,6 +71,7 @@ pub(crate) fn push_release(text: &mut String, release: &[u64]) -> Result<(), Ver
     ensures ok { OnOk result (string_bytes text.new ≡ string_bytes text.old
         ++ release_text release.now) }
     ensures faults { IfErr result (λ e. e ≡ VersionFault.NoMemory) }
+    ensures kept { OnErr result (KeepsFront (string_bytes text.old) (string_bytes text.new)) }
 {
     for (i, n) in release.iter().enumerate() {
         push_dot(text, i)?;
@@ -88,6 +94,7 @@ fn phase_text(phase: Phase) -> &'static str
 pub(crate) fn push_pre(text: &mut String, pre: Option<(Phase, u64)>) -> Result<(), VersionFault>
     ensures ok { OnOk result (string_bytes text.new ≡ string_bytes text.old ++ pre_text pre) }
     ensures faults { IfErr result (λ e. e ≡ VersionFault.NoMemory) }
+    ensures kept { OnErr result (KeepsFront (string_bytes text.old) (string_bytes text.new)) }
 {
     if let Some((phase, n)) = pre {
         text.push_str(phase_text(phase))?;
@@ -105,6 +112,7 @@ pub(crate) fn push_part(
     ensures ok { OnOk result (string_bytes text.new ≡ string_bytes text.old
         ++ part_text word.now number) }
     ensures faults { IfErr result (λ e. e ≡ VersionFault.NoMemory) }
+    ensures kept { OnErr result (KeepsFront (string_bytes text.old) (string_bytes text.new)) }
 {
     if let Some(n) = number {
         text.push_str(word)?;
@@ -117,6 +125,7 @@ fn push_segment(text: &mut String, segment: &Label) -> Result<(), VersionFault>
     ensures ok { OnOk result (string_bytes text.new ≡ string_bytes text.old
         ++ segment_text (segment_of segment.now)) }
     ensures faults { IfErr result (λ e. e ≡ VersionFault.NoMemory) }
+    ensures kept { OnErr result (KeepsFront (string_bytes text.old) (string_bytes text.new)) }
 {
     match segment {
         Label::Number(n) => push_number(text, *n)?,
@@ -130,6 +139,7 @@ pub(crate) fn push_label(text: &mut String, label: &[Label]) -> Result<(), Versi
     ensures ok { OnOk result (string_bytes text.new ≡ string_bytes text.old
         ++ label_text (map segment_of label.now)) }
     ensures faults { IfErr result (λ e. e ≡ VersionFault.NoMemory) }
+    ensures kept { OnErr result (KeepsFront (string_bytes text.old) (string_bytes text.new)) }
 {
     if !label.is_empty() {
         text.push_str("+")?;

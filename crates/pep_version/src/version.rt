@@ -11,6 +11,7 @@ ghost use Rattle.std.specs.Prelude.{
   IfSome,
   IsSome,
   IsTrue,
+  OnErr,
   OnOk,
 };
 ghost use Rattle.std.specs.Char.{is_ascii_lowercase};
@@ -18,7 +19,7 @@ ghost use Rattle.std.specs.List.{All, list_all, list_any};
 ghost use Rattle.pep_version.specs.Slices.{AreReadable, version_of_slices};
 ghost use Rattle.pep_version.specs.Segments.{VersionOf};
 ghost use Rattle.pep_version.specs.Spelling.{Reads};
-ghost use Rattle.pep_version.specs.Text.{normal_text};
+ghost use Rattle.pep_version.specs.Text.{KeepsFront, normal_text};
 ghost use Rattle.pep_version.specs.Version.{
   IsSegment,
   IsVersion,
@@ -32,7 +33,7 @@ ghost use Rattle.pep_version.specs.View.{segment_of, version_of};
 use crate::fault::VersionFault;
 use crate::parts::{Label, Phase};
 use crate::release::release_numbers;
-use crate::segments::{optional_number, pre_number, read_segments, written_number};
+use crate::segments::{label_segments, optional_number, pre_number, written_number};
 use crate::slices::{Slices, slices_of};
 use crate::text::{push_epoch, push_label, push_part, push_pre, push_release};
 use std::alloc::Global;
@@ -163,7 +164,7 @@ impl Version {
         let pre = pre_number(slices.pre)?;
         let post = optional_number(slices.post)?;
         let dev = optional_number(slices.dev)?;
-        let label = read_segments(alloc, slices.label)?;
+        let label = label_segments(alloc, slices.label)?;
         Ok(Version::with_parts(epoch, release, pre, post, dev, label))
     }
 
@@ -272,18 +273,21 @@ impl Version {
         Ok(text)
     }
 
-    /// Appends the normal text (PEP 440, "Normalization"). The only fault is `NoMemory`.
+    /// Appends the normal text (PEP 440, "Normalization"). The only fault is `NoMemory`; a refusal
+    /// leaves what stood in the text, with perhaps a part behind it.
     pub fn push_text(&self, text: &mut String) -> Result<(), VersionFault>
         ensures ok { OnOk result (string_bytes text.new
             ≡ string_bytes text.old ++ normal_text self.now) }
         ensures faults { IfErr result (λ e. e ≡ VersionFault.NoMemory) }
+        ensures kept { OnErr result (KeepsFront (string_bytes text.old) (string_bytes text.new)) }
     {
         push_epoch(text, self.epoch)?;
         push_release(text, self.release.as_slice())?;
         push_pre(text, self.pre)?;
         push_part(text, ".post", self.post)?;
         push_part(text, ".dev", self.dev)?;
-        push_label(text, self.label.as_slice())
+        push_label(text, self.label.as_slice())?;
+        Ok(())
     }
 
     /// An equal version in storage of its own. The only fault is `NoMemory`.

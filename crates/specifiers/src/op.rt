@@ -17,6 +17,7 @@ impl Op {
     ghost use Rattle.specifiers.specs.Clause.{operator_of, operator_text};
 
     /// The longest operator that the text begins with (PEP 440, "Version specifiers").
+    #[inline(always)]
     pub fn at_front(text: &[u8]) -> Option<Op>
         ensures { result ≡ operator_of text.now }
     {

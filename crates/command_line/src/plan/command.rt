@@ -8,11 +8,13 @@ ghost use Rattle.command_line.specs.Plan.{
   check_command,
   environment_option,
   files_argument,
+  group_option,
   lines_command,
   merge_command,
   pre_flag,
   program,
   text_argument,
+  text_option,
   version_command,
 };
 
@@ -44,6 +46,18 @@ fn text_argument<'a>(alloc: Global, name: &'a str, help: &'a str) -> Arg<'a>
         .help(help)
 }
 
+// An option with a text, as `--name VALUE`.
+fn text_option<'a>(alloc: Global, name: &'a str, value_name: &'a str, help: &'a str) -> Arg<'a>
+    ensures rule { rule_of result ≡ text_option name.now }
+    ensures local { result.global ≡ false }
+{
+    Arg::new(alloc, name)
+        .long(name)
+        .value_name(value_name)
+        .action(ArgAction::Set)
+        .help(help)
+}
+
 // The paths of one file or more.
 fn files_argument<'a>(alloc: Global) -> Arg<'a>
     ensures rule { rule_of result ≡ files_argument }
@@ -63,12 +77,17 @@ fn environment_option<'a>(alloc: Global) -> Arg<'a>
     ensures rule { rule_of result ≡ environment_option }
     ensures local { result.global ≡ false }
 {
-    Arg::new(alloc, "env")
-        .long("env")
-        .value_name("E")
-        .required(true)
-        .action(ArgAction::Set)
-        .help("The path of the environment: a TOML file with a text for each variable of PEP 508")
+    let help = "The path of the environment: a TOML file with a text for each variable of PEP 508";
+    text_option(alloc, "env", "E", help).required(true)
+}
+
+// The option `--group G`.
+fn group_option<'a>(alloc: Global) -> Arg<'a>
+    ensures rule { rule_of result ≡ group_option }
+    ensures local { result.global ≡ false }
+{
+    let help = "The dependency group of project files that counts, in place of their dependencies";
+    text_option(alloc, "group", "G", help)
 }
 
 // The flag `--pre`.
@@ -101,24 +120,25 @@ fn lines_command<'a>(alloc: Global) -> Result<Command<'a>, AllocError>
     );
     Command::new(alloc, "lines")
         .about("Prints the requirements of a file, one on each line")
+        .arg(group_option(alloc))?
         .arg(file)
 }
 
 fn merge_command<'a>(alloc: Global) -> Result<Command<'a>, AllocError>
     ensures { IfOk result (λ c. IsLocal c merge_command) }
 {
-    let environment = environment_option(alloc);
-    let files = files_argument(alloc);
     Command::new(alloc, "merge")
         .about("Merges the requirements of files, and prints their table")
-        .arg(environment)?
-        .arg(files)
+        .arg(environment_option(alloc))?
+        .arg(group_option(alloc))?
+        .arg(files_argument(alloc))
 }
 
 fn check_command<'a>(alloc: Global) -> Result<Command<'a>, AllocError>
     ensures { IfOk result (λ c. IsLocal c check_command) }
 {
     let environment = environment_option(alloc);
+    let group = group_option(alloc);
     let pre = pre_flag(alloc);
     let name = text_argument(alloc, "NAME", "The name of a package");
     let version = text_argument(alloc, "VERSION", "A version of it");
@@ -127,6 +147,7 @@ fn check_command<'a>(alloc: Global) -> Result<Command<'a>, AllocError>
         .about("Prints whether a version meets the requirements of files: yes, no or conflict")
         .after_help(CHECK_HELP)
         .arg(environment)?
+        .arg(group)?
         .arg(pre)?
         .arg(name)?
         .arg(version)?

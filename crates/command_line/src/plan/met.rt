@@ -42,10 +42,8 @@ fn text_given(
     found: &ArgMatches<'_>,
     name: &str,
 ) -> Result<Option<String>, AllocError>
-    ensures some { IfOk result (λ given. IfSome given (λ text.
-        first_of name.now (rows_of (found_of found.now)) ≡ Some (string_bytes text))) }
-    ensures none { IfOk result (λ given. given ≡ None →
-        first_of name.now (rows_of (found_of found.now)) ≡ None) }
+    ensures { IfOk result (λ given.
+        option_map string_bytes given ≡ first_of name.now (rows_of (found_of found.now))) }
 {
     match found.get_str(name) {
         Some(text) => Ok(Some(String::from_str(alloc, text)?)),
@@ -69,10 +67,11 @@ fn lines_met(alloc: Global, found: &ArgMatches<'_>) -> Result<Option<Plan>, Allo
     ensures { IfOk result (λ plan.
         option_map request plan ≡ lines_of (rows_of (found_of found.now))) }
 {
-    match text_given(alloc, found, "FILE")? {
-        Some(file) => Ok(Some(Plan::ShowLines { file })),
-        None => Ok(None),
-    }
+    let Some(file) = text_given(alloc, found, "FILE")? else {
+        return Ok(None);
+    };
+    let group = text_given(alloc, found, "group")?;
+    Ok(Some(Plan::ShowLines { group, file }))
 }
 
 // What `merge` was given.
@@ -85,6 +84,7 @@ fn merge_met(alloc: Global, found: &ArgMatches<'_>) -> Result<Option<Plan>, Allo
     };
     Ok(Some(Plan::Merge {
         env: String::from_str(alloc, env)?,
+        group: text_given(alloc, found, "group")?,
         files: owned(alloc, files)?,
     }))
 }
@@ -104,6 +104,7 @@ fn check_met(alloc: Global, found: &ArgMatches<'_>) -> Result<Option<Plan>, Allo
     };
     Ok(Some(Plan::Check {
         env: String::from_str(alloc, env)?,
+        group: text_given(alloc, found, "group")?,
         pre: is_given(found, "pre"),
         name: String::from_str(alloc, name)?,
         version: String::from_str(alloc, version)?,

@@ -1,53 +1,93 @@
 // How a cut is read.
 
-ghost use Rattle.std.specs.Prelude.{◌≡◌, ◌++◌, ◌↔◌, IfErr, IfOk, IfSome, List, Some, ℕ};
+ghost use Rattle.std.specs.Prelude.{◌≡◌, ◌++◌, ◌↔◌, IfErr, IfOk, IfSome, IsTrue, Some, true};
+ghost use Rattle.pep_version.specs.Order.{place_of, short_release};
 ghost use Rattle.pep_version.specs.Text.{normal_text};
 ghost use Rattle.pep_version.specs.Version.{IsVersion, Version};
+ghost use Rattle.specifiers.specs.Clause.{is_final};
 ghost use Rattle.pep_clause.specs.Cut.{Cut, IsCut, cut_text};
+ghost use Rattle.pep_clause.specs.OperatorTable.{past_release};
 
 use crate::cut::Cut;
 use pep_version::{Version, VersionFault};
 use specifiers::ClauseFault;
 use std::alloc::Global;
 
-// The version behind the word, if one is written there.
+// Whether the release has no zero at its end beyond its first number.
+fn is_short(release: &[u64]) -> bool
+    ensures { IsTrue result ↔ (short_release release.now ≡ release.now) }
+{
+    match release {
+        [_, .., last] => *last != 0,
+        _ => true,
+    }
+}
+
+// Whether the version is an epoch and a release, and nothing more.
+fn is_final(version: &Version) -> bool
+    ensures { result ≡ is_final version.now }
+{
+    version.pre().is_none()
+        && version.post().is_none()
+        && version.dev().is_none()
+        && version.label().is_empty()
+}
+
+// The version, if it is at its own place and this is its normal text: a cut's text has no other.
+fn spelled_version(
+    alloc: Global,
+    version: Version,
+    text: &str,
+) -> Result<Option<Version>, ClauseFault>
+    ensures kept { IfOk result (λ read. place_of version ≡ version
+        → normal_text version ≡ text.now → read ≡ Some version) }
+    ensures spelled { IfOk result (λ read. IfSome read (λ v. (v ≡ version)
+        × (place_of version ≡ version) × (normal_text version ≡ text.now))) }
+    ensures faults { IfErr result (λ e. e ≡ ClauseFault.NoMemory) }
+{
+    if !is_short(version.release()) {
+        return Ok(None);
+    }
+    let mut normal = String::with_capacity(alloc, text.len())?;
+    version.push_text(&mut normal)?;
+    if normal.as_str() == text {
+        Ok(Some(version))
+    } else {
+        Ok(None)
+    }
+}
+
+// The version behind the word, if the normal text of one that is at its own place stands there.
 fn version_behind(alloc: Global, text: &str, word: &str) -> Result<Option<Version>, ClauseFault>
-    ensures normal { IfOk result (λ read. (v : Version) → IsVersion v
+    ensures normal { IfOk result (λ read. (v : Version) → IsVersion v → place_of v ≡ v
         → text.now ≡ word.now ++ normal_text v → read ≡ Some v) }
-    ensures front { IfOk result (λ read. IfSome read (λ _.
-        (rest : List ℕ) × (text.now ≡ word.now ++ rest))) }
+    ensures spelled { IfOk result (λ read. IfSome read (λ v. IsVersion v × (place_of v ≡ v)
+        × (text.now ≡ word.now ++ normal_text v))) }
     ensures faults { IfErr result (λ e. e ≡ ClauseFault.NoMemory) }
 {
     let Some(version) = text.strip_prefix(word) else {
         return Ok(None);
     };
     match Version::read(alloc, version) {
-        Ok(version) => Ok(Some(version)),
+        Ok(read) => Ok(spelled_version(alloc, read, version)?),
         Err(VersionFault::NotAVersion) => Ok(None),
         Err(VersionFault::NumberTooLarge) => Ok(None),
         Err(VersionFault::NoMemory) => Err(ClauseFault::NoMemory),
     }
 }
 
-// The one cut that the text may be the text of, where versions may stand in another spelling.
-fn cut_in_words(alloc: Global, text: &str) -> Result<Option<Cut>, ClauseFault>
-    ensures only { IfOk result (λ read. (c : Cut) → IsCut c
-        → text.now ≡ cut_text c → read ≡ Some c) }
-    ensures spelled { IfOk result (λ read. IfSome read (λ c. IsCut c)) }
+// The cut past everything of the version's release, if it is final: no other is in a cut's text.
+fn past_final(alloc: Global, version: &Version) -> Result<Option<Cut>, ClauseFault>
+    ensures kept { IfOk result (λ read. is_final version.now ≡ true
+        → read ≡ Some (past_release version.now)) }
+    ensures exact { IfOk result (λ read. IfSome read (λ c. (c ≡ past_release version.now)
+        × (is_final version.now ≡ true) × IsCut c)) }
     ensures faults { IfErr result (λ e. e ≡ ClauseFault.NoMemory) }
 {
-    if let Some(version) = version_behind(alloc, text, "before ")? {
-        return Ok(Some(Cut::before(alloc, &version)?));
+    if !is_final(version) {
+        return Ok(None);
     }
-    if let Some(version) = version_behind(alloc, text, "past ")? {
-        return Ok(Some(Cut::past(alloc, &version)?));
-    }
-    match version_behind(alloc, text, "after ")? {
-        Some(version) if version.label().is_empty() => Ok(None),
-        Some(version) => Ok(Some(Cut::after(alloc, &version)?)),
-        None if text == "end" => Ok(Some(Cut::end())),
-        None => Ok(None),
-    }
+    Ok(Some(Cut::past(alloc, version)?))
 }
 
 impl Cut {
@@ -59,13 +99,19 @@ impl Cut {
         ensures spelled { IfOk result (λ read. IfSome read (λ c. IsCut c)) }
         ensures faults { IfErr result (λ e. e ≡ ClauseFault.NoMemory) }
     {
-        let Some(cut) = cut_in_words(alloc, text)? else {
-            return Ok(None);
-        };
-        if cut.text(alloc)?.as_str() == text {
-            Ok(Some(cut))
-        } else {
-            Ok(None)
+        if text == "end" {
+            return Ok(Some(Cut::end()));
+        }
+        if let Some(version) = version_behind(alloc, text, "before ")? {
+            return Ok(Some(Cut::before(alloc, &version)?));
+        }
+        if let Some(version) = version_behind(alloc, text, "past ")? {
+            return Ok(past_final(alloc, &version)?);
+        }
+        match version_behind(alloc, text, "after ")? {
+            Some(version) if version.label().is_empty() => Ok(None),
+            Some(version) => Ok(Some(Cut::after(alloc, &version)?)),
+            None => Ok(None),
         }
     }
 }

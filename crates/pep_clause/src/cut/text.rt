@@ -1,7 +1,8 @@
 // How a cut is written.
 
-ghost use Rattle.std.specs.Prelude.{◌≡◌, ◌++◌, string_bytes, IfErr, IfOk, OnOk};
+ghost use Rattle.std.specs.Prelude.{◌≡◌, ◌++◌, string_bytes, IfErr, IfOk, OnErr, OnOk};
 ghost use Rattle.pep_version.specs.KeyReading.{behind_place};
+ghost use Rattle.pep_version.specs.Text.{KeepsFront};
 ghost use Rattle.pep_clause.specs.CutView.{cut_word};
 
 use crate::cut::Cut;
@@ -24,11 +25,13 @@ impl Cut {
         Ok(text)
     }
 
-    /// Appends the text of the cut. The only fault is `NoMemory`.
+    /// Appends the text of the cut. The only fault is `NoMemory`; a refusal leaves what stood in
+    /// the text, with perhaps a part behind it.
     pub fn push_text(&self, text: &mut String) -> Result<(), ClauseFault>
         ensures ok { OnOk result (string_bytes text.new
             ≡ string_bytes text.old ++ cut_text self.now) }
         ensures faults { IfErr result (λ e. e ≡ ClauseFault.NoMemory) }
+        ensures kept { OnErr result (KeepsFront (string_bytes text.old) (string_bytes text.new)) }
     {
         if self.bytes.is_none() {
             return Ok(text.push_str("end")?);

@@ -1,7 +1,7 @@
 // The lines of ranges.
 
 ghost use Rattle.std.specs.Prelude.{◌≡◌, ◌⊎◌, ◌↔◌, ◌++◌, ◌∷◌, []};
-ghost use Rattle.std.specs.Prelude.{IfErr, IfOk, IfSome, IsTrue, None, Some, codes, map};
+ghost use Rattle.std.specs.Prelude.{IfErr, IfOk, IfSome, IsTrue, None, OnOk, Some, codes, map};
 ghost use Rattle.pep_clause.specs.Cut.{Cut, IsCut, cut_text};
 ghost use Rattle.pep_clause.specs.VersionSet.{IsNormal, Range};
 ghost use Rattle.pep_table.specs.TableReading.{AreRanges, Front, HasNoFront, IsRange};
@@ -72,6 +72,18 @@ fn is_behind(ranges: &[Range], range: &Range) -> bool
     }
 }
 
+// The range goes to the end of the list. Most lists have one, and room for no more.
+fn append_range(ranges: &mut Vec<Range>, range: Range) -> Result<(), TableFault>
+    ensures ok { OnOk result (ranges.new.items ≡ ranges.old.items ++ range ∷ []) }
+    ensures faults { IfErr result (λ e. e ≡ TableFault.NoMemory) }
+{
+    if ranges.is_empty() {
+        ranges.reserve_exact(1)?;
+    }
+    ranges.push(range)?;
+    Ok(())
+}
+
 /// The set of the ranges on all lines of ranges in front, and the text behind them.
 pub(crate) fn read_ranges(alloc: Global, text: &str) -> Result<(VersionSet, &str), Halt<'_>>
     ensures ok { IfOk result (λ r. Front (codes "range") text.now (map range_text r.0) r.1.now
@@ -91,7 +103,7 @@ pub(crate) fn read_ranges(alloc: Global, text: &str) -> Result<(VersionSet, &str
         if !is_behind(ranges.as_slice(), &range) {
             return Err(Halt::At(rest));
         }
-        ranges.push(range)?;
+        append_range(&mut ranges, range)?;
         rest = behind;
     }
     // Each range was above the one before, so they are a set's.

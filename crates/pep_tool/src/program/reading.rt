@@ -13,12 +13,14 @@ ghost use Rattle.std.specs.Prelude.{
   IsTrue,
   length,
   map,
+  option_copied,
   string_bytes,
 };
 ghost use Rattle.std.specs.Io.KnownBytes.{Consumes, IsAtEnd};
 ghost use Rattle.devices.specs.Device.{Device, IsFresh};
 ghost use Rattle.inputs.specs.Lists.{input_limit};
 ghost use Rattle.inputs.specs.Refusal.{no_memory};
+ghost use Rattle.inputs.specs.Streams.{ReadsUpTo};
 ghost use Rattle.pep_tool.specs.RunFiles.{
   CannotRead,
   CannotReadOne,
@@ -33,7 +35,7 @@ ghost use Rattle.pep_tool.specs.RunFiles.{
 use devices::{Folder, OpenFault, Source};
 use faults::{Cause, Fault, Place};
 use inputs::{Input, Kind, environment_of};
-use pep_marker::Environment;
+use pep_marker::{Environment, Name};
 use std::alloc::Global;
 
 /// How many bytes are asked for at once.
@@ -68,6 +70,7 @@ fn read_all<S: Source>(
     ensures whole { IfOk result (λ bytes. length bytes.items ≤ input_limit →
         IsAtEnd (S.left source.new)) }
     ensures bound { IfOk result (λ bytes. length bytes.items ≤ input_limit + 1) }
+    ensures most { ReadsUpTo (input_limit + 1) (S.left source.old) (S.left source.new) }
     ensures calls { (S.device source.new).calls ≤ input_limit + 1 }
     ensures same { (S.device source.new).identity ≡ (S.device source.old).identity }
     ensures failed { IsTrue (S.device source.new).failed ↔ IsErrOf result (read_fault place) }
@@ -140,17 +143,33 @@ pub(crate) fn kind_of(path: &str) -> Kind
     }
 }
 
-/// The inputs that the files with these paths are. All of them are read before one is judged.
+// The name, where there is one, once more.
+fn name_copied(alloc: Global, name: Option<&Name>) -> Result<Option<Name>, Fault>
+    ensures copy { IfOk result (λ copy. copy ≡ option_copied name.entry) }
+    ensures faults { IfErr result (λ fault. fault ≡ no_memory) }
+{
+    let Some(name) = name else {
+        return Ok(None);
+    };
+    match name.copied(alloc) {
+        Ok(copy) => Ok(Some(copy)),
+        Err(_) => Err(Fault::no_memory()),
+    }
+}
+
+/// The inputs that the files with these paths are, with this dependency group of the project files or
+/// none. All of them are read before one is judged.
 pub(crate) fn read_inputs<D: Folder>(
     alloc: Global,
     folder: &D,
+    group: Option<&Name>,
     paths: &[String],
 ) -> Result<Vec<Input>, Fault>
     ensures inputs { IfOk result (λ inputs. ReadsInputs (D.file_at folder.now) D.File.left
-        D.File.device (map string_bytes paths.now) inputs.items) }
+        D.File.device (option_copied group.entry) (map string_bytes paths.now) inputs.items) }
     ensures refused { IfErr result (λ fault. (fault ≡ no_memory)
         ⊎ CannotReadOne (D.file_at folder.now) D.File.left D.File.device
-        (map string_bytes paths.now) fault) }
+        (option_copied group.entry) (map string_bytes paths.now) fault) }
 {
     let mut inputs = Vec::with_capacity(alloc, paths.len())?;
     // One for all: to set 64 KiB to zero takes longer than to read a small file.
@@ -163,6 +182,7 @@ pub(crate) fn read_inputs<D: Folder>(
         inputs.push(Input {
             kind: kind_of(path),
             bytes,
+            group: name_copied(alloc, group)?,
         })?;
     }
     Ok(inputs)

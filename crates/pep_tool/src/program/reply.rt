@@ -14,6 +14,8 @@ ghost use Rattle.std.specs.Prelude.{
   Some,
   false,
   map,
+  option_copied,
+  option_map,
   string_bytes,
 };
 ghost use Rattle.pep_marker.specs.Name.{name_of};
@@ -28,19 +30,22 @@ ghost use Rattle.inputs.specs.Streams.{ReadsUpTo, RefusesReading};
 ghost use Rattle.pep_tool.specs.RunReplies.{
   IsReply,
   ChecksFiles,
+  IsGroup,
   IsUnlisted,
   IsVersionLine,
   ListsFile,
   MergesFiles,
   MergesInput,
   RefusesCheck,
-  RefusesFiles,
+  RefusesGroup,
   RefusesLines,
+  RefusesMerge,
   RefusesName,
   RefusesRequest,
   RefusesVersion,
   answer_line,
   answer_status,
+  check_asked,
 };
 ghost use Rattle.pep_tool.specs.Standard.{standard_environment};
 
@@ -97,20 +102,24 @@ pub(crate) fn reply_to<D: Folder, I: Source>(
     match plan {
         Plan::Standard => Ok(Reply::of_text(merge_input(alloc, input)?)),
         Plan::ShowVersion { text } => Ok(Reply::of_text(version_line(alloc, text.as_str())?)),
-        Plan::ShowLines { file } => Ok(Reply::of_text(file_lines(alloc, folder, file.as_str())?)),
-        Plan::Merge { env, files } => {
-            let text = merge_files(alloc, folder, env.as_str(), files.as_slice())?;
+        Plan::ShowLines { group, file } => {
+            Ok(Reply::of_text(file_lines(alloc, folder, group, file.as_str())?))
+        }
+        Plan::Merge { env, group, files } => {
+            let text = merge_files(alloc, folder, env.as_str(), group, files.as_slice())?;
             Ok(Reply::of_text(text))
         }
         Plan::Check {
             env,
+            group,
             pre,
             name,
             version,
             files,
         } => {
             let (env, name, version) = (env.as_str(), name.as_str(), version.as_str());
-            let answer = check_files(alloc, folder, env, *pre, name, version, files.as_slice())?;
+            let files = files.as_slice();
+            let answer = check_files(alloc, folder, env, group, *pre, name, version, files)?;
             answer_reply(alloc, answer)
         }
     }
@@ -136,6 +145,18 @@ fn read_name(alloc: Global, text: &str) -> Result<Name, Fault>
     match Name::read(alloc, text) {
         Ok(name) => Ok(name),
         Err(fault) => Err(Fault::of_argument(ArgumentFault::Name(fault))),
+    }
+}
+
+// The dependency group that a word names, where one is asked for.
+fn read_group(alloc: Global, group: &Option<String>) -> Result<Option<Name>, Fault>
+    ensures group { IfOk result (IsGroup (option_map string_bytes group.now)) }
+    ensures refused { IfErr result (λ fault. (fault ≡ no_memory)
+        ⊎ RefusesGroup (option_map string_bytes group.now) fault) }
+{
+    match group {
+        Some(text) => Ok(Some(read_name(alloc, text.as_str())?)),
+        None => Ok(None),
     }
 }
 
@@ -170,28 +191,41 @@ fn merge_input<S: Source>(alloc: Global, source: &mut S) -> Result<String, Fault
     text_of(alloc, gathering)
 }
 
-// The requirements that a list or a project file has, without an extra.
-fn requirements_to_show(alloc: Global, kind: Kind, bytes: &[u8]) -> Result<Vec<Requirement>, Fault>
+// The requirements that a list or a project file has, without an extra, or of a dependency group.
+fn requirements_to_show(
+    alloc: Global,
+    kind: Kind,
+    bytes: &[u8],
+    group: Option<&Name>,
+) -> Result<Vec<Requirement>, Fault>
     requires { kind ≢ Kind.Table }
-    ensures ok { IfOk result (λ requirements.
-        Lists [] kind bytes.now (map requirement_parts requirements.items)) }
+    ensures ok { IfOk result (λ requirements. Lists [] kind (option_copied group.entry) bytes.now
+        (map requirement_parts requirements.items)) }
     ensures refused { IfErr result (λ fault. (fault ≡ no_memory)
-        ⊎ ((fault.place ≡ Place.Input 1) × IsUnlisted kind bytes.now fault.cause)) }
+        ⊎ ((fault.place ≡ Place.Input 1)
+        × IsUnlisted kind (option_copied group.entry) bytes.now fault.cause)) }
 {
     match kind {
         Kind::List => list_of(alloc, bytes),
-        Kind::Project => project_of(alloc, bytes, ""),
+        Kind::Project => project_of(alloc, bytes, "", group),
         Kind::Table => unreachable!(),
     }
 }
 
 // The lines of the requirements of the file with this path.
-fn file_lines<D: Folder>(alloc: Global, folder: &D, path: &str) -> Result<String, Fault>
+fn file_lines<D: Folder>(
+    alloc: Global,
+    folder: &D,
+    group: &Option<String>,
+    path: &str,
+) -> Result<String, Fault>
     ensures lists { IfOk result (λ text. ListsFile (D.file_at folder.now) D.File.left
-        D.File.device path.now (string_bytes text)) }
+        D.File.device (option_map string_bytes group.now) path.now (string_bytes text)) }
     ensures refused { IfErr result (λ fault. (fault ≡ no_memory)
-        ⊎ RefusesLines (D.file_at folder.now) D.File.left D.File.device path.now fault) }
+        ⊎ RefusesLines (D.file_at folder.now) D.File.left D.File.device
+        (option_map string_bytes group.now) path.now fault) }
 {
+    let name = read_group(alloc, group)?;
     let kind = kind_of(path);
     if kind == Kind::Table {
         return Err(Fault {
@@ -201,7 +235,7 @@ fn file_lines<D: Folder>(alloc: Global, folder: &D, path: &str) -> Result<String
     }
     let mut buffer = [0u8; PIECE];
     let bytes = read_file(alloc, folder, path, Place::Input(1), &mut buffer)?;
-    let requirements = requirements_to_show(alloc, kind, bytes.as_slice())?;
+    let requirements = requirements_to_show(alloc, kind, bytes.as_slice(), name.as_ref())?;
     lines_text(alloc, requirements.as_slice())
 }
 
@@ -210,16 +244,19 @@ fn merge_files<D: Folder>(
     alloc: Global,
     folder: &D,
     env: &str,
+    group: &Option<String>,
     files: &[String],
 ) -> Result<String, Fault>
     ensures merged { IfOk result (λ text. MergesFiles (D.file_at folder.now) D.File.left
-        D.File.device env.now (map string_bytes files.now) (string_bytes text)) }
+        D.File.device env.now (option_map string_bytes group.now) (map string_bytes files.now)
+        (string_bytes text)) }
     ensures refused { IfErr result (λ fault. (fault ≡ no_memory)
-        ⊎ RefusesFiles (D.file_at folder.now) D.File.left D.File.device env.now
-        (map string_bytes files.now) fault) }
+        ⊎ RefusesMerge (D.file_at folder.now) D.File.left D.File.device env.now
+        (option_map string_bytes group.now) (map string_bytes files.now) fault) }
 {
+    let name = read_group(alloc, group)?;
     let environment = read_environment(alloc, folder, env)?;
-    let inputs = read_inputs(alloc, folder, files)?;
+    let inputs = read_inputs(alloc, folder, name.as_ref(), files)?;
     merge_bytes(alloc, inputs.as_slice(), &environment)
 }
 
@@ -229,32 +266,23 @@ fn check_files<D: Folder>(
     alloc: Global,
     folder: &D,
     env: &str,
+    group: &Option<String>,
     pre: bool,
     name: &str,
     version: &str,
     files: &[String],
 ) -> Result<Answer, Fault>
     ensures checked { IfOk result (ChecksFiles (D.file_at folder.now) D.File.left D.File.device
-        (record {
-          env = env.now;
-          pre = pre;
-          name = name.now;
-          version = version.now;
-          files = map string_bytes files.now;
-        })) }
+        (check_asked env.now group.now pre name.now version.now files.now)) }
     ensures refused { IfErr result (λ fault. (fault ≡ no_memory)
-        ⊎ RefusesCheck (D.file_at folder.now) D.File.left D.File.device (record {
-          env = env.now;
-          pre = pre;
-          name = name.now;
-          version = version.now;
-          files = map string_bytes files.now;
-        }) fault) }
+        ⊎ RefusesCheck (D.file_at folder.now) D.File.left D.File.device
+        (check_asked env.now group.now pre name.now version.now files.now) fault) }
 {
     let version = read_version(alloc, version)?;
     let name = read_name(alloc, name)?;
+    let group = read_group(alloc, group)?;
     let environment = read_environment(alloc, folder, env)?;
-    let inputs = read_inputs(alloc, folder, files)?;
+    let inputs = read_inputs(alloc, folder, group.as_ref(), files)?;
     check_bytes(alloc, inputs.as_slice(), &environment, &name, &version, pre)
 }
 

@@ -51,8 +51,9 @@ fn put_marked(buffer: &mut [u8; INLINE], at: usize, mark: u8, n: u64) -> Option<
     ensures within { IfSome result (λ end. end ≤ length buffer.new) }
     ensures room { at + 9 ≤ length buffer.old → IsSome result }
 {
-    let [a, b, c, d, e, f, g, h] = n.to_be_bytes();
-    put(buffer, at, &[mark, a, b, c, d, e, f, g, h])
+    // Two writes: of one array of nine each byte is written apart.
+    let behind = put(buffer, at, &[mark])?;
+    put(buffer, behind, &n.to_be_bytes())
 }
 
 // The numbers of a release and the byte behind them.

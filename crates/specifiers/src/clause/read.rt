@@ -85,6 +85,7 @@ fn version_clause(operator: Op, version: Version) -> Result<Clause, ClauseFault>
 }
 
 // The clause of an operator and a text without white space at its ends.
+#[inline(always)]
 fn operand_clause(alloc: Global, operator: Op, text: &str) -> Result<Clause, ClauseFault>
     ensures { TargetAnswers operator text.now result }
 {
@@ -118,6 +119,7 @@ impl Clause {
     /// where `.*` stands behind more than a release, or with another operator than `==` and `!=`;
     /// 14 `LocalNotAllowed` for a label with another operator; 15
     /// `OneNumber` for `~=` with one release number; 17 `NoMemory` where a growth is refused.
+    #[inline(always)]
     pub fn of(alloc: Global, operator: Op, text: &str) -> Result<Clause, ClauseFault>
         ensures clause { ClauseOf operator text.now result }
         ensures valid { IfOk result (λ c. IsValidClause c) }

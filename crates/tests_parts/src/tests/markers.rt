@@ -1,7 +1,7 @@
 //! Markers: which texts are read, how they are written, and what they say in an environment.
 
 use crate::tests::lines::expect_row;
-use pep_marker::{Environment, Marker, MarkerFault};
+use pep_marker::{Environment, JudgedMarkers, Marker, MarkerFault};
 use std::alloc::{AllocError, Global};
 use std::process::Abort;
 use std::test::Fail;
@@ -238,6 +238,69 @@ fn versions_and_texts(rt: HostRuntime) -> Result<(), Fail> {
         let text = format!(in rt.alloc(); "python_version {operator} \"{version}\"")?;
         expect_truth(&rt, &machine, text.as_str(), truth)?;
     }
+    Ok(())
+}
+
+// What the memory says of a text, or why it says nothing.
+fn judged_line(
+    alloc: Global,
+    markers: &mut JudgedMarkers<'_>,
+    text: &str,
+) -> Result<String, AllocError> {
+    match markers.judge(alloc, text) {
+        Ok(truth) => format!(in alloc; "{truth}"),
+        Err(fault) => format!(in alloc; "refused {}", fault.code()),
+    }
+}
+
+// The memory says of a text what is wanted, and says so again.
+fn expect_judged(
+    rt: &(impl Abort + AllocGlobal),
+    markers: &mut JudgedMarkers<'_>,
+    text: &str,
+    want: &str,
+) -> Result<(), AllocError> {
+    let line = judged_line(rt.alloc(), markers, text)?;
+    expect_row(rt, text, line.as_str(), want);
+    let again = judged_line(rt.alloc(), markers, text)?;
+    expect_row(rt, text, again.as_str(), want);
+    Ok(())
+}
+
+// A thousand markers in two rounds, of which a memory has room for a quarter, so that each place is
+// shared by several.
+#[test]
+fn more_markers_than_are_remembered(rt: HostRuntime) -> Result<(), Fail> {
+    let machine = Environment::of(rt.alloc(), &MACHINE)?;
+    let mut markers = JudgedMarkers::new(rt.alloc(), &machine)?;
+    for round in 0..2_000u32 {
+        let micro = round % 1_000;
+        let text = format!(in rt.alloc(); "python_full_version == '3.9.{micro}'")?;
+        let want = if micro == 18 { "true" } else { "false" };
+        expect_judged(&rt, &mut markers, text.as_str(), want)?;
+    }
+    Ok(())
+}
+
+#[test]
+fn remembered_markers(rt: HostRuntime) -> Result<(), Fail> {
+    let machine = Environment::of(rt.alloc(), &MACHINE)?;
+    let mut markers = JudgedMarkers::new(rt.alloc(), &machine)?;
+    for &(text, truth) in &TRUTHS {
+        expect_judged(&rt, &mut markers, text, truth)?;
+    }
+    for text in &UNDEFINED {
+        expect_judged(&rt, &mut markers, text, "refused 28")?;
+    }
+    let long = repeated(
+        rt.alloc(),
+        "(",
+        "os_name == 'posix' and ",
+        20,
+        "os_name == 'nt')",
+    )?;
+    expect_judged(&rt, &mut markers, long.as_str(), "false")?;
+    expect_judged(&rt, &mut markers, "os_name = 'nt'", "refused 26")?;
     Ok(())
 }
 

@@ -281,6 +281,49 @@ fn uses_up_and_copies(rt: HostRuntime) -> Result<(), Fail> {
     Ok(())
 }
 
+// Two lists of clauses, and the ranges that their sets have in common.
+const LISTS: [(&[&str], &[&str], &str); 5] = [
+    (
+        &["!=1", "!=3"],
+        &["!=2", "!=3", "!=4", "<5"],
+        "[before 0.dev0 to before 1][before 1.post0.dev0 to before 2][before 2.post0.dev0 to before 3]\
+        [before 3.post0.dev0 to before 4][before 4.post0.dev0 to before 5.dev0]",
+    ),
+    (
+        &[">=1", "!=2.*"],
+        &["<=2.5", "!=1.5"],
+        "[before 1 to before 1.5][before 1.5.post0.dev0 to before 2.dev0]",
+    ),
+    (
+        &["!=1.*"],
+        &["!=1.*"],
+        "[before 0.dev0 to before 1.dev0][before 2.dev0 to end]",
+    ),
+    (
+        &["!=1.*", "!=2.*", "!=4.*"],
+        &["!=3.*", "!=2.*"],
+        "[before 0.dev0 to before 1.dev0][before 5.dev0 to end]",
+    ),
+    (&["!=1.*", "<2"], &[">=1", "!=3"], "none"),
+];
+
+// What they have in common, of sets that are used up.
+fn lists_line(alloc: Global, left: &[&str], right: &[&str]) -> Result<String, ClauseFault> {
+    let both = joined(alloc, left)?.common(alloc, joined(alloc, right)?)?;
+    shown(alloc, &both)
+}
+
+#[test]
+fn uses_up_lists(rt: HostRuntime) -> Result<(), Fail> {
+    for &(left, right, want) in &LISTS {
+        let line = lists_line(rt.alloc(), left, right)?;
+        expect_row(&rt, "left first", line.as_str(), want);
+        let line = lists_line(rt.alloc(), right, left)?;
+        expect_row(&rt, "right first", line.as_str(), want);
+    }
+    Ok(())
+}
+
 // The ranges of the join of two sets, whether it is that of none, and whether the two differ.
 fn between_line(alloc: Global, above: &str, below: &str) -> Result<String, ClauseFault> {
     let (above, below) = (set(alloc, above)?, set(alloc, below)?);
@@ -336,6 +379,7 @@ fn copies_ranges(rt: HostRuntime) -> Result<(), Fail> {
 fn laws_of_sets() {
     laws::one_list();
     laws::one_list_of_versions();
+    laws::between_cuts();
     laws::place_is_in();
 }
 

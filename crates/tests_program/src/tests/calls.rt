@@ -21,7 +21,11 @@ pub(crate) fn machine(alloc: Global) -> Result<Environment, Fault> {
 // The input of a kind and a text.
 fn input_of(alloc: Global, kind: Kind, text: &str) -> Result<Input, AllocError> {
     let bytes = Vec::from_slice(alloc, text.as_bytes())?;
-    Ok(Input { kind, bytes })
+    Ok(Input {
+        kind,
+        bytes,
+        group: None,
+    })
 }
 
 /// The inputs of these kinds and texts.
@@ -202,13 +206,56 @@ const PROJECTS: [(&str, &str, &str); 7] = [
 ];
 
 fn project_line(alloc: Global, project: &str, extra: &str) -> Result<String, Fault> {
-    texts(alloc, project_of(alloc, project.as_bytes(), extra))
+    texts(alloc, project_of(alloc, project.as_bytes(), extra, None))
 }
 
 #[test]
 fn requirements_of_projects(rt: HostRuntime) -> Result<(), Fail> {
     for &(project, extra, want) in &PROJECTS {
         let found = project_line(rt.alloc(), project, extra)?;
+        expect_row(&rt, project, found.as_str(), want);
+    }
+    Ok(())
+}
+
+// A group of a project file, and its requirements or the line of the fault.
+const GROUPS: [(&str, &str, &str); 4] = [
+    (
+        "dependency-groups = {A = ['x', {include-group = 'b.c'}, 'y'], 'B_C' = ['z']}",
+        "a",
+        "x\nz\ny\n",
+    ),
+    (
+        "dependency-groups = {a = [{include-group = 'b'}], b = ['x', {include-group = 'A'}]}",
+        "b",
+        "refused input 1 code 67\n",
+    ),
+    (
+        "dependency-groups = {a = [], A = []}",
+        "b",
+        "refused input 1 code 66\n",
+    ),
+    (
+        "project.dependencies = ['x']",
+        "a",
+        "refused input 1 code 65\n",
+    ),
+];
+
+fn group_line(alloc: Global, project: &str, group: &str) -> Result<String, Fault> {
+    let Ok(group) = Name::read(alloc, group) else {
+        return Err(Fault::no_memory());
+    };
+    texts(
+        alloc,
+        project_of(alloc, project.as_bytes(), "", Some(&group)),
+    )
+}
+
+#[test]
+fn requirements_of_groups(rt: HostRuntime) -> Result<(), Fail> {
+    for &(project, group, want) in &GROUPS {
+        let found = group_line(rt.alloc(), project, group)?;
         expect_row(&rt, project, found.as_str(), want);
     }
     Ok(())

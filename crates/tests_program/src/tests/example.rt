@@ -10,7 +10,8 @@ use std::test::Fail;
 fn merged(alloc: Global, list: &str, environment: &Environment) -> Result<String, Fault> {
     let bytes = Vec::from_slice(alloc, list.as_bytes())?;
     let kind = Kind::List;
-    merge_bytes(alloc, &[Input { kind, bytes }], environment)
+    let group = None;
+    merge_bytes(alloc, &[Input { kind, bytes, group }], environment)
 }
 
 // The table of a list on the machine, or the line of the fault.

@@ -48,7 +48,7 @@ fn cause_line(alloc: Global, cause: &Cause) -> Result<String, AllocError> {
     format!(in alloc; "{} {cause}", cause.code())
 }
 
-const CAUSES: [(Cause, &str); 14] = [
+const CAUSES: [(Cause, &str); 17] = [
     (Cause::NotUtf8, "51 not UTF-8"),
     (Cause::NotToml, "52 not a TOML document"),
     (Cause::NoProject, "53 no `project`"),
@@ -71,6 +71,9 @@ const CAUSES: [(Cause, &str); 14] = [
     ),
     (Cause::WriteFault, "63 a write failed"),
     (Cause::NoRequirements, "64 a table has no requirements"),
+    (Cause::NoGroup, "65 no such dependency group"),
+    (Cause::EqualGroups, "66 two dependency groups of one name"),
+    (Cause::GroupCycle, "67 a dependency group includes itself"),
     (Cause::Line(1, LineFault::NotUtf8), "57 line 1: not UTF-8"),
 ];
 

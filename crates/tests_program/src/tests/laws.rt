@@ -14,6 +14,9 @@ fn laws_of_tables() {
     table_laws::applying_is_table();
     table_laws::own_table();
     table_laws::table_answers();
+    table_laws::few_ranges();
+    table_laws::one_table_of_demands();
+    table_laws::one_verdict();
 }
 
 #[test]
@@ -25,6 +28,7 @@ fn laws_of_merging() {
     laws::one_text_of_lines();
     laws::printed_in_place();
     laws::read_is_merged();
+    laws::group_is_walked();
     laws::one_list();
     laws::refused_list_is_not_read();
     laws::one_project();

@@ -84,6 +84,14 @@ fn a_line_of_many_pieces(rt: HostRuntime) -> Result<(), Fail> {
     Ok(())
 }
 
+#[test]
+fn many_pieces_of_one_byte(rt: HostRuntime) -> Result<(), Fail> {
+    let list = repeated(rt.alloc(), "a>=1\n", "#\n", 35_000, "")?;
+    let line = table_line(rt.alloc(), list.as_str(), 1, NEVER)?;
+    expect_line(&rt, line.as_str(), "a open\n  range before 1 to end\n");
+    Ok(())
+}
+
 // Whether the table of a list that comes in pieces is that of its requirements.
 fn is_table_of_all(alloc: Global, list: &str, piece: usize) -> Result<bool, Fault> {
     let machine = machine(alloc)?;

@@ -24,39 +24,55 @@ fn plan_line(alloc: Global, words: &[&str]) -> Result<String, Fault> {
 }
 
 // A check of one file, and one of two that takes pre-releases.
-const PLAIN: &str = "Check { env: \"e\", pre: false, name: \"n\", version: \"1\", files: [\"a\"] }";
+const PLAIN: &str =
+    "Check { env: \"e\", group: None, pre: false, name: \"n\", version: \"1\", files: [\"a\"] }";
 
 const PRE: &str =
-    "Check { env: \"e\", pre: true, name: \"n\", version: \"1\", files: [\"a\", \"b\"] }";
+    "Check { env: \"e\", group: None, pre: true, name: \"n\", version: \"1\", files: [\"a\", \"b\"] }";
 
 // Words, and their plan.
-const PLANS: [(&[&str], &str); 20] = [
+const PLANS: [(&[&str], &str); 23] = [
     (&[], "Standard"),
     (&["version", "1.0"], "ShowVersion { text: \"1.0\" }"),
-    (&["lines", "--", "-f"], "ShowLines { file: \"-f\" }"),
+    (
+        &["lines", "--", "-f"],
+        "ShowLines { group: None, file: \"-f\" }",
+    ),
+    (
+        &["lines", "--group", "g", "a"],
+        "ShowLines { group: Some(\"g\"), file: \"a\" }",
+    ),
+    (
+        &["merge", "a", "--group=g", "--env", "e"],
+        "Merge { env: \"e\", group: Some(\"g\"), files: [\"a\"] }",
+    ),
+    (
+        &["check", "--env", "e", "n", "--group", "g", "1", "a"],
+        "Check { env: \"e\", group: Some(\"g\"), pre: false, name: \"n\", version: \"1\", files: [\"a\"] }",
+    ),
     (
         &["merge", "--env", "e", "a"],
-        "Merge { env: \"e\", files: [\"a\"] }",
+        "Merge { env: \"e\", group: None, files: [\"a\"] }",
     ),
     (
         &["merge", "--env=e", "a", "b", "a"],
-        "Merge { env: \"e\", files: [\"a\", \"b\", \"a\"] }",
+        "Merge { env: \"e\", group: None, files: [\"a\", \"b\", \"a\"] }",
     ),
     (
         &["merge", "a", "b", "--env", "e"],
-        "Merge { env: \"e\", files: [\"a\", \"b\"] }",
+        "Merge { env: \"e\", group: None, files: [\"a\", \"b\"] }",
     ),
     (
         &["merge", "a", "--env", "e", "b"],
-        "Merge { env: \"e\", files: [\"a\", \"b\"] }",
+        "Merge { env: \"e\", group: None, files: [\"a\", \"b\"] }",
     ),
     (
         &["merge", "--env", "e", "--", "-a", "--pre"],
-        "Merge { env: \"e\", files: [\"-a\", \"--pre\"] }",
+        "Merge { env: \"e\", group: None, files: [\"-a\", \"--pre\"] }",
     ),
     (
         &["merge", "--env", "e", "merge", ""],
-        "Merge { env: \"e\", files: [\"merge\", \"\"] }",
+        "Merge { env: \"e\", group: None, files: [\"merge\", \"\"] }",
     ),
     (&["check", "--env", "e", "n", "1", "a"], PLAIN),
     (&["check", "--env=e", "n", "1", "a"], PLAIN),
@@ -69,7 +85,7 @@ const PLANS: [(&[&str], &str); 20] = [
     (&["check", "n", "1", "a", "b", "--env=e", "--pre"], PRE),
     (
         &["check", "--env", "e", "--", "-n", "--pre", "-a"],
-        "Check { env: \"e\", pre: false, name: \"-n\", version: \"--pre\", files: [\"-a\"] }",
+        "Check { env: \"e\", group: None, pre: false, name: \"-n\", version: \"--pre\", files: [\"-a\"] }",
     ),
     (
         &["version", "1", "2"],

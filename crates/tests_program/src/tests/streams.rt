@@ -1,9 +1,10 @@
 //! The program over readers and writers that fail at a call, that give bytes without end, or that
 //! take none.
 
+use crate::tests::calls::machine;
 use crate::tests::lines::expect_line;
 use crate::tests::plans::owned;
-use pep_tool::{Bytes, Counted, Failed, Sink, Source, run, write_text};
+use pep_tool::{Bytes, Counted, Failed, Fault, Sink, Source, merge_reader, run, write_text};
 use std::alloc::{AllocError, Global};
 use std::io;
 use std::io::Write;
@@ -424,6 +425,34 @@ const ENDLESS: [(usize, usize, u64, &str); 3] = [
 fn readers_without_end(rt: HostRuntime) -> Result<(), Fail> {
     for &(piece, line, faulty, want) in &ENDLESS {
         let found = endless_line(&rt, piece, line, faulty)?;
+        expect_line(&rt, found.as_str(), want);
+    }
+    Ok(())
+}
+
+// Why a merge over a reader without end is refused, and how many bytes it read by how many calls.
+fn endless_merge(alloc: Global, piece: usize, line: usize) -> Result<String, Fault> {
+    let machine = machine(alloc)?;
+    let mut input = Endless::new(piece, line, NEVER);
+    let told = match merge_reader(alloc, &mut input, &machine) {
+        Ok(_) => String::from_str(alloc, "merged")?,
+        Err(fault) => fault.text(alloc)?,
+    };
+    let (given, calls) = (input.given, input.calls);
+    Ok(format!(in alloc; "{given} {calls} [{told}]")?)
+}
+
+// How many bytes a call gives, between line feeds, and what the merge is: line feeds without end, and a
+// line without end. (`.ci/failing_devices` has line feeds one by one.)
+const ENDLESS_MERGES: [(usize, usize, &str); 2] = [
+    (64, 1, "16777217 262145 [refused input 1 code 56\n]"),
+    (1, 0, "65537 65537 [refused input 1 line 1 code 57 38\n]"),
+];
+
+#[test]
+fn merges_over_readers_without_end(rt: HostRuntime) -> Result<(), Fail> {
+    for &(piece, line, want) in &ENDLESS_MERGES {
+        let found = endless_merge(rt.alloc(), piece, line)?;
         expect_line(&rt, found.as_str(), want);
     }
     Ok(())

@@ -31,7 +31,7 @@ fn push_lines(
 
 // Whether what is gathered of the table is the same.
 fn is_gathered(alloc: Global, table: &Table) -> Result<bool, TableFault> {
-    let gathering = Gathering::new(alloc).take_table(alloc, table)?;
+    let gathering = Gathering::new(alloc).take_table(alloc, table.copied(alloc)?)?;
     Ok(gathering.finish(alloc)? == *table)
 }
 

@@ -2,6 +2,7 @@
 
 use crate::tests::lines::{expect, expect_line, expect_same};
 use crate::tests::tables::{requirement, table, table_of};
+use pep_marker::Name;
 use pep_require::Requirement;
 use pep_table::{Join, Table, TableFault};
 use std::alloc::{AllocError, Global};
@@ -36,6 +37,23 @@ fn bad_line(alloc: Global, text: &str) -> Result<usize, TableFault> {
     }
 }
 
+// The text of what the table with this text has of a name.
+fn part(alloc: Global, text: &str, name: &str) -> Result<String, TableFault> {
+    match Name::read(alloc, name) {
+        Ok(name) => Table::read_named(alloc, text, &name)?.text(alloc),
+        Err(_) => Err(TableFault::NoMemory),
+    }
+}
+
+// The line that can't stand in the text, where one name is looked for, or 0.
+fn bad_line_of_part(alloc: Global, text: &str) -> Result<usize, TableFault> {
+    match part(alloc, text, "flask") {
+        Ok(_) => Ok(0),
+        Err(TableFault::BadTable(line)) => Ok(line),
+        Err(fault) => Err(fault),
+    }
+}
+
 // Stands for the line where a table is read of the text, but has another text.
 const ANOTHER: usize = usize::MAX;
 
@@ -48,6 +66,8 @@ fn line_of(alloc: Global, table: &Table, text: &str) -> Result<usize, TableFault
 fn expect_lines(rt: &(impl Abort + AllocGlobal), rows: &[(&str, usize)]) -> Result<(), TableFault> {
     for &(text, wanted) in rows {
         let line = bad_line(rt.alloc(), text)?;
+        expect_same(rt, text, line, wanted);
+        let line = bad_line_of_part(rt.alloc(), text)?;
         expect_same(rt, text, line, wanted);
     }
     Ok(())
@@ -450,8 +470,20 @@ fn expect_whole(
     wanted: usize,
 ) -> Result<(), TableFault> {
     expect_same(rt, "the table", bad_line(rt.alloc(), text.as_str())?, 0);
+    expect_same(
+        rt,
+        "a part",
+        bad_line_of_part(rt.alloc(), text.as_str())?,
+        0,
+    );
     text.push_str(other)?;
     expect_same(rt, other, bad_line(rt.alloc(), text.as_str())?, wanted);
+    expect_same(
+        rt,
+        other,
+        bad_line_of_part(rt.alloc(), text.as_str())?,
+        wanted,
+    );
     Ok(())
 }
 
@@ -584,5 +616,30 @@ fn read_and_joined(alloc: Global, text: &str, list: &str) -> Result<String, Tabl
 fn read_tables_are_joined(rt: HostRuntime) -> Result<(), Fail> {
     let merged = read_and_joined(rt.alloc(), FLASK, "flask!=2.1")?;
     expect_line(&rt, merged.as_str(), MERGED);
+    Ok(())
+}
+
+const TWO_NAMES: &str = "a none\nb open\n  extra x\n  range before 1 to end\n";
+
+// The text of a table, a name, and the text of what it has of the name.
+const PARTS: [(&str, &str, &str); 6] = [
+    ("", "a", ""),
+    (FLASK, "Flask", FLASK),
+    (FLASK, "flas", ""),
+    (TWO_NAMES, "a", "a none\n"),
+    (
+        TWO_NAMES,
+        "b",
+        "b open\n  extra x\n  range before 1 to end\n",
+    ),
+    (TWO_NAMES, "c", ""),
+];
+
+#[test]
+fn parts_of_one_name(rt: HostRuntime) -> Result<(), Fail> {
+    for &(text, name, wanted) in &PARTS {
+        let found = part(rt.alloc(), text, name)?;
+        expect_line(&rt, found.as_str(), wanted);
+    }
     Ok(())
 }

@@ -237,7 +237,7 @@ fn different_tables(rt: HostRuntime) -> Result<(), Fail> {
 pub(crate) fn gathered(alloc: Global, tables: &[Table]) -> Result<Table, TableFault> {
     let mut gathering = Gathering::new(alloc);
     for table in tables {
-        gathering = gathering.take_table(alloc, table)?;
+        gathering = gathering.take_table(alloc, table.copied(alloc)?)?;
     }
     gathering.finish(alloc)
 }

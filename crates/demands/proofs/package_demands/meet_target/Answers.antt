@@ -1,4 +1,3 @@
-use Rattle.std.proofs.Common.{[]}
 use Rattle.demands.specs.PartialJoins.{joined_sets}
 use Rattle.demands.proofs.PartialJoins.{normal_sets}
 use Rattle.demands.proofs.TakenClauses.{meets_none}

@@ -1,8 +1,10 @@
 use Rattle.std.proofs.Common.{◌≡◌, [], take}
 use Rattle.inputs.specs.GatheredLines.{GathersInputs}
+use Rattle.inputs.specs.Wanted.{wanted_name}
 use Rattle.inputs.proofs.gathering.take_inputs.Given as goal
 
 abbrev pub invariant-loop-input : goal.invariant-loop-input
 invariant-loop-input l =
-    GathersInputs l.environment (take l.input-index l.inputs) [] l.gathering
-    × (l.number ≡ l.input-index)
+    GathersInputs l.environment (wanted_name l.wanted) (take l.input-index l.inputs) [] l.gathering
+    × (l.number ≡ l.input-index) × (l.taker.markers ≡ l.environment)
+    × (wanted_name l.taker.wanted ≡ wanted_name l.wanted)

@@ -4,5 +4,5 @@ use Rattle.inputs.proofs.laws.one_text.Goals as goal
 
 pub returns : goal.returns
 returns c = λ e f a b x y m n same.
-    laws.one_text (Gathered e a) (Gathered f b) m.table n.table x y same m.is_table m.points
-    n.is_table n.points m.text n.text
+    laws.one_text (Gathered e a) (Gathered f b) m.table n.table x y same m.is_table n.is_table
+    m.text n.text

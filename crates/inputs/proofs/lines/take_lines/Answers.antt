@@ -1,9 +1,9 @@
-use Rattle.std.proofs.Common.{◌∙◌, ◌++◌, arith, sym}
+use Rattle.std.proofs.Common.{◌∙◌, ◌+◌, ◌++◌, arith, subst, sym}
 use Rattle.std.proofs.lemmas.List.{take-append-drop}
 use Rattle.std.proofs.lemmas.Result.{IfErr-weaker, IfOk-weaker, err_from_is_err_and}
 use Rattle.inputs.proofs.Pieces.{last_refuses, over_refuses, whole_refuses}
 use Rattle.inputs.proofs.TakenLines.{ended_count, first_piece, last_taken}
-use Rattle.inputs.specs.LineReading.{HasTaken}
+use Rattle.inputs.specs.LineReading.{HasTaken, RefusesEnded, TakesLine}
 use Rattle.inputs.proofs.lines.take_lines.Given as given
 use Rattle.inputs.proofs.lines.take_lines.Goals as goal
 use Rattle.inputs.proofs.lines.take_lines.Goals.{In_ok-lines}
@@ -45,7 +45,9 @@ returns-then-bytes-le-INPUT_LIMIT-clause-ok g c =
     IfOk-weaker c.take_last.result _ _
     (λ new t. last_taken (g.T.Taker.takes c.args.taker.now) c.args.bytes.now
     c.in_ok-lines.lines.held.items 0 c.in_ok-lines.lines.number _ _ new
-    (omega (arith, c.if-bytes-le-INPUT_LIMIT.true)) (taken_lines g all) t) c.take_last.ensures.ok
+    (omega (arith, c.if-bytes-le-INPUT_LIMIT.true)) (taken_lines g all)
+    (subst (λ j. TakesLine (g.T.Taker.takes j) c.in_ok-lines.lines.held.items
+    c.in_ok-lines.lines.taken new) c.in_ok-lines.ensures.same t)) c.take_last.ensures.ok
 
 pub returns-then-bytes-le-INPUT_LIMIT-clause-refused :
     goal.returns-then-bytes-le-INPUT_LIMIT-clause-refused
@@ -55,7 +57,9 @@ returns-then-bytes-le-INPUT_LIMIT-clause-refused g c =
     IfErr-weaker c.take_last.result _ _
     (λ cause h. last_refuses (g.T.Taker.refuses c.args.taker.now) c.args.bytes.now
     c.in_ok-lines.lines.held.items c.in_ok-lines.lines.number lines.done cause lines.split
-    (omega (arith, lines.counted)) h) c.take_last.ensures.refused
+    (omega (arith, lines.counted)) (subst (λ j. RefusesEnded (g.T.Taker.refuses j)
+    (c.in_ok-lines.lines.number + 1) c.in_ok-lines.lines.held.items cause)
+    c.in_ok-lines.ensures.same h)) c.take_last.ensures.refused
 
 pub returns-clause-refused : goal.returns-clause-refused
 returns-clause-refused g c =

@@ -1,4 +1,4 @@
-use Rattle.std.proofs.Common.{◌+◌, ◌++◌, ◌≤◌, length}
+use Rattle.std.proofs.Common.{◌+◌, ◌++◌, ◌≡◌, ◌≤◌, length}
 use Rattle.inputs.specs.LineReading.{IsHeld, SoFar}
 use Rattle.inputs.proofs.Pieces.{left_len, left_lines}
 use Rattle.inputs.proofs.lines.take_piece.Given as goal
@@ -6,7 +6,8 @@ use Rattle.inputs.proofs.lines.take_piece.Given as goal
 -- the lines of the piece up to what is left are taken
 abbrev pub invariant-loop-left : goal.invariant-loop-left
 invariant-loop-left g l = record {
-  lines : SoFar (g.T.Taker.takes l.taker) (l.fn.so_far.held.items ++ l.fn.piece)
+  same : l.taker ≡ l.fn.taker;
+  lines : SoFar (g.T.Taker.takes l.fn.taker) (l.fn.so_far.held.items ++ l.fn.piece)
       l.fn.so_far.number l.so_far.number (left_lines l.so_far.held.items l.left)
       l.fn.so_far.taken l.so_far.taken;
   held : IsHeld l.so_far.held.items;

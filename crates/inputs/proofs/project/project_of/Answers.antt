@@ -1,3 +1,4 @@
+use Rattle.std.proofs.Common.{option_copied}
 use Rattle.faults.specs.declared.fault.Place.TheVariants.{Input}
 use Rattle.inputs.specs.Refusal.{IsRefusedProject}
 use Rattle.inputs.proofs.Placed.{placed}
@@ -5,6 +6,6 @@ use Rattle.inputs.proofs.project.project_of.Goals as goal
 
 pub returns-in-Err-clause-refused : goal.returns-in-Err-clause-refused
 returns-in-Err-clause-refused c =
-    placed (IsRefusedProject c.args.extra.now c.args.bytes.now) (Input 1) c.in-Err.cause
+    placed (IsRefusedProject c.args.extra.now (option_copied c.args.group) c.args.bytes.now) (Input 1) c.in-Err.cause
     c.fault_in.result c.in-Err.ensures.refused
     c.fault_in.ensures.cause c.fault_in.ensures.memory c.fault_in.ensures.place

@@ -2,7 +2,6 @@ use Rattle.std.proofs.Common.{◌≡◌, ◌++◌, ◌∙◌, Bor, List, None, O
 use Rattle.std.proofs.Common.{ℕ}
 use Rattle.std.proofs.lemmas.List.{map-append}
 use Rattle.pep_table.proofs.Exits.{further, handed_on}
-use Rattle.toml.proofs.Views.{table_get}
 use Rattle.toml.specs.Data.{as_table}
 use Rattle.toml.specs.View.{table_view, view}
 use Rattle.inputs.specs.Texts.{lent_texts}
@@ -16,26 +15,23 @@ has_project : (c : In-Some-as_table) →
     HasProject (table_view c.args.document.now) (table_view c.in-Some-as_table.project.now)
 has_project c = record {
   value = view c.in-Some.found.now;
-  found = at_key (codes "project") (table_view c.args.document.now) c.get.result c.in-Some.found
-      c.in-Some.is
-      (table_get c.get.result (codes "project") c.args.document.now.entries c.get.ensures.value);
+  found = at_key (codes "project") c.args.document.now c.get.result c.in-Some.found c.in-Some.is
+      c.get.ensures.value;
   is_table = search rules;
 }
 
 pub returns-in_default-clause-refused : goal.returns-in_default-clause-refused
 returns-in_default-clause-refused c =
     inr (project_missing c.args.extra.now (table_view c.args.document.now)
-    (at_no_key (codes "project") (table_view c.args.document.now) c.get.result c.in_default.is
-    (table_get c.get.result (codes "project") c.args.document.now.entries c.get.ensures.value)))
+    (at_no_key (codes "project") c.args.document.now c.get.result c.in_default.is
+    c.get.ensures.value))
 
 pub returns-in_default-as_table-clause-refused : goal.returns-in_default-as_table-clause-refused
 returns-in_default-as_table-clause-refused c =
     let none : as_table (view c.in-Some.found.now) ≡ None = search rules in
     inr (project_no_table c.args.extra.now (table_view c.args.document.now) _
-    (at_key (codes "project") (table_view c.args.document.now) c.get.result c.in-Some.found
-    c.in-Some.is
-    (table_get c.get.result (codes "project") c.args.document.now.entries c.get.ensures.value))
-    none)
+    (at_key (codes "project") c.args.document.now c.get.result c.in-Some.found c.in-Some.is
+    c.get.ensures.value) none)
 
 pub returns-in_err-check_dynamic-clause-refused : goal.returns-in_err-check_dynamic-clause-refused
 returns-in_err-check_dynamic-clause-refused c =

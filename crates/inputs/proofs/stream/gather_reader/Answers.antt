@@ -1,15 +1,33 @@
+use Rattle.std.proofs.Common.{subst}
+use Rattle.inputs.specs.LineReading.{RefusesSource, TakesSource}
+use Rattle.inputs.specs.TakenTexts.{GathersText, RefusesTextIn}
+use Rattle.inputs.specs.Wanted.{wanted_name}
 use Rattle.inputs.proofs.GatheredSource.{reading_refused, reads_table}
 use Rattle.inputs.proofs.stream.gather_reader.Goals as goal
 
 pub returns-in-Ok-clause-table : goal.returns-in-Ok-clause-table
 returns-in-Ok-clause-table g c =
     reads_table c.args.environment.now (g.S.Source.left c.args.source.now)
-    (g.S.Source.left c.take_source.new.source) c.new.result c.in-Ok.gathering c.new.ensures
-    c.in-Ok.ensures.ok
+    (g.S.Source.left c.take_source.new.source) c.new-nothing.result c.in-Ok.gathering c.new-nothing.ensures
+    (subst (λ w. TakesSource (GathersText c.args.environment.now w)
+    (g.S.Source.left c.args.source.now) (g.S.Source.left c.take_source.new.source)
+    c.new-nothing.result c.in-Ok.gathering) c.in_ok-taker.ensures.wanted
+    (subst (λ e. TakesSource (GathersText e (wanted_name c.in_ok-taker.taker.wanted))
+    (g.S.Source.left c.args.source.now) (g.S.Source.left c.take_source.new.source)
+    c.new-nothing.result c.in-Ok.gathering) c.in_ok-taker.ensures.environment c.in-Ok.ensures.ok))
 
-pub returns-in-Err-clause-refused : goal.returns-in-Err-clause-refused
-returns-in-Err-clause-refused g c =
+pub returns-clause-refused : goal.returns-clause-refused
+returns-clause-refused g c =
     reading_refused c.args.environment.now (g.S.Source.left c.args.source.now)
     (g.S.Source.left c.take_source.new.source) (g.S.Source.device c.take_source.new.source)
-    c.new.result c.in-Err.cause c.fault_in.result c.new.ensures c.in-Err.ensures.refused
+    c.new-nothing.result c.in-Err.cause c.fault_in.result c.new-nothing.ensures
+    (subst (λ w. RefusesSource (GathersText c.args.environment.now w)
+    (RefusesTextIn c.args.environment.now) (g.S.Source.left c.args.source.now)
+    (g.S.Source.left c.take_source.new.source) (g.S.Source.device c.take_source.new.source).failed
+    c.new-nothing.result c.in-Err.cause) c.in_ok-taker.ensures.wanted
+    (subst (λ e. RefusesSource (GathersText e (wanted_name c.in_ok-taker.taker.wanted))
+    (RefusesTextIn e) (g.S.Source.left c.args.source.now)
+    (g.S.Source.left c.take_source.new.source) (g.S.Source.device c.take_source.new.source).failed
+    c.new-nothing.result c.in-Err.cause) c.in_ok-taker.ensures.environment
+    c.in-Err.ensures.refused))
     c.fault_in.ensures.cause c.fault_in.ensures.memory c.fault_in.ensures.place

@@ -1,5 +1,7 @@
-use Rattle.std.proofs.Common.{[], ◌++◌, ◌+◌, ◌≤◌, ◌≡◌, ◌∙◌, arith, drop, length, rules, subst, sym}
-use Rattle.std.proofs.Common.{◌-◌, take}
+use Rattle.std.proofs.Common.{[], ◌++◌, ◌+◌, ◌≡◌, ◌∙◌, arith, rules, subst, sym}
+use Rattle.std.proofs.Common.{◌-◌, ◌⊎◌, take}
+use Rattle.faults.specs.declared.fault.Cause.TheVariants.{TooLarge}
+use Rattle.inputs.specs.LineReading.{HasTaken, RefusesEnded, RefusesPiece, TakesLine}
 use Rattle.std.specs.Io.KnownBytes.{Consumes, IsAtEnd}
 use Rattle.std.proofs.lemmas.Result.{IfErr-weaker, IfOk-weaker, err_from_is_err_and}
 use Rattle.inputs.proofs.StreamLemmas.{all_but_last, all_read, ended_lines, last_refused, over_refused}
@@ -23,8 +25,9 @@ returns-in-Ok-eq0-clause-ok g c =
     (λ new t. all_read (g.T.Taker.takes c.args.taker.now) (g.S.Source.left c.args.source.now)
     (g.S.Source.left c.pieces.source) (g.S.Source.left c.pull.new.self) c.pieces.count
     c.args.taken c.pieces.so_far.number c.pieces.so_far.held.items c.pieces.so_far.taken
-    c.pieces.invariant.read new c.pieces.invariant.room (reads_none g none) (at_end g none) t)
-    c.take_last.ensures.ok
+    c.pieces.invariant.read new c.pieces.invariant.room (reads_none g none) (at_end g none)
+    (subst (λ j. TakesLine (g.T.Taker.takes j) c.pieces.so_far.held.items c.pieces.so_far.taken new)
+    c.pieces.invariant.same t)) c.take_last.ensures.ok
 
 pub returns-in-Ok-eq0-clause-refused : goal.returns-in-Ok-eq0-clause-refused
 returns-in-Ok-eq0-clause-refused g c =
@@ -35,8 +38,9 @@ returns-in-Ok-eq0-clause-refused g c =
     (g.S.Source.left c.pull.new.self) c.pieces.count c.args.taken c.pieces.so_far.number
     c.pieces.so_far.held.items c.pieces.so_far.taken c.pieces.invariant.read
     (g.T.Taker.refuses c.args.taker.now) _ cause c.in-Ok-eq0.ensures.counts.1
-    c.pieces.invariant.room (reads_none g none) (at_end g none) h)
-    c.take_last.ensures.refused
+    c.pieces.invariant.room (reads_none g none) (at_end g none)
+    (subst (λ j. RefusesEnded (g.T.Taker.refuses j) (c.pieces.so_far.number + 1)
+    c.pieces.so_far.held.items cause) c.pieces.invariant.same h)) c.take_last.ensures.refused
 
 pub returns-in-Err-clause-refused : goal.returns-in-Err-clause-refused
 returns-in-Err-clause-refused g c =
@@ -57,7 +61,9 @@ returns-then-count-gt-INPUT_LIMIT-clause-refused g c =
     c.in-Ok.ensures.counts.1 c.in-Ok.ensures.bytes.0
     (omega (arith, c.if-count-gt-INPUT_LIMIT.true, c.in-Ok.ensures.bound.1)) (search rules)
     (all_but_last c.in-Ok.given c.pull.new.buf (search rules) c.in-Ok.ensures.bound.0)
-    c.refused_over.ensures.refused
+    (subst (λ j. (c.refused_over.result ≡ TooLarge) ⊎ RefusesPiece (g.T.Taker.refuses j)
+    c.pieces.so_far.number (c.pieces.so_far.held.items ++ take (c.in-Ok.given - 1) c.pull.new.buf)
+    c.refused_over.result) c.pieces.invariant.same c.refused_over.ensures.refused)
 
 pub returns-in_err-so_far-clause-refused : goal.returns-in_err-so_far-clause-refused
 returns-in_err-so_far-clause-refused g c =
@@ -73,7 +79,9 @@ returns-in_err-so_far-clause-refused g c =
       c.if-count-gt-INPUT_LIMIT.false,
       c.in-Ok.ensures.bound.1,
     ))
-    c.in_err-so_far.ensures.refused)
+    (subst (λ j. RefusesPiece (g.T.Taker.refuses j) c.pieces.so_far.number
+    (c.pieces.so_far.held.items ++ take c.in-Ok.given c.pull.new.buf) c.in_err-so_far.field-0.0)
+    c.pieces.invariant.same c.in_err-so_far.ensures.refused))
 
 pub returns-in-Ok-eq0-clause-bytes : goal.returns-in-Ok-eq0-clause-bytes
 returns-in-Ok-eq0-clause-bytes g c =
@@ -109,8 +117,12 @@ pieces-preserved g c =
     (take c.in-Ok.given c.pull.new.buf) new.held.items c.in-Ok.given new.number new.taken
     c.in-Ok.ensures.bytes.0
     (sym c.in-Ok.ensures.bound.1)
-    c.in_ok-so_far.ensures.ok in
+    (subst (λ j. HasTaken (g.T.Taker.takes j)
+    (c.pieces.so_far.held.items ++ take c.in-Ok.given c.pull.new.buf) c.pieces.so_far.number
+    c.pieces.so_far.taken new.number new.held.items new.taken) c.pieces.invariant.same
+    c.in_ok-so_far.ensures.ok) in
     record {
+      same = c.in_ok-so_far.ensures.same ∙ c.pieces.invariant.same;
       read = read;
       ended = ended_lines takes (g.S.Source.left c.args.source.now) next next
           (c.pieces.count + c.in-Ok.given) c.args.taken new.number new.held.items new.taken read;

@@ -6,7 +6,8 @@ use Rattle.inputs.proofs.stream.take_source.Given as goal
 -- the lines read so far are taken; each call gave a byte, and none has failed
 abbrev pub invariant-pieces : goal.invariant-pieces
 invariant-pieces g l = record {
-  read : ReadSoFar (g.T.Taker.takes l.taker) (g.S.Source.left l.fn.source)
+  same : l.taker ≡ l.fn.taker;
+  read : ReadSoFar (g.T.Taker.takes l.fn.taker) (g.S.Source.left l.fn.source)
       (g.S.Source.left l.source) l.count l.fn.taken l.so_far.number l.so_far.held.items
       l.so_far.taken;
   ended : l.so_far.number ≤ l.count;

@@ -1,7 +1,7 @@
 use Rattle.std.proofs.Common.{◌≡◌, true, false, refl, rules}
 use Rattle.std.specs.Ordering.{is_lt}
 use Rattle.pep_clause.specs.Cut.{cut_cmp}
-use Rattle.pep_clause.proofs.Sweeping.{cut_first, left_turn, right_turn, swept_first, swept_left}
+use Rattle.pep_clause.proofs.Sweeping.{cut_first, left_turn, right_turn, swept_first}
 use Rattle.pep_clause.proofs.Sweeping.{swept_right}
 use Rattle.pep_clause.proofs.sweep.swept_ranges.Goals as goal
 
@@ -15,8 +15,8 @@ returns-in_default-right-clause-ok c =
     swept_right c.args.ranges.now c.args.others.now c.sweep.done.items c.sweep.left.now
     c.sweep.right.now c.sweep.invariant.0 c.in_default-right.len_below
 
-pub sweep-preserved-then-lt : goal.sweep-preserved-then-lt
-sweep-preserved-then-lt c =
+pub sweep-preserved-then-branch : goal.sweep-preserved-then-branch
+sweep-preserved-then-branch c =
     let r = c.range-item.result in
     let s = c.other-item.result in
     let lt : is_lt (cut_cmp r.high s.high) ≡ true = search rules in

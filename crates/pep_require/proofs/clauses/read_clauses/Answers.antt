@@ -23,7 +23,7 @@ returns-in_err-clause-clause-refused c =
 pub returns-in_default-clause-read : goal.returns-in_default-clause-read
 returns-in_default-clause-read c =
     subst (λ done. BoundsFrom c.args.closed c.args.text.now done c.in_ok-clause.rest.now)
-    (sym c.in_ok-push.ensures.items)
+    (sym c.in_ok-keep_clause.ensures.items)
     (ends_here c.args.closed c.args.text.now c.loop-clause.left.now c.in_ok-clause.rest.now
     c.loop-clause.clauses.items c.in_ok-clause.clause c.loop-clause.invariant.1
     c.in_ok-clause.ensures.read c.in_default.ensures)
@@ -31,7 +31,7 @@ returns-in_default-clause-read c =
 pub returns-then-is_end-clause-read : goal.returns-then-is_end-clause-read
 returns-then-is_end-clause-read c =
     subst (λ done. BoundsFrom c.args.closed c.args.text.now done c.stripped-left.result.now)
-    (sym c.in_ok-push.ensures.items)
+    (sym c.in_ok-keep_clause.ensures.items)
     (ends_at_comma c.args.closed c.args.text.now c.loop-clause.left.now c.in_ok-clause.rest.now
     c.in-Some.others.now c.stripped-left.result.now c.loop-clause.clauses.items
     c.in_ok-clause.clause c.loop-clause.invariant.1 c.in_ok-clause.ensures.read c.in-Some.ensures
@@ -47,7 +47,7 @@ pub loop-clause-preserved : goal.loop-clause-preserved
 loop-clause-preserved c = (
   c.stripped-left.utf8,
   subst (λ done. SoFar c.args.closed c.args.text.now done c.stripped-left.result.now)
-      (sym c.in_ok-push.ensures.items)
+      (sym c.in_ok-keep_clause.ensures.items)
       (one_more c.args.closed c.args.text.now c.loop-clause.left.now c.in_ok-clause.rest.now
       c.in-Some.others.now c.stripped-left.result.now c.loop-clause.clauses.items
       c.in_ok-clause.clause c.loop-clause.invariant.1 c.in_ok-clause.ensures.read

@@ -1,7 +1,8 @@
 use Rattle.std.proofs.Common.{◌≡◌, [], length, rules, subst, sym}
 use Rattle.pep_table.proofs.Exits.{further, handed_on}
-use Rattle.pep_table.proofs.ReadTables.{EntriesSoFar, all_read, entry_more, no_next}
-use Rattle.pep_table.specs.EntryReading.{HasNext, HasNoNext}
+use Rattle.pep_table.proofs.ReadTables.{EntriesSoFar, all_read, entry_more, next_alike, no_next}
+use Rattle.pep_table.proofs.ReadTables.{none_alike}
+use Rattle.pep_table.specs.EntryReading.{FollowsAlike, last_name}
 use Rattle.demands.specs.Table.{names}
 use Rattle.pep_table.proofs.read.read_entries.Goals as goal
 
@@ -13,7 +14,9 @@ returns-in_err-name-clause-refused c =
     handed_on _ c.from_residual.result _ c.from_residual.ensures.1
     (further
     (λ n. no_next c.args.text.now entries rest c.loop-rest.invariant.1 some
-    (subst (λ l. HasNoNext (names l) rest) c.as_slice.ensures.value n))
+    (none_alike (names entries) (last_name c.name_of_last-last.result) rest
+    (subst (λ l. FollowsAlike (names l) (last_name c.name_of_last-last.result))
+    c.as_slice.ensures.value c.name_of_last-last.ensures) n))
     c.in_err-name.ensures.refused)
 
 pub loop-rest-preserved : goal.loop-rest-preserved
@@ -25,8 +28,10 @@ loop-rest-preserved c =
     let entry = c.in_ok-name.entry in
     let behind = c.in_ok-name.behind.now in
     let some : ¬ (rest ≡ []) = search rules in
-    let found = subst (λ l. HasNext (names l) rest name entry behind) c.as_slice.ensures.value
-    c.in_ok-name.ensures.ok in (
+    let alike = subst (λ l. FollowsAlike (names l) (last_name c.name_of_last-last.result))
+    c.as_slice.ensures.value c.name_of_last-last.ensures in
+    let found = next_alike (names entries) (last_name c.name_of_last-last.result) rest alike name entry
+    behind c.in_ok-name.ensures.ok in (
       search rules,
       subst (λ l. EntriesSoFar text l behind) (sym c.in_ok-push.ensures.items)
           (entry_more text entries rest c.loop-rest.invariant.1 name entry behind some found),

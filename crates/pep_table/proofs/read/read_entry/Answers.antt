@@ -1,13 +1,13 @@
-use Rattle.std.proofs.Common.{◌≡◌, ◌++◌, ◌∷◌, [], inr, rules}
+use Rattle.std.proofs.Common.{◌++◌, ◌∷◌, [], inr, rules}
 use Rattle.pep_require.specs.Requirement.{IsAscending}
-use Rattle.demands.specs.Table.{names}
+use Rattle.pep_table.specs.EntryReading.{last_name}
 use Rattle.pep_table.proofs.Exits.{further}
 use Rattle.pep_table.proofs.ReadTables.{entry_read, not_behind, not_read}
 use Rattle.pep_table.proofs.read.read_entry.Goals as goal
 
 pub returns-then-not-is_behind-clause-refused : goal.returns-then-not-is_behind-clause-refused
 returns-then-not-is_behind-clause-refused c =
-    let before = names c.args.entries.now in
+    let before = last_name c.args.last in
     let name = c.in_ok-name.name in
     let falls : ¬ IsAscending (before ++ name ∷ []) = search rules in
     inr (not_behind before c.args.text.now name c.in_ok-name.verdict c.in_ok-name.parts.now
@@ -15,7 +15,7 @@ returns-then-not-is_behind-clause-refused c =
 
 pub returns-in-Ok-clause-ok : goal.returns-in-Ok-clause-ok
 returns-in-Ok-clause-ok c =
-    let before = names c.args.entries.now in
+    let before = last_name c.args.last in
     let rises : IsAscending (before ++ c.in_ok-name.name ∷ []) = search rules in
     entry_read before c.args.text.now c.in_ok-name.name c.in_ok-name.verdict
     c.in_ok-name.parts.now c.in_ok-name.ensures.ok c.in-Ok.entry c.in-Ok.behind.now
@@ -23,6 +23,6 @@ returns-in-Ok-clause-ok c =
 
 pub returns-clause-refused : goal.returns-clause-refused
 returns-clause-refused c =
-    further (not_read (names c.args.entries.now) c.args.text.now c.in_ok-name.name
+    further (not_read (last_name c.args.last) c.args.text.now c.in_ok-name.name
     c.in_ok-name.verdict c.in_ok-name.parts.now c.in_ok-name.ensures.ok)
     c.in-Err.ensures.refused

@@ -44,4 +44,5 @@ returns c =
     let files : Some (map string_bytes c.in_ok-owned.field-0.items)
     ≡ all_of (codes "FILE") (rows_of found) =
     rw c.in_ok-owned.ensures (met.ensures''' ∙ raw_values-rows found (codes "FILE")) in
-    rw (← env, ← name, ← version, ← files, pre) refl
+    let group = c.in_ok-text_given.ensures in
+    rw (← env, ← group, ← name, ← version, ← files, pre) refl

@@ -26,4 +26,5 @@ returns c =
     ≡ all_of (codes "FILE") (rows_of found) =
     rw c.in_ok-owned.ensures
     (c.in-Some-Some.ensures' ∙ raw_values-rows found (codes "FILE")) in
-    rw (← env, ← files) refl
+    let group = c.in_ok-text_given.ensures in
+    rw (← env, ← group, ← files) refl

@@ -1,4 +1,4 @@
-use Rattle.std.proofs.Common.{◌≡◌, ◌∙◌, ◌≤◌, ap, arith, inr, length, map, subst, sym}
+use Rattle.std.proofs.Common.{◌∙◌, ◌≤◌, arith, inr, length}
 use Rattle.std.specs.Prelude.{string_bytes}
 use Rattle.demands.proofs.EntryTexts.{fits_more, more_texts}
 use Rattle.demands.proofs.entry.Entry.text_verdict.Goals as goal

@@ -1,33 +1,12 @@
 use Rattle.std.proofs.lemmas.Result.{err_from_is_err_and}
-use Rattle.pep_require.proofs.LineLaws.{ending_fault, extras_fault, line_read, target_fault}
+use Rattle.pep_require.proofs.LineLaws.{left_fault}
 use Rattle.pep_require.proofs.requirement.Requirement.read.Goals as goal
-
-pub returns-in_err-extras-clause-refused : goal.returns-in_err-extras-clause-refused
-returns-in_err-extras-clause-refused c =
-    let p = err_from_is_err_and c.from_residual-in_err-extras.result
-    c.from_residual-in_err-extras.ensures.1 in
-    rw (p.1, p.2) (extras_fault _ _ _ (c.in_ok-start.ensures.begun, c.in_ok-start.ensures.rest)
-    c.in_err-extras.ensures.refused)
-
-pub returns-in_err-target-clause-refused : goal.returns-in_err-target-clause-refused
-returns-in_err-target-clause-refused c =
-    let p = err_from_is_err_and c.from_residual-in_err-target.result
-    c.from_residual-in_err-target.ensures.1 in
-    rw (p.1, p.2) (target_fault _ _ _ _ _ _
-    (c.in_ok-start.ensures.begun, c.in_ok-start.ensures.rest) c.in_ok-extras.ensures.read
-    c.stripped.ensures c.in_err-target.ensures.refused)
 
 pub returns-in_err-marker-clause-refused : goal.returns-in_err-marker-clause-refused
 returns-in_err-marker-clause-refused c =
     let p = err_from_is_err_and c.from_residual-in_err-marker.result
     c.from_residual-in_err-marker.ensures.1 in
-    rw (p.1, p.2) (ending_fault _ _ _ _ _ _ _ _ _
-    (c.in_ok-start.ensures.begun, c.in_ok-start.ensures.rest) c.in_ok-extras.ensures.read
-    c.stripped.ensures c.in_ok-target.ensures.read c.stripped-2.ensures
-    c.in_err-marker.ensures.refused)
+    rw (p.1, p.2) (left_fault _ _ _ _ c.in_ok-front.ensures.ok c.in_err-marker.ensures.refused)
 
 pub returns-clause-ok : goal.returns-clause-ok
-returns-clause-ok c =
-    line_read _ _ _ _ _ _ _ (c.in_ok-start.ensures.begun, c.in_ok-start.ensures.rest)
-    c.in_ok-start.ensures.name c.in_ok-extras.ensures.read c.stripped.ensures
-    c.in_ok-target.ensures.read c.stripped-2.ensures c.in_ok-marker.ensures.read
+returns-clause-ok c = c.in_ok-front.ensures.ok.read _ c.in_ok-marker.ensures.read

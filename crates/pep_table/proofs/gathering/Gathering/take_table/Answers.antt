@@ -1,24 +1,49 @@
-use Rattle.std.proofs.Common.{◌+◌, ◌≡◌, ◌++◌, [], ◌∷◌, rules, subst, sym, suc, take, drop, ◌∙◌}
+use Rattle.std.proofs.Common.{◌≡◌, ◌++◌, [], ◌∷◌, ◌∙◌, ap, append-nil, append_assoc, arith, length, refl}
+use Rattle.std.proofs.Common.{List, ℕ, rules, subst, sym}
+use Rattle.std.proofs.lemmas.List.{nil_from_length}
+use Rattle.std.specs.Vec.Iter.{into_iter_items}
 use Rattle.pep_require.specs.Requirement.{IsAscending}
 use Rattle.demands.specs.Join.{JoinsTables}
-use Rattle.demands.specs.Table.{TableParts, names}
-use Rattle.pep_table.proofs.EntryPlaces.{joins_next, joins_none, whole}
-use Rattle.demands.proofs.KeptSets.{next_taken}
+use Rattle.demands.specs.Table.{EntryParts, TableParts, names}
+use Rattle.pep_table.proofs.EntryPlaces.{joins_next, joins_none}
 use Rattle.pep_table.proofs.gathering.Gathering.take_table.Goals as goal
 
 pub loop-name-init : goal.loop-name-init
-loop-name-init c = subst (λ (t : TableParts). JoinsTables t [] t) c.self.view_is
-    (joins_none c.self.inside.entries.entries c.self.invariant)
+loop-name-init c = (
+  refl,
+  subst (λ (t : TableParts). JoinsTables t [] t) c.self.view_is
+      (joins_none c.self.inside.entries.entries c.self.invariant),
+  search rules,
+)
 
 pub loop-name-preserved : goal.loop-name-preserved
 loop-name-preserved c =
-    let t : TableParts = c.entries-entries.result.now in
-    let i = c.loop-name.name-index in
-    let p = c.loop-name-item.result in
-    let split : t ≡ take i t ++ p ∷ drop (suc i) t = whole t i p c.loop-name-item.is
-    (search rules) in
-    joins_next c.args.self c.loop-name.all c.in_ok-all.all (take i t) (take (i + 1) t)
-    (drop (suc i) t) p c.loop-name.invariant c.in_ok-all.ensures.joined
-    (next_taken t i p c.loop-name-item.is (search rules))
-    (subst (λ (s : TableParts). IsAscending (names s))
-    (sym c.entries-entries.ensures.entries ∙ split) c.entries-entries.ensures.valid.names.0)
+    let at = c.loop-name in
+    let left : TableParts = into_iter_items at.name-iterator in
+    let more : TableParts = into_iter_items c.next.new.self in
+    let done : TableParts = at.yielded in
+    let p : List ℕ × EntryParts = (c.in-Some.name, c.in-Some.entry) in
+    let steps : left ≡ p ∷ more = c.in-Some.ensures.steps.0 in
+    let whole : done ++ p ∷ more ≡ c.args.table =
+    ap (λ (l : TableParts). done ++ l) (sym steps) ∙ at.invariant.0 ∙ search rules in (
+      append_assoc done (p ∷ []) more ∙ ap (λ (l : TableParts). done ++ l) (sym steps) ∙ at.invariant.0,
+      joins_next c.args.self at.all c.in_ok-all.all done (done ++ p ∷ []) more p at.invariant.1
+          c.in_ok-all.ensures.joined refl
+          (subst (λ (s : TableParts). IsAscending (names s)) (sym whole)
+          c.entries.ensures.valid.names.0),
+      let was = at.invariant.2 in
+          let gone = c.in-Some.ensures.steps.1 in
+          let short = ap length steps in
+          omega arith,
+    )
+
+pub returns-clause-joined : goal.returns-clause-joined
+returns-clause-joined c =
+    let at = c.loop-name in
+    let done : TableParts = at.yielded in
+    let none : into_iter_items at.name-iterator ≡ [] =
+    nil_from_length _ (sym at.invariant.2 ∙ c.in-None.ensures.steps.0) in
+    let all : done ≡ c.args.table =
+    sym (append-nil done) ∙ ap (λ (l : TableParts). done ++ l) (sym none) ∙ at.invariant.0
+    ∙ search rules in
+    subst (λ (t : TableParts). JoinsTables c.args.self t at.all) all at.invariant.1

@@ -1,5 +1,5 @@
 use Rattle.std.proofs.Common.{◌≡◌, ◌++◌, ◌∷◌, ◌∙◌, None, Some, ap, codes, inr, lit<, map, rules}
-use Rattle.std.proofs.Common.{subst, sym, [], true}
+use Rattle.std.proofs.Common.{subst, sym, []}
 use Rattle.std.proofs.lemmas.List.{map-append}
 use Rattle.std.proofs.lemmas.Str.Pattern.{split_parts}
 use Rattle.pep_clause.specs.VersionSet.{IsNormal, Range}
@@ -74,7 +74,7 @@ loop-line-preserved c =
     let more = item_more (codes "range") AreRanges ranges_fit c.args.text.now (map range_text rs)
     c.loop-line.rest.now c.loop-line.invariant.1 item behind cut.0 cut.1
     (rs ++ r ∷ [], sym kept, told) in
-    let all = c.in_ok-push.ensures.items in (
+    let all = c.in_ok-append_range.ensures.ok in (
       search rules,
       subst (λ l. LinesSoFar (codes "range") AreRanges c.args.text.now (map range_text l) behind)
           (sym all)

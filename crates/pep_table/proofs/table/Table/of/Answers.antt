@@ -5,6 +5,8 @@ use Rattle.std.proofs.Math.Seq.{take_all}
 use Rattle.demands.specs.Demand.{ApplyingDemands}
 use Rattle.demands.specs.Table.{HasExactPoints, IsTable}
 use Rattle.demands.specs.Gathering.{TakesApplying}
+use Rattle.pep_table.specs.EntryRanges.{HasFewEntryRanges}
+use Rattle.pep_table.proofs.EntryRanges.{few_entry_ranges}
 use Rattle.pep_table.proofs.FirstFault.{all_defined, first_undefined, next_mapped, table_made}
 use Rattle.demands.proofs.TakenClauses.{always}
 use Rattle.pep_table.proofs.Taking.{all_taken, table_of_applying}
@@ -14,6 +16,7 @@ pub returns-in-Err : goal.returns-in-Err
 returns-in-Err c = record {
   table = tt;
   points = tt;
+  few = tt;
   defined = tt;
   refused = first_undefined requirement_parts c.args.environment.now [] c.loop-i.gathering
       c.args.requirements.now c.loop-i.i c.index-requirements-i.result c.in-Err.fault
@@ -60,6 +63,12 @@ returns-clause-points c =
     table_made (HasExactPoints (ApplyingDemands c.args.environment.now (map requirement_parts
     c.args.requirements.now))) c.finish.result c.loop-i.gathering (gathered c).1
     c.finish.ensures.same
+
+pub returns-clause-few : goal.returns-clause-few
+returns-clause-few c =
+    let rs = map requirement_parts c.args.requirements.now in
+    table_made (HasFewEntryRanges c.args.environment.now rs) c.finish.result c.loop-i.gathering
+    (few_entry_ranges c.args.environment.now rs c.loop-i.gathering (taken c)) c.finish.ensures.same
 
 pub returns-clause-defined : goal.returns-clause-defined
 returns-clause-defined c =

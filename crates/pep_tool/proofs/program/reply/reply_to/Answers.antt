@@ -9,7 +9,7 @@ returns-in_ok-answer-in-Check-clause-reply g c =
       c.as_str-env.ensures.value,
       c.as_str-name.ensures.value,
       c.as_str-version.ensures.value,
-      c.as_slice-in-Check.ensures.value,
+      c.as_slice-files.ensures.value,
     ) at c.in_ok-answer-in-Check.ensures.checked in
     rw c.in-Check.is (check_replies (λ reply. string_bytes reply.text) (λ reply. reply.status)
     c.answer_reply.result _ _ _ _ _ c.in_ok-answer-in-Check.answer checked

@@ -1,0 +1,46 @@
+use Rattle.std.proofs.Common.{◌≡◌, ◌∷◌, [], length, rules, subst, sym}
+use Rattle.std.specs.Option.{option_to_list}
+use Rattle.pep_table.proofs.Exits.{further, handed_on}
+use Rattle.pep_table.proofs.ReadTables.{NamedSoFar, named_more, named_read, no_named}
+use Rattle.pep_table.proofs.ReadTables.{none_named}
+use Rattle.pep_table.specs.EntryReading.{HasNext, HasNoNext}
+use Rattle.pep_table.proofs.read.read_wanted.Goals as goal
+
+pub returns-in_err-name-clause-refused : goal.returns-in_err-name-clause-refused
+returns-in_err-name-clause-refused c =
+    let last = option_to_list c.loop-rest.last in
+    let rest = c.loop-rest.rest.now in
+    let some : ¬ (rest ≡ []) = search rules in
+    handed_on _ c.from_residual.result _ c.from_residual.ensures.1
+    (further
+    (λ n. no_named c.args.text.now c.args.wanted.now last c.loop-rest.found rest
+    c.loop-rest.invariant.1 some
+    (subst (λ o. HasNoNext (option_to_list o) rest) c.as_ref.ensures.value n))
+    c.in_err-name.ensures.refused)
+
+pub loop-rest-init : goal.loop-rest-init
+loop-rest-init c = (search rules, none_named c.args.text.now c.args.wanted.now)
+
+pub loop-rest-preserved : goal.loop-rest-preserved
+loop-rest-preserved c =
+    let text = c.args.text.now in
+    let wanted = c.args.wanted.now in
+    let last = option_to_list c.loop-rest.last in
+    let rest = c.loop-rest.rest.now in
+    let name = c.in_ok-name.name in
+    let entry = c.in_ok-name.entry in
+    let behind = c.in_ok-name.behind.now in
+    let some : ¬ (rest ≡ []) = search rules in
+    let next = subst (λ o. HasNext (option_to_list o) rest name entry behind)
+    c.as_ref.ensures.value c.in_ok-name.ensures.ok in (
+      search rules,
+      subst (λ o. NamedSoFar text wanted (name ∷ []) o behind) (sym c.found_with-found.ensures)
+          (named_more text wanted last c.loop-rest.found rest c.loop-rest.invariant.1 name entry
+          behind some next),
+    )
+
+pub returns-clause-ok : goal.returns-clause-ok
+returns-clause-ok c =
+    let empty : length c.loop-rest.rest.now ≡ 0 = search rules in
+    named_read c.args.text.now c.args.wanted.now (option_to_list c.loop-rest.last)
+    c.loop-rest.found c.loop-rest.rest.now c.loop-rest.invariant.1 empty
