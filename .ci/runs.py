@@ -7,6 +7,8 @@ import subprocess
 import sys
 from typing import NamedTuple
 
+from environment import HEADER, STANDARD, header
+
 
 def preloaded(folder, name, text):
     """Returns a library made of a text in C, which the loader can put before the C library."""
@@ -31,21 +33,12 @@ class Run(NamedTuple):
         return " ".join(self.words) or self.given[:60]
 
 
-# The files that the runs name, in the folder in which they run.
+EXTRA = f'{STANDARD}extra = "Dev_Tools"\n'.encode()
+EXTRA_HEADER = header(EXTRA)
+
+# The files that the runs name, in the folder in which they run: the lines of one table alone, and another with its header.
 FILES = {
-    "env.toml": b"""os_name = "posix"
-sys_platform = "linux"
-platform_machine = "x86_64"
-platform_python_implementation = "CPython"
-platform_release = "6.1.0-18-amd64"
-platform_system = "Linux"
-platform_version = "#1 SMP"
-python_version = "3.9"
-python_full_version = "3.9.18"
-implementation_name = "cpython"
-implementation_version = "3.9.18"
-extra = "dev-tools"
-""",
+    "env.toml": EXTRA,
     "demo.toml": b"""[project]
 name = "demo"
 dependencies = ["Flask>=2.0", "tomli ; python_version < '3.11'"]
@@ -62,7 +55,7 @@ more = [{include-group = "LINT"}]
     "urls.txt": b"a @ https://x.test/1\na @ https://x.test/2\na @ https://x.test/1\n",
     "excluded.txt": b"flask!=2.1\n",
     "first.table": b"flask open\n  range before 2 to before 3.dev0\n",
-    "kept.table": b"a none\n  text 1.0\n  range past 1 to end\n"
+    "kept.table": EXTRA_HEADER + b"a none\n  text 1.0\n  range past 1 to end\n"
     b"b conflict\n  extra x\n  url https://x.test/1\n  url https://x.test/2\n  range before 0.dev0 to end\n"
     b"flask open\n  extra async\n  range before 1!2a1.post3.dev4+x.5 to after 1!2+x\n",
     "parts.txt": b'Requests [security,socks] (>=2.8.1, ==2.8.*) ; python_version < "2.7"\n'
@@ -83,7 +76,7 @@ def gaps(excluded):
 
 
 def gathered():
-    """Returns the table of what is gathered so."""
+    """Returns the lines of the table of what is gathered so."""
     table = f"a open\n{gaps(EXCLUDED)}"
     for rest in range(7):
         numbers = [number for number in EXCLUDED if number % 7 == rest]
@@ -93,42 +86,49 @@ def gathered():
 
 
 MERGE = ["merge", "--env", "env.toml"]
-FIRST_TABLE = FILES["first.table"]
-URLS_TABLE = b"a conflict\n  url https://x.test/1\n  url https://x.test/2\n  range before 0.dev0 to end\n"
+FIRST_LINES = FILES["first.table"]
+URLS_LINES = b"a conflict\n  url https://x.test/1\n  url https://x.test/2\n  range before 0.dev0 to end\n"
+
+
+def of_list(lines, given):
+    """Returns the run without words that prints a table with these lines."""
+    return Run([], HEADER + lines, given)
+
+
+def of_files(words, lines):
+    """Returns the merge, in the environment of `env.toml`, that prints a table with these lines."""
+    return Run([*MERGE, *words], EXTRA_HEADER + lines)
+
 
 RUNS = [
-    Run([], FIRST_TABLE, b"flask>=2.0\nFlask<3\n"),
-    Run([], b"a open\n  range before 1.5 to before 2.dev0\nb open\n  range before 1.0.1 to end\n", b"a<2\nb>=1.0.1\na>=1\nA>=1.5\n"),
+    of_list(FIRST_LINES, b"flask>=2.0\nFlask<3\n"),
+    of_list(b"a open\n  range before 1.5 to before 2.dev0\nb open\n  range before 1.0.1 to end\n", b"a<2\nb>=1.0.1\na>=1\nA>=1.5\n"),
     # versions whose keys don't lie in the value
-    Run(
-        [],
+    of_list(
         b"c open\n  range before 1.2.3.4.5.6.7+x to after 1.2.3.4.5.6.7+x\n"
         b"d open\n  range past 1.2.3.4.5.6.7 to before 1.2.3.4.5.6.8a9.post0.dev7\n",
         b"c==1.2.3.4.5.6.7+x\nd>1.2.3.4.5.6.7\nD<1.2.3.4.5.6.8a9.post0.dev7\n",
     ),
-    Run(
-        [],
+    of_list(
         b"a open\n  range before 1.4.5 to before 1.4.7\n  range before 1.4.7.post0.dev0 to before 1.5.dev0\n"
         b"b open\n  range before 1.dev0 to before 1\n  range before 1.post0.dev0 to before 2.dev0\n"
         b"c open\n  range before 0.dev0 to before 1+x\n  range after 1+x to before 2.post2.dev0\n"
         b"d open\n  range before 1.18446744073709551615.2 to before 2.dev0\n",
         b"c<=2.0.post1,!=1.0+x\na~=1.4.5\nb!=1.0\nA != 1.4.7\nB==1.*\nd~=1.18446744073709551615.2\n",
     ),
-    Run(
-        [],
+    of_list(
         b"a open\n  range past 0.5 to before 1.dev0\n  range before 2.dev0 to before 2\n"
         b"  range before 2.post0.dev0 to before 3\n  range before 3.post0.dev0 to before 4.post0.dev0\nb none\n",
         b"a!=1.*,!=3.0\na!=2.0\nb>1.0a5\nA<=4.0,>0.5\nB<1.0a6.dev0\n",
     ),
-    Run([], gathered(), "".join(GATHERED).encode()),
-    Run([], URLS_TABLE, FILES["urls.txt"]),
-    Run(
-        [],
+    of_list(gathered(), "".join(GATHERED).encode()),
+    of_list(URLS_LINES, FILES["urls.txt"]),
+    of_list(
         b"b open\n  extra x\n  extra y\n  text 1.0\n  range before 0.dev0 to end\n"
         b"flask open\n  extra async\n  range before 2 to before 3.dev0\n",
         b'flask>=2.0\nFlask[async]<3; python_version < "4"\nb[y,x]===1.0\nb; os_name == "nt" or extra in "a b"\n',
     ),
-    Run([], b"a open\n  range before 0.dev0 to end\n", b"a;" + b"(" * 64 + b'os_name=="posix"' + b")" * 64 + b"\n"),
+    of_list(b"a open\n  range before 0.dev0 to end\n", b"a;" + b"(" * 64 + b'os_name=="posix"' + b")" * 64 + b"\n"),
     Run(["version", "1!2.03A_4-5.dev6+X-07"], b"1!2.3a4.post5.dev6+x.7\n"),
     Run(
         ["lines", "/dev/stdin"],
@@ -141,31 +141,31 @@ RUNS = [
         b'a ; os_name == "x" or os_name == "y" and extra == "z"\na>=1\n',
     ),
     Run(["lines", "demo.toml"], b'flask>=2.0\ntomli ; python_version < "3.11"\n'),
-    Run(
-        [*MERGE, "demo.toml"],
+    of_files(
+        ["demo.toml"],
         b"flask open\n  range before 2 to end\npytest open\n  range before 7.1 to before 8.dev0\n"
         b"tomli open\n  range before 0.dev0 to end\n",
     ),
-    Run(
-        [*MERGE, "demo.toml", "list.txt"],
+    of_files(
+        ["demo.toml", "list.txt"],
         b"flask open\n  range before 2 to before 3.dev0\npytest open\n  range before 7.1 to before 8.dev0\n"
         b"tomli open\n  range before 0.dev0 to end\n",
     ),
-    Run(
-        [*MERGE, "--group", "docs", "groups.toml", "list.txt"],
+    of_files(
+        ["--group", "docs", "groups.toml", "list.txt"],
         b"flask open\n  range before 0.dev0 to before 3.dev0\nruff open\n  range before 0.dev0 to end\n"
         b"sphinx open\n  range before 7 to end\n",
     ),
-    Run([*MERGE, "urls.txt"], URLS_TABLE),
+    of_files(["urls.txt"], URLS_LINES),
     Run(["check", "--env", "env.toml", "a", "1.0", "urls.txt"], b"conflict\n", status=1),
     Run(["check", "--env", "env.toml", "--pre", "Flask", "2.1rc1", "list.txt", "demo.toml"], b"yes\n"),
     Run(["check", "--env", "env.toml", "Flask", "2.1rc1", "list.txt", "demo.toml"], b"no\n", status=1),
-    Run(
-        [*MERGE, "first.table", "excluded.txt"],
+    of_files(
+        ["first.table", "excluded.txt"],
         b"flask open\n  range before 2 to before 2.1\n  range before 2.1.post0.dev0 to before 3.dev0\n",
     ),
-    Run(
-        [*MERGE, "kept.table", "list.txt"],
+    of_files(
+        ["kept.table", "list.txt"],
         b"a none\n  text 1.0\n  range past 1 to end\n"
         b"b conflict\n  extra x\n  url https://x.test/1\n  url https://x.test/2\n  range before 0.dev0 to end\n"
         b"flask none\n  extra async\n",

@@ -9,9 +9,13 @@ pub enum TableFault {
     #[error("requirement {0}: an undefined marker")]
     Undefined(usize),
     /// 41: the text is no table's; the line, counted from 1, is the first that can't stand after
-    /// those before it.
+    /// those before it, and of a header that ends too early the last one.
     #[error("line {0}: not a line that a table has there")]
     BadTable(usize),
+    /// 43: the text is that of a table in another environment; the line, counted from 1, is the first
+    /// of its header that differs from that of the environment at hand.
+    #[error("line {0}: of another environment")]
+    OtherEnvironment(usize),
     /// 42: a growth was refused.
     #[error("out of memory")]
     NoMemory,
@@ -28,6 +32,7 @@ impl TableFault {
         match self {
             TableFault::Undefined(_) => 28,
             TableFault::BadTable(_) => 41,
+            TableFault::OtherEnvironment(_) => 43,
             TableFault::NoMemory => 42,
         }
     }

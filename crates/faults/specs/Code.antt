@@ -9,6 +9,7 @@ use Rattle.faults.specs.declared.fault.Cause.{Cause}
 use Rattle.faults.specs.declared.fault.Cause.TheVariants as cause
 use Rattle.faults.specs.declared.fault.LineFault.{LineFault}
 use Rattle.faults.specs.declared.fault.LineFault.TheVariants.{Requirement, NotUtf8, Undefined, BadTable}
+use Rattle.faults.specs.declared.fault.LineFault.TheVariants.{OtherEnvironment}
 
 -- the code of a fault of a line
 abbrev pub line_code : LineFault → ℕ
@@ -16,13 +17,12 @@ line_code (Requirement f) = require_code f
 line_code NotUtf8 = 51
 line_code Undefined = 28
 line_code BadTable = 41
+line_code OtherEnvironment = 43
 
 -- the code of the fault inside it, if there is one
 abbrev pub line_inner_code : LineFault → Option ℕ
 line_inner_code (Requirement f) = require_inner_code f
-line_inner_code NotUtf8 = None
-line_inner_code Undefined = None
-line_inner_code BadTable = None
+line_inner_code _ = None
 
 -- the code of a fault of an argument
 abbrev pub argument_code : ArgumentFault → ℕ

@@ -55,10 +55,14 @@ pub enum LineFault {
     /// 41: the line of a table file can't stand behind those before it.
     #[error("not a line that a table has there")]
     BadTable,
+    /// 43: the line differs from that of the environment's header, in the text of a table that was
+    /// made in another environment.
+    #[error("of another environment")]
+    OtherEnvironment,
 }
 
 impl LineFault {
-    /// The code of the fault: 31 to 40, see [`RequireFault::code`], 51, 28 or 41.
+    /// The code of the fault: 31 to 40, see [`RequireFault::code`], 51, 28, 41 or 43.
     pub fn code(self) -> u64
         ensures { result ≡ line_code self }
     {
@@ -67,6 +71,7 @@ impl LineFault {
             LineFault::NotUtf8 => 51,
             LineFault::Undefined => 28,
             LineFault::BadTable => 41,
+            LineFault::OtherEnvironment => 43,
         }
     }
 
@@ -77,7 +82,10 @@ impl LineFault {
     {
         match self {
             LineFault::Requirement(fault) => fault.inner_code(),
-            LineFault::NotUtf8 | LineFault::Undefined | LineFault::BadTable => None,
+            LineFault::NotUtf8
+            | LineFault::Undefined
+            | LineFault::BadTable
+            | LineFault::OtherEnvironment => None,
         }
     }
 }

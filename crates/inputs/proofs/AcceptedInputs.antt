@@ -14,8 +14,7 @@ use Rattle.pep_table.proofs.SameDemands.{same_demands, with_nothing}
 use Rattle.demands.specs.Demand.{ApplyingDemands, Demand, Demands, HaveSameDemands, Together}
 use Rattle.demands.specs.Table.{HasExactPoints, IsTable, IsValidTable, TableDemands}
 use Rattle.demands.specs.Table.{TableParts}
-use Rattle.pep_table.proofs.OneTableOfText.{one_table_of_text}
-use Rattle.pep_table.proofs.TableBytes.{table_utf8}
+use Rattle.pep_table.proofs.TextFronts.{read_as_one}
 use Rattle.faults.specs.declared.fault.Cause.{Cause}
 use Rattle.inputs.specs.declared.input.Input.{Input}
 use Rattle.inputs.specs.declared.input.Kind.{Kind}
@@ -26,7 +25,7 @@ use Rattle.inputs.specs.Streams.{ReadsDefined}
 use Rattle.inputs.specs.Lists.{HoldsTable, IsListBy, IsRequirementList, Lists, content}
 use Rattle.inputs.specs.Lists.{requirement_lines}
 use Rattle.inputs.specs.Refusal.{IsOverflow, IsRefused, IsUndefinedList}
-use Rattle.inputs.specs.TableFiles.{IsRefusedTable, IsTableFile, by_encoding, by_size, by_text}
+use Rattle.inputs.specs.TableFiles.{IsRefusedTable, IsTableFile, by_encoding, by_environment, by_size, by_text}
 use Rattle.inputs.specs.Wanted.{TakesWanted, Wanted}
 use Rattle.inputs.proofs.DefinedMarkers.{both_markers}
 use Rattle.inputs.proofs.ListLemmas.{line_of_list, refused_list}
@@ -67,12 +66,13 @@ undefined_list e bytes c rs u s h =
     both_markers e u.undefined.requirement (subst (HasDefinedMarker e) same own.1.1)
     u.undefined.undefined
 
-refused_table : (bytes : List ℕ) (c : Cause) (t : TableParts) → IsRefusedTable bytes c →
-    ¬ IsTableFile bytes t
-refused_table bytes c t (by_size over is) file = omega (arith, over, file.size)
-refused_table bytes c t (by_encoding size not is) file =
-    not (table_utf8 t bytes file.valid file.text)
-refused_table bytes c t (by_text line size text none is) file = none t file.valid file.text
+refused_table : (e : EnvironmentParts) (bytes : List ℕ) (c : Cause) (t : TableParts) →
+    IsRefusedTable e bytes c → ¬ IsTableFile e bytes t
+refused_table e bytes c t (by_size over is) file = omega (arith, over, file.size)
+refused_table e bytes c t (by_encoding size not is) file = not file.encoding
+refused_table e bytes c t (by_text line size text none is) file = none.unread t file.valid file.text
+refused_table e bytes c t (by_environment line size text other is) file =
+    other.unread t file.valid file.text
 
 pub refused_bytes : (e : EnvironmentParts) (k : Kind) (group : Option (List ℕ)) (bytes : List ℕ)
     (c : Cause) → ¬ IsOverflow c → IsRefused e k group bytes c → ¬ AcceptsBytes e k group bytes
@@ -85,7 +85,7 @@ refused_bytes e kind.Project group bytes c told (inr h) (inl a) =
     undefined_project e group bytes c a.0 h a.1 a.2
 refused_bytes e kind.Project group bytes c told h (inr a) = absurd a.1
 refused_bytes e kind.Table group bytes c told h (inl a) = absurd a.1
-refused_bytes e kind.Table group bytes c told h (inr a) = refused_table bytes c a.0 h a.1
+refused_bytes e kind.Table group bytes c told h (inr a) = refused_table e bytes c a.0 h a.1
 
 pub refused_in : (e : EnvironmentParts) (i : Input) (c : Cause) → ¬ IsOverflow c →
     IsRefused e i.kind i.group i.bytes.items c → ¬ IsAccepted e i
@@ -120,23 +120,24 @@ one_list extra kind.Project group bytes rs qs h g = one_project extra group byte
 one_list extra kind.Table group bytes rs qs h g = absurd h
 
 -- bytes that are requirements are no table
-apart : (extra : List ℕ) (k : Kind) (group : Option (List ℕ)) (bytes : List ℕ)
-    (rs : List RequirementParts) (t : TableParts) → Lists extra k group bytes rs →
-    HoldsTable k bytes t → ⊥
-apart extra kind.List group bytes rs t h g = g
-apart extra kind.Project group bytes rs t h g = g
-apart extra kind.Table group bytes rs t h g = h
+apart : (e : EnvironmentParts) (extra : List ℕ) (k : Kind) (group : Option (List ℕ))
+    (bytes : List ℕ) (rs : List RequirementParts) (t : TableParts) → Lists extra k group bytes rs →
+    HoldsTable e k bytes t → ⊥
+apart e extra kind.List group bytes rs t h g = g
+apart e extra kind.Project group bytes rs t h g = g
+apart e extra kind.Table group bytes rs t h g = h
 
-pub one_table_in : (k : Kind) (bytes : List ℕ) (s t : TableParts) → HoldsTable k bytes s →
-    HoldsTable k bytes t → s ≡ t
-one_table_in kind.List bytes s t h g = absurd h
-one_table_in kind.Project bytes s t h g = absurd h
-one_table_in kind.Table bytes s t h g = one_table_of_text s t bytes h.text g.text h.valid g.valid
+pub one_table_in : (e : EnvironmentParts) (k : Kind) (bytes : List ℕ) (s t : TableParts) →
+    HoldsTable e k bytes s → HoldsTable e k bytes t → s ≡ t
+one_table_in e kind.List bytes s t h g = absurd h
+one_table_in e kind.Project bytes s t h g = absurd h
+one_table_in e kind.Table bytes s t h g = read_as_one e s t bytes h.text g.text h.valid g.valid
 
-holds_valid : (k : Kind) (bytes : List ℕ) (t : TableParts) → HoldsTable k bytes t → IsValidTable t
-holds_valid kind.List bytes t h = absurd h
-holds_valid kind.Project bytes t h = absurd h
-holds_valid kind.Table bytes t h = h.valid
+holds_valid : (e : EnvironmentParts) (k : Kind) (bytes : List ℕ) (t : TableParts) →
+    HoldsTable e k bytes t → IsValidTable t
+holds_valid e kind.List bytes t h = absurd h
+holds_valid e kind.Project bytes t h = absurd h
+holds_valid e kind.Table bytes t h = h.valid
 
 pub bytes_demand_in : (e : EnvironmentParts) (k : Kind) (group : Option (List ℕ)) (bytes : List ℕ)
     (rs : List RequirementParts) (name : List ℕ) (d : Demand) →
@@ -147,17 +148,17 @@ bytes_demand_in e k group bytes rs name d is = (λ h. inl (rs, is, h), back)
     back : BytesDemand e k group bytes name d → ApplyingDemands e rs name d
     back (inl h) = subst (λ (qs : List RequirementParts). ApplyingDemands e qs name d)
         (one_list (extra_in e) k group bytes h.0 rs h.1 is) h.2
-    back (inr h) = absurd (apart (extra_in e) k group bytes rs h.0 is h.1)
+    back (inr h) = absurd (apart e (extra_in e) k group bytes rs h.0 is h.1)
 
 pub table_demands_in : (e : EnvironmentParts) (k : Kind) (group : Option (List ℕ))
-    (bytes : List ℕ) (t : TableParts) (name : List ℕ) (d : Demand) → HoldsTable k bytes t →
+    (bytes : List ℕ) (t : TableParts) (name : List ℕ) (d : Demand) → HoldsTable e k bytes t →
     TableDemands t name d ↔ BytesDemand e k group bytes name d
 table_demands_in e k group bytes t name d is = (λ h. inr (t, is, h), back)
   where
     back : BytesDemand e k group bytes name d → TableDemands t name d
-    back (inl h) = absurd (apart (extra_in e) k group bytes h.0 t h.1 is)
+    back (inl h) = absurd (apart e (extra_in e) k group bytes h.0 t h.1 is)
     back (inr h) = subst (λ (s : TableParts). TableDemands s name d)
-        (one_table_in k bytes h.0 t h.1 is) h.2
+        (one_table_in e k bytes h.0 t h.1 is) h.2
 
 input_more : (e : EnvironmentParts) (Q : Demands) (i : Input) (inputs : List Input)
     (own : Demands) (name : List ℕ) (d : Demand) →
@@ -211,7 +212,7 @@ inputs_table e w Q (i ∷ inputs) old new t p (mid, inl (rs, is, takes), more) =
     (inputs_table e w (Together Q own) inputs mid new one.0 one.1 more)
 inputs_table e w Q (i ∷ inputs) old new t p (mid, inr (s, is, joins), more) =
     let own = TableDemands s in
-    let one = part_joined w Q old s mid (holds_valid i.kind i.bytes.items s is) t p joins in
+    let one = part_joined w Q old s mid (holds_valid e i.kind i.bytes.items s is) t p joins in
     first_joined e w Q own i inputs new
     (λ name d. table_demands_in e i.kind i.group i.bytes.items s name d is)
     (inputs_table e w (Together Q own) inputs mid new one.0 one.1 more)

@@ -105,7 +105,7 @@ table_of_input e i t is h =
     (one_input e i is) h.is_table h.points
 
 pub merged_input : (e : EnvironmentParts) (i : Input) (t : TableParts) (x : List ℕ) →
-    i.kind ≡ kind.List → IsTableOfList e i.bytes.items t → IsTableText t x → IsMerge e (i ∷ []) x
+    i.kind ≡ kind.List → IsTableOfList e i.bytes.items t → IsTableText e t x → IsMerge e (i ∷ []) x
 merged_input e i t x is h text =
     let one = table_of_input e i t is h in
     record {

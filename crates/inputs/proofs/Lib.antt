@@ -26,5 +26,6 @@ pub mod GroupSteps
 pub mod GroupTables
 pub mod GroupViews
 pub mod PrintedInputs
+pub mod OneEnvironment
 pub mod SameInputs
 pub mod TableFileLemmas

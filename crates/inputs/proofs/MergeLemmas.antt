@@ -31,7 +31,7 @@ shows_verdicts Q t h name =
 pub merges : {A E : Type 0} (text_of : A → List ℕ) (e : EnvironmentParts) (inputs : List Input)
     (t : TableParts) (r : Result A E) → All (IsAccepted e) inputs →
     IsTable (Gathered e inputs) t → HasExactPoints (Gathered e inputs) t →
-    IfOk r (λ text. IsTableText t (text_of text)) → IfOk r (λ text. IsMerge e inputs (text_of text))
+    IfOk r (λ text. IsTableText e t (text_of text)) → IfOk r (λ text. IsMerge e inputs (text_of text))
 merges text_of e inputs t (Err fault) accepted is points has = tt
 merges text_of e inputs t (Ok text) accepted is points has = record {
   accepted = accepted;

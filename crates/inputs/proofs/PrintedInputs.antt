@@ -1,7 +1,7 @@
 -- A table that was printed of inputs stands for them.
 use Rattle.std.proofs.Common.{◌≡◌, ℕ, ◌≤◌, ◌⊎◌, List, [], ◌∷◌, ◌++◌, length, refl, sym, subst, inl, inr}
 use Rattle.std.proofs.Common.{Option, Some, None}
-use Rattle.std.specs.Prelude.{◌↔◌}
+use Rattle.std.specs.Prelude.{IsUtf8, ◌↔◌}
 use Rattle.std.proofs.lemmas.List.Elements.{All-head}
 use Rattle.std.proofs.lemmas.Option.{IfSome_then}
 use Rattle.pep_marker.specs.Environment.{EnvironmentParts}
@@ -125,12 +125,12 @@ gathered_both e (i ∷ a) b name d = further (gathered_both e a b name d)
         back (inl (inr q)) = inr (more.1 (inl q))
         back (inr w) = inr (more.1 (inr w))
 
-table_size : (e : EnvironmentParts) (k : Kind) (group : Option (List ℕ)) (bytes : List ℕ) →
-    k ≡ kind.Table → AcceptsBytes e k group bytes → length bytes ≤ input_limit
-table_size e kind.List group bytes same h = cc same
-table_size e kind.Project group bytes same h = cc same
-table_size e kind.Table group bytes same (inl h) = absurd h.1
-table_size e kind.Table group bytes same (inr h) = h.1.size
+is_file : (e : EnvironmentParts) (k : Kind) (group : Option (List ℕ)) (bytes : List ℕ) →
+    k ≡ kind.Table → AcceptsBytes e k group bytes → (length bytes ≤ input_limit) × IsUtf8 bytes
+is_file e kind.List group bytes same h = cc same
+is_file e kind.Project group bytes same h = cc same
+is_file e kind.Table group bytes same (inl h) = absurd h.1
+is_file e kind.Table group bytes same (inr h) = (h.1.size, h.1.encoding)
 
 pub printed_in_place : (e : EnvironmentParts) (a b : List Input) (i : Input) (x y z : List ℕ) →
     IsMerge e a x → i.kind ≡ kind.Table → i.bytes.items ≡ x → IsMerge e (i ∷ b) y →
@@ -140,11 +140,14 @@ printed_in_place e a b i x y z m same text n l =
     let Q = Gathered e a in
     let P = TableDemands s in
     let W = Gathered e b in
-    let file : HoldsTable i.kind i.bytes.items s =
-    subst (λ k. HoldsTable k i.bytes.items s) (sym same) (record {
-      size = table_size e i.kind i.group i.bytes.items same (All-head (IsAccepted e) i b n.accepted);
+    let bytes =
+    is_file e i.kind i.group i.bytes.items same (All-head (IsAccepted e) i b n.accepted) in
+    let file : HoldsTable e i.kind i.bytes.items s =
+    subst (λ k. HoldsTable e k i.bytes.items s) (sym same) (record {
+      size = bytes.0;
+      encoding = bytes.1;
       valid = m.is_table.valid;
-      text = subst (IsTableText s) (sym text) m.text;
+      text = inl (subst (IsTableText e s) (sym text) m.text);
     }) in
     let own = own_table s m.is_table.valid in
     let at_once = same_demands (Gathered e (a ++ b)) (Together Q W) l.table (gathered_both e a b)
@@ -154,5 +157,5 @@ printed_in_place e a b i x y z m same text n l =
     n.points in
     let swapped =
     replaced Q P W s l.table m.is_table m.points own.0 own.1 at_once.0 at_once.1 in
-    one_text (Together P W) (Together P W) n.table l.table y z (λ name d. keep) with.0
+    one_text e (Together P W) (Together P W) n.table l.table y z (λ name d. keep) with.0
     swapped.0 n.text l.text

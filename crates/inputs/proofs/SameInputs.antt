@@ -24,7 +24,7 @@ use Rattle.inputs.proofs.ReadTexts.{zip_line, zip_read}
 abbrev ByOne : EnvironmentParts → List Input → Demands
 ByOne e inputs name d =
     ((r : RequirementParts) × HasRequirement e inputs r × Applies e r × RequirementDemands r name d)
-    ⊎ ((t : TableParts) × HasTable inputs t × TableDemands t name d)
+    ⊎ ((t : TableParts) × HasTable e inputs t × TableDemands t name d)
 
 one_further : (e : EnvironmentParts) (i : Input) (inputs : List Input) (name : List ℕ)
     (d : Demand) → ByOne e inputs name d → ByOne e (i ∷ inputs) name d
@@ -55,7 +55,7 @@ demands_of e (j ∷ inputs) i name d has q = elim (in_either j inputs i has) [
 
 demands_too : (e : EnvironmentParts) (a b : List Input)
     (same : (r : RequirementParts) → HasRequirement e a r → HasRequirement e b r)
-    (tables : (t : TableParts) → HasTable a t → HasTable b t) (name : List ℕ) (d : Demand) →
+    (tables : (t : TableParts) → HasTable e a t → HasTable e b t) (name : List ℕ) (d : Demand) →
     Gathered e a name d → Gathered e b name d
 demands_too e a b same tables name d g = by (demanded_by e a name d g)
   where
@@ -97,11 +97,12 @@ text_of extra kind.Project group bytes rs r h has =
 text_of extra kind.Table group bytes rs r h has = absurd h
 
 -- a table file has no lines of requirements
-no_texts : (extra : List ℕ) (k : Kind) (group : Option (List ℕ)) (bytes : List ℕ) (t : TableParts)
-    (x : List ℕ) → HoldsTable k bytes t → IsInputText extra k group bytes x → ⊥
-no_texts extra kind.List group bytes t x is has = is
-no_texts extra kind.Project group bytes t x is has = is
-no_texts extra kind.Table group bytes t x is has = has
+no_texts : (e : EnvironmentParts) (extra : List ℕ) (k : Kind) (group : Option (List ℕ))
+    (bytes : List ℕ) (t : TableParts) (x : List ℕ) → HoldsTable e k bytes t →
+    IsInputText extra k group bytes x → ⊥
+no_texts e extra kind.List group bytes t x is has = is
+no_texts e extra kind.Project group bytes t x is has = is
+no_texts e extra kind.Table group bytes t x is has = has
 
 -- what one input has in a line, an accepted one with this line has too
 read_too : (e : EnvironmentParts) (b : List Input) (x : List ℕ) (r : RequirementParts) →
@@ -113,7 +114,7 @@ read_too e b x r accepted (i, among, has) reads =
     by (inl (rs, is, defined)) =
         let found = text_read (extra_in e) i.kind i.group i.bytes.items rs x is has in
         (i, among, (rs, is, subst (Contains rs) (one_requirement x found.0 r found.2 reads) found.1))
-    by (inr (t, is)) = absurd (no_texts (extra_in e) i.kind i.group i.bytes.items t x is has)
+    by (inr (t, is)) = absurd (no_texts e (extra_in e) i.kind i.group i.bytes.items t x is has)
 
 requirement_too : (e : EnvironmentParts) (a b : List Input)
     (same : (x : List ℕ) → HasLine e a x → HasLine e b x) (r : RequirementParts) →

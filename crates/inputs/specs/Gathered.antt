@@ -9,12 +9,12 @@ use Rattle.inputs.specs.declared.input.Kind.{Kind}
 use Rattle.inputs.specs.Lists.{HoldsTable, IsInputText, Lists}
 
 -- the bytes are requirements, and each of them has a marker that is true or false there; or they
--- are the text of a table
+-- are the text of a table there, or the lines of one
 abbrev pub AcceptsBytes : EnvironmentParts → Kind → Option (List ℕ) → List ℕ → Type 0
 AcceptsBytes e k group bytes =
     ((rs : List RequirementParts) × Lists (extra_in e) k group bytes rs
     × All (HasDefinedMarker e) rs)
-    ⊎ ((t : TableParts) × HoldsTable k bytes t)
+    ⊎ ((t : TableParts) × HoldsTable e k bytes t)
 
 abbrev pub IsAccepted : EnvironmentParts → Input → Type 0
 IsAccepted e i = AcceptsBytes e i.kind i.group i.bytes.items
@@ -25,7 +25,7 @@ abbrev pub BytesDemand : EnvironmentParts → Kind → Option (List ℕ) → Lis
 BytesDemand e k group bytes name d =
     ((rs : List RequirementParts) × Lists (extra_in e) k group bytes rs
     × ApplyingDemands e rs name d)
-    ⊎ ((t : TableParts) × HoldsTable k bytes t × TableDemands t name d)
+    ⊎ ((t : TableParts) × HoldsTable e k bytes t × TableDemands t name d)
 
 -- the set of the demands of all inputs
 abbrev pub Gathered : EnvironmentParts → List Input → Demands
@@ -41,16 +41,16 @@ HasRequirement e inputs r = (i : Input) × Contains inputs i
     × ((rs : List RequirementParts) × Lists (extra_in e) i.kind i.group i.bytes.items rs
     × Contains rs r)
 
--- one of the inputs is the text of the table
-abbrev pub HasTable : List Input → TableParts → Type 0
-HasTable inputs t = (i : Input) × Contains inputs i × HoldsTable i.kind i.bytes.items t
+-- one of the inputs is read as the table
+abbrev pub HasTable : EnvironmentParts → List Input → TableParts → Type 0
+HasTable e inputs t = (i : Input) × Contains inputs i × HoldsTable e i.kind i.bytes.items t
 
 -- the inputs have the same requirements and the same tables, in whatever order and grouping, and
 -- however often
 abbrev pub HaveSameRequirements : EnvironmentParts → List Input → List Input → Type 0
 HaveSameRequirements e a b =
     ((r : RequirementParts) → HasRequirement e a r ↔ HasRequirement e b r)
-    × ((t : TableParts) → HasTable a t ↔ HasTable b t)
+    × ((t : TableParts) → HasTable e a t ↔ HasTable e b t)
 
 -- one of the inputs has the text: a list as a line, without what is dropped at its ends, a project
 -- file among the texts that are asked for
@@ -62,4 +62,4 @@ HasLine e inputs line = (i : Input) × Contains inputs i
 -- often; empty lines and comments apart
 abbrev pub HaveSameLines : EnvironmentParts → List Input → List Input → Type 0
 HaveSameLines e a b = ((line : List ℕ) → HasLine e a line ↔ HasLine e b line)
-    × ((t : TableParts) → HasTable a t ↔ HasTable b t)
+    × ((t : TableParts) → HasTable e a t ↔ HasTable e b t)

@@ -19,7 +19,7 @@ abbrev pub GathersBytes : EnvironmentParts → Option (List ℕ) → Kind → Op
 GathersBytes e w k group bytes old new =
     ((rs : List RequirementParts) × Lists (extra_in e) k group bytes rs
     × TakesWanted e w old rs new)
-    ⊎ ((t : TableParts) × HoldsTable k bytes t × JoinsTables old (wanted_part w t) new)
+    ⊎ ((t : TableParts) × HoldsTable e k bytes t × JoinsTables old (wanted_part w t) new)
 
 -- .. and of inputs in turn
 abbrev pub GathersInputs : EnvironmentParts → Option (List ℕ) → List Input → TableParts →

@@ -40,8 +40,8 @@ abbrev pub is_active : List ℕ → List ActiveGroup → Bool
 is_active name active = list_any (λ g. bytes_eq g.0 name) active
 
 -- a group whose array no walk has come to is walked
-abbrev pub opened : Walk → List ℕ → Items → Walk
-opened w name ds = record {
+abbrev pub walk_opened : Walk → List ℕ → Items → Walk
+walk_opened w name ds = record {
   active = (name, ds) ∷ w.active;
   unopened = without name w.unopened;
   is_closed = w.is_closed;
@@ -49,15 +49,15 @@ opened w name ds = record {
 }
 
 -- a group that has none: it was walked before, is being walked, or isn't there
-abbrev pub passed : Walk → List ℕ → Step
-passed w name =
+abbrev pub step_past : Walk → List ℕ → Step
+step_past w name =
     if w.is_closed name then going w
     else if is_active name w.active then refused GroupCycle
     else refused NoGroup
 
 abbrev pub open_at : Walk → List ℕ → Option Items → Step
-open_at w name (Some ds) = going (opened w name ds)
-open_at w name None = passed w name
+open_at w name (Some ds) = going (walk_opened w name ds)
+open_at w name None = step_past w name
 
 -- a group is included
 abbrev pub open_group : Walk → List ℕ → Step
@@ -88,8 +88,8 @@ with_active w active = record {
 }
 
 -- the array of the group that was included last is at its end
-abbrev pub closed : Walk → List ℕ → List ActiveGroup → Walk
-closed w name active = record {
+abbrev pub walk_closed : Walk → List ℕ → List ActiveGroup → Walk
+walk_closed w name active = record {
   active = active;
   unopened = w.unopened;
   is_closed = with_name name w.is_closed;
@@ -98,7 +98,7 @@ closed w name active = record {
 
 abbrev pub step_of : Walk → List ActiveGroup → Step
 step_of w [] = ended w.texts
-step_of w ((name, no_items) ∷ active) = going (closed w name active)
+step_of w ((name, no_items) ∷ active) = going (walk_closed w name active)
 step_of w ((name, item d ds) ∷ active) =
     take_member (with_active w ((name, ds) ∷ active)) (group_member d)
 

@@ -7,6 +7,7 @@ use Rattle.std.specs.Str.Lines.{strip_carriage_return}
 use Rattle.texts.specs.Runs.{begins, without_outer_blanks}
 use Rattle.pep_require.specs.Reads.{Reads}
 use Rattle.texts.specs.Limits.{line_limit}
+use Rattle.pep_marker.specs.Environment.{EnvironmentParts}
 use Rattle.pep_require.specs.Requirement.{RequirementParts}
 use Rattle.inputs.specs.declared.input.Kind.{Kind}
 use Rattle.inputs.specs.declared.input.Kind.TheVariants as kind
@@ -81,10 +82,10 @@ Lists extra kind.List group bytes rs = IsRequirementList bytes rs
 Lists extra kind.Project group bytes rs = IsProjectOf extra group bytes rs
 Lists extra kind.Table group bytes rs = ⊥
 
--- the table of an input of this kind
-abbrev pub HoldsTable : Kind → List ℕ → TableParts → Type 0
-HoldsTable kind.Table bytes t = IsTableFile bytes t
-HoldsTable _ bytes t = ⊥
+-- the table of an input of this kind, in the environment
+abbrev pub HoldsTable : EnvironmentParts → Kind → List ℕ → TableParts → Type 0
+HoldsTable e kind.Table bytes t = IsTableFile e bytes t
+HoldsTable e _ bytes t = ⊥
 
 -- the text is one of those of which an input has its requirements: of the lines of a list, and of
 -- the texts of a project file that passes its checks

@@ -16,11 +16,11 @@ ShowsVerdicts Q t =
     (name : List ℕ) → IfSome (entry_at t name) (λ e. (w : Verdict) → Shows e w →
     IsVerdict (Q name) w)
 
--- every input is accepted, and this is the text of the table of all that they demand
+-- every input is accepted, and this is the text of the table of all that they demand, in the environment
 pub record IsMerge (e : EnvironmentParts) (inputs : List Input) (x : List ℕ) : Type 0 where
   pub accepted : All (IsAccepted e) inputs
   pub table : TableParts
   pub is_table : IsTable (Gathered e inputs) table
   pub points : HasExactPoints (Gathered e inputs) table
-  pub text : IsTableText table x
+  pub text : IsTableText e table x
   pub verdicts : ShowsVerdicts (Gathered e inputs) table

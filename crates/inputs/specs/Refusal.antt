@@ -115,13 +115,13 @@ IsUndefinedProject e group bytes c =
 -- ---- inputs
 
 -- Why bytes are refused as an input of this kind: they are no list of requirements, or no project
--- file, or one of the requirements has a marker that is undefined there; or they are no table's
--- text.
+-- file, or one of the requirements has a marker that is undefined there; or they are read as no
+-- table there.
 abbrev pub IsRefused : EnvironmentParts → Kind → Option (List ℕ) → List ℕ → Cause → Type 0
 IsRefused e kind.List group bytes c = IsRefusedList bytes c ⊎ IsUndefinedList e bytes c
 IsRefused e kind.Project group bytes c =
     IsRefusedProject (extra_in e) group bytes c ⊎ IsUndefinedProject e group bytes c
-IsRefused e kind.Table group bytes c = IsRefusedTable bytes c
+IsRefused e kind.Table group bytes c = IsRefusedTable e bytes c
 
 -- The fault names an input, says why it is refused, and unless the reader of URLs answered its own
 -- overflow, that input isn't accepted.

@@ -38,5 +38,6 @@ wanted_part None t = t
 wanted_part (Some name) t = entry_alone name (entry_at t name)
 
 -- what counts of the table that a file holds
-abbrev pub IsPartOfFile : Option (List ℕ) → List ℕ → TableParts → Type 0
-IsPartOfFile w bytes part = (t : TableParts) × IsTableFile bytes t × (part ≡ wanted_part w t)
+abbrev pub IsPartOfFile : EnvironmentParts → Option (List ℕ) → List ℕ → TableParts → Type 0
+IsPartOfFile e w bytes part =
+    (t : TableParts) × IsTableFile e bytes t × (part ≡ wanted_part w t)

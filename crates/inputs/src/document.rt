@@ -1,11 +1,13 @@
 //! TOML documents, and the arrays of texts in them.
 
 ghost use Rattle.std.specs.Prelude.{◌≡◌, ◌⊎◌, Err, IfErr, IfOk, None, Ok, Some};
+ghost use Rattle.pep_marker.specs.Name.{name_of};
 ghost use Rattle.toml.specs.View.{items_view, table_view, view};
 ghost use Rattle.inputs.specs.Document.{document_of, texts_at, texts_of, texts_of_items};
 ghost use Rattle.inputs.specs.Texts.{lent_texts};
 
 use faults::Cause;
+use pep_marker::{MarkerFault, Name};
 use std::alloc::Global;
 use texts::INPUT_LIMIT;
 use toml::{Table, Value};
@@ -26,6 +28,19 @@ pub(crate) fn read_document(alloc: Global, bytes: &[u8]) -> Result<Table, Cause>
         Ok(document) => Ok(document),
         Err(fault) if fault.is_memory() => Err(Cause::NoMemory),
         Err(_) => Err(Cause::NotToml),
+    }
+}
+
+/// The name that a key or a text is.
+pub(crate) fn name_in(alloc: Global, text: &str) -> Result<Name, Cause>
+    ensures ok { IfOk result (λ name. name_of text.now ≡ Some name) }
+    ensures refused { IfErr result (λ cause. (cause ≡ Cause.NoMemory)
+        ⊎ ((cause ≡ Cause.WrongShape) × (name_of text.now ≡ None))) }
+{
+    match Name::read(alloc, text) {
+        Ok(name) => Ok(name),
+        Err(MarkerFault::BadName) => Err(Cause::WrongShape),
+        Err(_) => Err(Cause::NoMemory),
     }
 }
 

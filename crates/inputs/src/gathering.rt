@@ -209,7 +209,8 @@ impl<'a> DemandTaker<'a> {
         ensures refused { IfErr result
             (RefusesAsInput self.now.markers Kind.Table None bytes.now) }
     {
-        let table = table_in(self.alloc, bytes, self.wanted)?;
+        let environment = self.markers.environment();
+        let table = table_in(self.alloc, bytes, environment, self.wanted)?;
         match gathering.take_table(self.alloc, table) {
             Ok(new) => Ok(new),
             Err(_) => Err(Cause::NoMemory),
@@ -279,7 +280,7 @@ fn take_inputs(
 /// An input that isn't accepted is refused, with its number, counted from 1, as the place: with
 /// the fault that `list_of` or `project_of` has, or with 57 and 28 for a requirement whose marker
 /// is undefined in the environment; a table file with 56 where it has more than 16,777,216 bytes,
-/// 51 where it isn't UTF-8, or 57 and 41 for the line that `Table::read` tells. The first
+/// 51 where it isn't UTF-8, or 57 and 43 or 41 for the line that `Table::read` tells. The first
 /// fault of the first such input is answered: each line of a list is read, judged and taken before
 /// the next one, and of a project file all texts are read before a marker is judged. Want of memory
 /// is 60, without a place.

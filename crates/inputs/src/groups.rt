@@ -24,7 +24,7 @@ ghost use Rattle.std.specs.Prelude.{
 ghost use Rattle.std.specs.List.{list_any};
 ghost use Rattle.toml.specs.Data.{as_table, get_member};
 ghost use Rattle.toml.specs.View.{items_view, table_view, view};
-ghost use Rattle.pep_marker.specs.Name.{name_cmp, name_of};
+ghost use Rattle.pep_marker.specs.Name.{name_cmp};
 ghost use Rattle.inputs.specs.Document.{required};
 ghost use Rattle.inputs.specs.Groups.{
   all_different,
@@ -47,8 +47,9 @@ ghost use Rattle.inputs.specs.GroupWalk.{
 ghost use Rattle.inputs.specs.GroupViews.{arrays_at, group_view, left_of, walk_view, walk_with};
 ghost use Rattle.inputs.specs.Texts.{lent_texts};
 
+use crate::document::name_in;
 use faults::Cause;
-use pep_marker::{MarkerFault, Name};
+use pep_marker::Name;
 use std::alloc::Global;
 use std::collections::{BTreeMap, BTreeSet};
 use toml::{Table, Value};
@@ -71,19 +72,6 @@ struct GroupWalk<'a> {
     // The groups that were walked to their end.
     closed: BTreeSet<Name>,
     texts: Vec<&'a str>,
-}
-
-/// The name that a key or a text is.
-pub(crate) fn name_in(alloc: Global, text: &str) -> Result<Name, Cause>
-    ensures ok { IfOk result (λ name. name_of text.now ≡ Some name) }
-    ensures refused { IfErr result (λ cause. (cause ≡ Cause.NoMemory)
-        ⊎ ((cause ≡ Cause.WrongShape) × (name_of text.now ≡ None))) }
-{
-    match Name::read(alloc, text) {
-        Ok(name) => Ok(name),
-        Err(MarkerFault::BadName) => Err(Cause::WrongShape),
-        Err(_) => Err(Cause::NoMemory),
-    }
 }
 
 // The name in a table whose one key is `include-group`.

@@ -9,8 +9,8 @@ pub enum Kind {
     List,
     /// A project file, `pyproject.toml` (PyPA "pyproject.toml", PEP 621).
     Project,
-    /// The text of a table, as the program prints it. It was printed in the same environment, which
-    /// nothing tests.
+    /// The text of a table in the environment at hand, as the program prints it, or its lines alone, of
+    /// which nothing tells in which environment they were made.
     Table,
 }
 

@@ -1,7 +1,8 @@
 //! Laws of the definitions.
 
 ghost use Rattle.std.specs.Prelude.{◌≡◌, ◌↔◌, ◌∷◌, ◌++◌, [], ℕ, All, Contains, Err, List, Ok, Option};
-ghost use Rattle.pep_marker.specs.Environment.{EnvironmentParts};
+ghost use Rattle.pep_marker.specs.Environment.{EnvironmentParts, IsEnvironment};
+ghost use Rattle.pep_marker.specs.Header.{header};
 ghost use Rattle.pep_require.specs.Requirement.{RequirementParts};
 ghost use Rattle.demands.specs.Demand.{HaveSameDemands};
 ghost use Rattle.demands.specs.Table.{HasExactPoints, IsTable, TableParts};
@@ -23,10 +24,10 @@ ghost use Rattle.inputs.specs.Refusal.{IsOverflow, IsRefused, IsRefusedList, IsR
 ghost use Rattle.inputs.specs.Streams.{IsTableOfList};
 
 /// Inputs that demand the same have one text, whatever the order, the grouping and the repeats of
-/// their lines.
+/// their lines, in environments of one header.
 pub fn one_text()
-    ensures { (e f : EnvironmentParts) (a b : List Input) (x y : List ℕ) → IsMerge e a x
-        → IsMerge f b y → HaveSameDemands (Gathered e a) (Gathered f b) → x ≡ y }
+    ensures { (e f : EnvironmentParts) (a b : List Input) (x y : List ℕ) → header e ≡ header f
+        → IsMerge e a x → IsMerge f b y → HaveSameDemands (Gathered e a) (Gathered f b) → x ≡ y }
 {}
 
 /// What inputs demand has one table, whatever the order, the grouping and the repeats of their
@@ -67,6 +68,18 @@ pub fn printed_in_place()
         → IsMerge e (a ++ b) z → y ≡ z }
 {}
 
+/// Environments of one header are one: an input is accepted in both or in none, inputs demand the same
+/// in both, and their merge is the same. So what is printed in the one is read in the other.
+pub fn one_environment()
+    ensures accepted { (e f : EnvironmentParts) (i : Input) → IsEnvironment e → IsEnvironment f
+        → header e ≡ header f → IsAccepted e i → IsAccepted f i }
+    ensures demands { (e f : EnvironmentParts) (a : List Input) → IsEnvironment e
+        → IsEnvironment f → header e ≡ header f
+        → HaveSameDemands (Gathered e a) (Gathered f a) }
+    ensures merges { (e f : EnvironmentParts) (a : List Input) (x : List ℕ) → IsEnvironment e
+        → IsEnvironment f → header e ≡ header f → IsMerge e a x → IsMerge f a x }
+{}
+
 /// The table of a list that was read is that of an input with the same bytes, and its text is the
 /// merge of this input: so what is said of inputs, and of their merges, is said of lists that are
 /// read.
@@ -77,7 +90,7 @@ pub fn read_is_merged()
         → IsTableOfList e i.bytes.items t → IsTable (Gathered e (i ∷ [])) t
         × HasExactPoints (Gathered e (i ∷ [])) t }
     ensures text { (e : EnvironmentParts) (i : Input) (t : TableParts) (x : List ℕ)
-        → i.kind ≡ Kind.List → IsTableOfList e i.bytes.items t → IsTableText t x
+        → i.kind ≡ Kind.List → IsTableOfList e i.bytes.items t → IsTableText e t x
         → IsMerge e (i ∷ []) x }
 {}
 

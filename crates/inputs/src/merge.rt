@@ -16,12 +16,17 @@ use pep_table::{Answer, Gathering, TableFault};
 use pep_version::Version;
 use std::alloc::Global;
 
-/// The text of the table of what is demanded.
-pub fn text_of(alloc: Global, gathering: Gathering) -> Result<String, Fault>
-    ensures text { IfOk result (λ text. IsTableText gathering (string_bytes text)) }
+/// The text of the table of what is demanded in the environment.
+pub fn text_of(
+    alloc: Global,
+    gathering: Gathering,
+    environment: &Environment,
+) -> Result<String, Fault>
+    ensures text { IfOk result (λ text.
+        IsTableText environment.now gathering (string_bytes text)) }
     ensures faults { IfErr result (λ fault. fault ≡ no_memory) }
 {
-    match gathering.text(alloc) {
+    match gathering.text(alloc, environment) {
         Ok(text) => Ok(text),
         Err(_) => Err(Fault::no_memory()),
     }
@@ -47,7 +52,7 @@ pub fn merge_bytes(
     ensures refused { IfErr result (RefusesInputs environment.now inputs.now) }
 {
     let gathering = gather(alloc, inputs, environment)?;
-    text_of(alloc, gathering)
+    text_of(alloc, gathering, environment)
 }
 
 // What is demanded says this of the version of the package.
@@ -72,7 +77,7 @@ fn answer(
 ///
 /// All inputs are read, and refused as by [`merge_bytes`]; what they demand of other packages isn't
 /// kept: a line's or a table entry's is dropped where it is found, a project file's once all its
-/// texts are read.
+/// texts are read. (A table that was printed in another environment is made before it is refused.)
 pub fn check_bytes(
     alloc: Global,
     inputs: &[Input],

@@ -34,8 +34,8 @@ ghost use Rattle.inputs.specs.ProjectExtras.{HasExtraTexts};
 ghost use Rattle.inputs.specs.Refusal.{IsRefusedProject, IsRefusedText, no_memory};
 ghost use Rattle.inputs.specs.Texts.{lent_texts};
 
-use crate::document::{read_document, texts_at, texts_of};
-use crate::groups::{group_texts, name_in};
+use crate::document::{name_in, read_document, texts_at, texts_of};
+use crate::groups::group_texts;
 use crate::lines::line_cause;
 use faults::{Cause, Fault, LineFault, Place, fault_in};
 use pep_marker::{Name, norm_of};

@@ -13,4 +13,4 @@ pub use crate::cut::Cut;
 pub use crate::range::Range;
 pub use crate::set::VersionSet;
 pub use crate::turns::Turns;
-pub use specifiers::{Clause, ClauseFault, Op};
+pub use specifiers::{Clause, ClauseFault, Op, is_final};

@@ -9,6 +9,8 @@ pub mod TokenLoop
 pub mod ChainTexts
 pub mod TokenTexts
 pub mod VariableLemmas
+pub mod HeaderLines
+pub mod HeaderLaws
 pub mod SlotLemmas
 pub mod MarkerTruth
 pub mod TextTruth

@@ -13,7 +13,7 @@ use Rattle.pep_marker.specs.Environment.{variable_of, variables}
 
 -- ---- each variable has a place and a name of its own
 
-at_place : (v : Variable) → slice_get variables (place v) ≡ Some v
+pub at_place : (v : Variable) → slice_get variables (place v) ≡ Some v
 at_place Extra = refl
 at_place _ = refl
 

@@ -3,6 +3,7 @@ pub mod NameHead
 pub mod Environment
 pub mod Pairs
 pub mod Slots
+pub mod Header
 pub mod Marker
 pub mod MarkerText
 pub mod Holds

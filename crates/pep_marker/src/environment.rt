@@ -4,6 +4,7 @@
 ghost use Rattle.std.specs.Prelude.{◌≡◌, ◌⊎◌, ◌<◌, IfErr, IfOk, None, Some};
 ghost use Rattle.std.specs.Option.{option_map};
 ghost use Rattle.pep_marker.specs.Environment.{
+  IsEnvironment,
   environment_of,
   is_required,
   pairs_fault,
@@ -168,7 +169,8 @@ impl Environment {
 
     // What is known of the text of a variable.
     pub(crate) fn known(&self, variable: Variable) -> &Value
-        ensures { result.now ≡ value_of self.now variable }
+        ensures value { result.now ≡ value_of self.now variable }
+        ensures environment { IsEnvironment self.now }
     {
         &self.values[variable.place()]
     }

@@ -5,6 +5,7 @@ mod chains;
 mod compared_text;
 mod environment;
 mod fault;
+mod header;
 mod holds;
 mod judged;
 pub mod laws;
@@ -17,6 +18,7 @@ mod value;
 
 pub use crate::environment::{Environment, Variable};
 pub use crate::fault::MarkerFault;
+pub use crate::header::HeaderIn;
 pub use crate::judged::JudgedMarkers;
 pub use crate::marker::{Marker, Operand, Operator};
 pub use crate::name::{Name, norm_of};

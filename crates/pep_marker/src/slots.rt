@@ -11,7 +11,7 @@ use crate::fault::MarkerFault;
 pub(crate) type Slots<'a> = [Option<&'a str>; 12];
 
 // Whether a text may be the value of a variable: it holds no control character of ASCII.
-fn is_value(text: &[u8]) -> bool
+pub(crate) fn is_value(text: &[u8]) -> bool
     ensures { result ≡ is_value text.now }
 {
     text.iter().all(|b| 31 < *b && *b != 127)

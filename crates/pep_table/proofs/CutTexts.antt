@@ -12,8 +12,8 @@ use Rattle.pep_version.specs.Text.{is_text_byte, normal_text}
 use Rattle.pep_version.specs.Version.{IsVersion, Version}
 use Rattle.pep_clause.specs.Cut.{Cut, IsCut, before, after, past, end, cut_text, final_version}
 use Rattle.pep_clause.specs.VersionSet.{Range, cuts}
-use Rattle.pep_table.proofs.Runs.{Stops, all_append, run_one}
-pub use Rattle.pep_table.specs.TableReading.{HasNoFeed}
+use Rattle.texts.proofs.CutLists.{Stops, all_append, run_one}
+pub use Rattle.texts.specs.Lines.{HasNoFeed, is_not_feed}
 use Rattle.pep_table.specs.TableText.{range_text}
 
 -- ---- classes of bytes
@@ -24,9 +24,6 @@ is_plain b = nat_lt 32 b && nat_lt b 127
 
 abbrev pub is_not_space : ℕ → Bool
 is_not_space b = not (b == 32)
-
-abbrev pub is_not_feed : ℕ → Bool
-is_not_feed b = not (b == 10)
 
 plain_no_space : (b : ℕ) → is_plain b ≡ true → is_not_space b ≡ true
 plain_no_space b h = grind (arith, nat_tests)

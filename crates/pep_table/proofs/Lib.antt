@@ -6,12 +6,12 @@ pub mod AllJoined
 pub mod JoinedDemands
 pub mod NameDemands
 pub mod TableAnswers
+pub mod TextFronts
 pub mod MergeLaws
 pub mod SameDemands
 pub mod Members
 pub mod Taking
 pub mod EntryRanges
-pub mod Runs
 pub mod CutTexts
 pub mod TableLines
 pub mod OneTableOfText

@@ -3,7 +3,7 @@ use Rattle.std.proofs.Common.{List, [], ◌∷◌, subst}
 use Rattle.std.specs.List.{AllZip}
 use Rattle.pep_marker.specs.Environment.{EnvironmentParts}
 use Rattle.pep_table.proofs.JoinedDemands.{joined_is_table, own_table}
-use Rattle.pep_table.proofs.OneTableOfText.{one_table_of_text}
+use Rattle.pep_table.proofs.TextFronts.{read_back}
 use Rattle.demands.specs.Demand.{Demands}
 use Rattle.pep_table.specs.MergeTree.{IsAcceptedTree, MakesTable, MergeTree, MergesAlike}
 use Rattle.demands.specs.Join.{JoinsAll, JoinsTables}
@@ -27,7 +27,7 @@ tree_table e (joined p q) t a made =
     second.1 made.4
 tree_table e (printed p) t a (s, x, made, prints, reads, valid) =
     let first = tree_table e p s a made in
-    let one = one_table_of_text s t x prints reads first.0.valid valid in
+    let one = read_back e s t x prints reads first.0.valid valid in
     subst (IsExactTable (TreeDemands e p)) one first
 
 -- two merges of the same demands print one text
@@ -35,7 +35,7 @@ pub merges_alike : MergesAlike
 merges_alike e a b x y v w same h g =
     let first = tree_table e a h.0 v h.1 in
     let second = tree_table e b g.0 w g.1 in
-    one_text (TreeDemands e a) (TreeDemands e b) h.0 g.0 x y same first.0 second.0 h.2 g.2
+    one_text e (TreeDemands e a) (TreeDemands e b) h.0 g.0 x y same first.0 second.0 h.2 g.2
 
 -- tables that are joined to a first one, one after the other, are made by such a tree
 pub all_made : (e : EnvironmentParts) (a : MergeTree) (trees : List MergeTree) (s : TableParts)

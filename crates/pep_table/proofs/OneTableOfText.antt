@@ -6,15 +6,16 @@ use Rattle.std.specs.List.{AllByRecursion}
 use Rattle.std.proofs.lemmas.List.{append_cancel_left}
 use Rattle.pep_clause.specs.VersionSet.{Range}
 use Rattle.pep_table.proofs.CutTexts.{HasCuts, have_cuts, one_range_of_text}
-use Rattle.pep_table.proofs.Runs.{Stops, map_one, map_passes, map_stops, run_one}
+use Rattle.texts.proofs.CutLists.{Stops, map_one, map_passes, map_stops, run_one}
 use Rattle.pep_table.proofs.TableLines.{AreLines, IsTextEntry, begins_kind, extra_lines}
 use Rattle.pep_table.proofs.TableLines.{header_name, kind_line, lines_feed, lines_of_text}
-use Rattle.pep_table.proofs.TableLines.{lines_one, range_lines, table_stops, text_entries}
+use Rattle.texts.proofs.LineLemmas.{lines_one}
+use Rattle.pep_table.proofs.TableLines.{range_lines, table_stops, text_entries}
 use Rattle.pep_table.proofs.TableLines.{text_lines, url_lines}
 use Rattle.pep_table.specs.EntryReading.{head_line}
 use Rattle.demands.proofs.SameLemmas.{one_of_parts}
 use Rattle.demands.specs.Table.{EntryParts, IsValidEntry, IsValidTable, TableParts}
-use Rattle.pep_table.specs.TableText.{IsTableText, range_text}
+use Rattle.pep_table.specs.TableText.{AreTableLines, range_text}
 
 -- ---- lines of one kind
 
@@ -119,9 +120,9 @@ one_table_of_lines (p ∷ s) (q ∷ t) ls h g (verdict, rest, behind, e) (other,
     λ i. (name i, entry.0 i) ∷ others i
 
 -- two valid tables with one text are one table
-pub one_table_of_text : (s t : TableParts) (x : List ℕ) → IsTableText s x → IsTableText t x →
+pub same_lines : (s t : TableParts) (x : List ℕ) → AreTableLines s x → AreTableLines t x →
     IsValidTable s → IsValidTable t → s ≡ t
-one_table_of_text s t x h g v w =
+same_lines s t x h g v w =
     let first = lines_of_text s x h in
     let second = lines_of_text t x g in
     let mine = text_entries s v.names.1 v.entries in

@@ -9,7 +9,7 @@ use Rattle.std.proofs.lemmas.List.Elements.{All-cons, All-head, All-nil, All-pus
 use Rattle.std.proofs.lemmas.List.Elements.{All-weaker}
 use Rattle.texts.proofs.Connectives.{and_first, and_second}
 use Rattle.pep_require.specs.Requirement.{IsAscending}
-use Rattle.pep_table.proofs.Runs.{run_one}
+use Rattle.texts.proofs.CutLists.{run_one}
 use Rattle.pep_table.specs.TableReading.{AreItems, BeginsKind, Front, HasNoFeed, HasNoFront}
 use Rattle.pep_table.specs.TableReading.{kind_front}
 use Rattle.pep_table.specs.TableText.{kind_lines, line}

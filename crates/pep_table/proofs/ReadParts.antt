@@ -13,7 +13,7 @@ use Rattle.pep_table.proofs.CutTexts.{HasCuts, apart, differ, have_cuts, one_ran
 use Rattle.pep_table.proofs.CutTexts.{without_space}
 use Rattle.pep_table.proofs.ReadItems.{cut_one, feed_one, lacks, line_first}
 use Rattle.pep_table.proofs.ReadRanges.{plain_each}
-use Rattle.pep_table.proofs.Runs.{map_one}
+use Rattle.texts.proofs.CutLists.{map_one}
 use Rattle.pep_table.proofs.TableLines.{demanded_plain, header_feed, header_name, name_plain, url_plain}
 use Rattle.demands.specs.declared.verdict.Verdict.{Verdict}
 use Rattle.demands.specs.declared.verdict.Verdict.TheVariants.{Possible, Nothing, Conflict}

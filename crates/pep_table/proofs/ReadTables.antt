@@ -24,13 +24,13 @@ use Rattle.pep_table.specs.EntryReading.{HasNoParts, HasOtherVerdict, HasParts, 
 use Rattle.pep_table.specs.EntryReading.{parts_then, ranges_then, texts_then, urls_then}
 use Rattle.demands.specs.Table.{EntryDemands, EntryParts, IsValidEntry, IsValidTable, TableParts}
 use Rattle.demands.specs.Table.{entry_at, names}
-use Rattle.pep_table.specs.TableText.{IsNoTableText, IsTableText, Shows, entry_text, kind_lines}
+use Rattle.pep_table.specs.TableText.{AreNoLines, AreTableLines, Shows, entry_text, kind_lines}
 use Rattle.pep_table.specs.TableText.{line, range_text}
 use Rattle.demands.specs.Verdict.{verdict_word}
 
 -- ---- an entry's text is its first line and the lines behind it
 
-whole : (name : List ℕ) (verdict : Verdict) (e : EntryParts) (rest : List ℕ) →
+pub whole : (name : List ℕ) (verdict : Verdict) (e : EntryParts) (rest : List ℕ) →
     entry_text name verdict e ++ rest ≡ line (head_line name verdict) ++ parts_then e rest
 whole name verdict e rest =
     regroup (line (head_line name verdict)) (kind_lines (codes "extra") e.extras)
@@ -146,7 +146,7 @@ name_first name verdict rest =
     ∙ append_assoc (name ++ codes " ") (verdict_word verdict) (10 ∷ rest)
     ∙ append_assoc name (codes " ") (verdict_word verdict ++ 10 ∷ rest)
 
-pub table_outside : (t : TableParts) (x : List ℕ) → All IsNormalName (names t) → IsTableText t x →
+pub table_outside : (t : TableParts) (x : List ℕ) → All IsNormalName (names t) → AreTableLines t x →
     ¬ BeginsSpace x
 table_outside [] x h e (rest, b) = cc (e, b)
 table_outside (p ∷ t) x h (verdict, behind, shows, more, e) begins =
@@ -192,9 +192,9 @@ shorter before x name e rest found =
 -- these entries are read, and each table that has the text begins with them
 pub record EntriesSoFar (x : List ℕ) (t : TableParts) (rest : List ℕ) : Type 0 where
   pub valid : IsValidTable t
-  pub done : (s : TableParts) → IsTableText s rest → IsTableText (t ++ s) x
-  pub goes_on : (s : TableParts) → IsValidTable s → IsTableText s x →
-      (more : TableParts) × (s ≡ t ++ more) × IsTableText more rest
+  pub done : (s : TableParts) → AreTableLines s rest → AreTableLines (t ++ s) x
+  pub goes_on : (s : TableParts) → IsValidTable s → AreTableLines s x →
+      (more : TableParts) × (s ≡ t ++ more) × AreTableLines more rest
 
 nothing_left : (l : List ℕ) → length l ≡ 0 → l ≡ []
 nothing_left [] e = refl
@@ -208,19 +208,19 @@ none_read x = record {
 }
 
 module _ (x : List ℕ) (t : TableParts) (rest : List ℕ) (s : EntriesSoFar x t rest) where
-  pub all_read : length rest ≡ 0 → IsTableText t x
+  pub all_read : length rest ≡ 0 → AreTableLines t x
   all_read e =
-      subst (λ l. IsTableText l x) (append-nil t) (s.done [] (nothing_left rest e))
+      subst (λ l. AreTableLines l x) (append-nil t) (s.done [] (nothing_left rest e))
 
   -- the next entry of a table that has the text
-  next_entry : ¬ (rest ≡ []) → (u : TableParts) → IsValidTable u → IsTableText u x →
+  next_entry : ¬ (rest ≡ []) → (u : TableParts) → IsValidTable u → AreTableLines u x →
       (p : List ℕ × EntryParts) × (more : TableParts) × (y : List ℕ) × (u ≡ t ++ p ∷ more)
-      × IsEntryAt (names t) rest p.0 p.1 y × IsTableText more y × ¬ BeginsSpace y
+      × IsEntryAt (names t) rest p.0 p.1 y × AreTableLines more y × ¬ BeginsSpace y
   next_entry some u valid has = let (more, split, left) = s.goes_on u valid has in by more split left
     where
-      by : (more : TableParts) → u ≡ t ++ more → IsTableText more rest →
+      by : (more : TableParts) → u ≡ t ++ more → AreTableLines more rest →
           (p : List ℕ × EntryParts) × (more : TableParts) × (y : List ℕ) × (u ≡ t ++ p ∷ more)
-          × IsEntryAt (names t) rest p.0 p.1 y × IsTableText more y × ¬ BeginsSpace y
+          × IsEntryAt (names t) rest p.0 p.1 y × AreTableLines more y × ¬ BeginsSpace y
       by [] split left = absurd (some left)
       by (p ∷ more) split (verdict, y, shows, left, e) =
           let all = subst IsValidTable split valid in
@@ -243,7 +243,7 @@ module _ (x : List ℕ) (t : TableParts) (rest : List ℕ) (s : EntriesSoFar x t
             table_outside more y (All-tail IsNormalName p.0 (names more) are_names) left,
           )
 
-  pub no_next : ¬ (rest ≡ []) → HasNoNext (names t) rest → IsNoTableText x
+  pub no_next : ¬ (rest ≡ []) → HasNoNext (names t) rest → AreNoLines x
   no_next some none u valid has =
       let next = next_entry some u valid has in none next.0.0 next.0.1 next.2 next.6 next.4
 
@@ -258,7 +258,7 @@ module _ (x : List ℕ) (t : TableParts) (rest : List ℕ) (s : EntriesSoFar x t
       );
       entries = All-push (λ q. IsValidEntry q.1) t (name, e) s.valid.entries found.next.valid;
     };
-    done = λ u has. subst (λ l. IsTableText l x) (sym (append_assoc t ((name, e) ∷ []) u))
+    done = λ u has. subst (λ l. AreTableLines l x) (sym (append_assoc t ((name, e) ∷ []) u))
         (s.done ((name, e) ∷ u)
         (found.next.text.0, behind, found.next.text.1, has, found.next.text.2));
     goes_on = λ u valid has.
@@ -267,7 +267,7 @@ module _ (x : List ℕ) (t : TableParts) (rest : List ℕ) (s : EntriesSoFar x t
           more,
           split ∙ (λ i. t ++ (sym same.0 i, sym same.1 i) ∷ more)
               ∙ sym (append_assoc t ((name, e) ∷ []) more),
-          subst (IsTableText more) (sym same.2) left,
+          subst (AreTableLines more) (sym same.2) left,
         );
   }
 
@@ -292,10 +292,10 @@ none_named x n = record {
 module _ (x n : List ℕ) (last : List (List ℕ)) (found : Option EntryParts) (rest : List ℕ)
     (s : NamedSoFar x n last found rest) where
   pub named_read : length rest ≡ 0 →
-      (t : TableParts) × IsTableText t x × IsValidTable t × (found ≡ entry_at t n)
+      (t : TableParts) × AreTableLines t x × IsValidTable t × (found ≡ entry_at t n)
   named_read e = (s.done, all_read x s.done rest s.entries e, s.entries.valid, s.kept)
 
-  pub no_named : ¬ (rest ≡ []) → HasNoNext last rest → IsNoTableText x
+  pub no_named : ¬ (rest ≡ []) → HasNoNext last rest → AreNoLines x
   no_named some none =
       no_next x s.done rest s.entries some (none_alike (names s.done) last rest s.alike none)
 

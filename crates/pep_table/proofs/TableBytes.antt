@@ -14,14 +14,14 @@ use Rattle.pep_clause.specs.VersionSet.{Range}
 use Rattle.pep_marker.specs.Name.{IsNormalName}
 use Rattle.texts.proofs.RunLemmas.{ascii-class}
 use Rattle.pep_table.proofs.CutTexts.{HasCuts, have_cuts, is_plain, normal_plain}
-use Rattle.pep_table.proofs.Runs.{all_append, each_map}
+use Rattle.texts.proofs.CutLists.{all_append, each_map}
 use Rattle.pep_table.proofs.TableLines.{IsTextEntry, demanded_plain, name_plain, text_entries, url_plain}
 use Rattle.demands.specs.declared.verdict.Verdict.{Verdict}
 use Rattle.demands.specs.declared.verdict.Verdict.TheVariants.{Possible, Nothing, Conflict}
 use Rattle.pep_table.specs.EntryReading.{head_line}
 use Rattle.demands.specs.Table.{EntryParts, IsValidEntry, IsValidTable, TableParts, is_url_text}
 use Rattle.pep_table.specs.TableReading.{kind_front}
-use Rattle.pep_table.specs.TableText.{IsTableText, entry_text, kind_lines, line, range_text}
+use Rattle.pep_table.specs.TableText.{AreTableLines, entry_text, kind_lines, line, range_text}
 use Rattle.demands.specs.Verdict.{verdict_word}
 
 is_small : ℕ → Bool
@@ -115,7 +115,7 @@ entry_small name verdict e n h =
     (joined_small two (kind_lines (codes "url") e.urls)
     (joined_small one (kind_lines (codes "extra") e.extras) first extras) urls) texts) ranges
 
-entries_small : (t : TableParts) (x : List ℕ) → AllByRecursion IsTextEntry t → IsTableText t x →
+entries_small : (t : TableParts) (x : List ℕ) → AllByRecursion IsTextEntry t → AreTableLines t x →
     AreSmall x
 entries_small [] x h e = subst AreSmall (sym e) refl
 entries_small (p ∷ t) x h (verdict, rest, shows, more, e) =
@@ -123,7 +123,7 @@ entries_small (p ∷ t) x h (verdict, rest, shows, more, e) =
     (entry_small p.0 verdict p.1 h.0.0 h.0.1) (entries_small t rest h.1 more))
 
 -- the text of a valid table is UTF-8
-pub table_utf8 : (t : TableParts) (x : List ℕ) → IsValidTable t → IsTableText t x → IsUtf8 x
+pub table_utf8 : (t : TableParts) (x : List ℕ) → IsValidTable t → AreTableLines t x → IsUtf8 x
 table_utf8 t x v h =
     IsUtf8-from_ascii x (ascii-class is_small small x
     (entries_small t x (text_entries t v.names.1 v.entries) h))

@@ -14,14 +14,15 @@ use Rattle.specifiers.specs.Clause.{is_demanded_text}
 use Rattle.pep_marker.specs.Name.{IsNormalName}
 use Rattle.texts.specs.Bytes.{is_letter_or_digit, is_name_byte}
 use Rattle.pep_require.specs.Reads.{is_url_byte}
+use Rattle.texts.specs.Lines.{written}
 use Rattle.pep_table.proofs.CutTexts.{HasCuts, HasNoFeed, have_cuts, is_not_feed, is_not_space}
 use Rattle.pep_table.proofs.CutTexts.{is_plain, range_feed, without_feed, without_space}
-use Rattle.pep_table.proofs.Runs.{Stops, all_append, each_append, each_map, run_one}
+use Rattle.texts.proofs.CutLists.{Stops, all_append, each_append, each_map, run_one}
 use Rattle.demands.specs.declared.verdict.Verdict.{Verdict}
 use Rattle.demands.specs.declared.verdict.Verdict.TheVariants.{Possible, Nothing, Conflict}
 use Rattle.pep_table.specs.EntryReading.{head_line}
 use Rattle.demands.specs.Table.{EntryParts, IsValidEntry, TableParts, is_url_text, names}
-use Rattle.pep_table.specs.TableText.{IsTableText, entry_text, kind_lines, line, range_text}
+use Rattle.pep_table.specs.TableText.{AreTableLines, entry_text, kind_lines, line, range_text}
 use Rattle.demands.specs.Verdict.{verdict_word}
 
 -- ---- the lines of a table, without their line feeds
@@ -46,10 +47,6 @@ abbrev pub AreLines : TableParts → List (List ℕ) → Type 0
 AreLines [] ls = ls ≡ []
 AreLines (p ∷ t) ls = (verdict : Verdict) × (rest : List (List ℕ)) × AreLines t rest
     × (ls ≡ head_line p.0 verdict ∷ extra_lines p.1 rest)
-
--- the text that has these lines
-abbrev pub written : List (List ℕ) → List ℕ
-written ls = concat (map line ls)
 
 kind_then : (kind : List ℕ) (ts ls : List (List ℕ)) →
     kind_lines kind ts ++ written ls ≡ written (map (kind_line kind) ts ++ ls)
@@ -79,7 +76,7 @@ entry_written name verdict e ls =
     ∙ ap (λ (y : List ℕ). first ++ y) (kind_then (codes "extra") e.extras (url_lines e ls))
 
 -- a text of a table has the lines of the table
-pub lines_of_text : (t : TableParts) (x : List ℕ) → IsTableText t x → (ls : List (List ℕ))
+pub lines_of_text : (t : TableParts) (x : List ℕ) → AreTableLines t x → (ls : List (List ℕ))
     × AreLines t ls × (x ≡ written ls)
 lines_of_text [] x h = ([], refl, h)
 lines_of_text (p ∷ t) x (verdict, rest, shows, more, e) =
@@ -89,24 +86,6 @@ lines_of_text (p ∷ t) x (verdict, rest, shows, more, e) =
       e ∙ ap (λ (y : List ℕ). entry_text p.0 verdict p.1 ++ y) behind.2
           ∙ entry_written p.0 verdict p.1 behind.0,
     )
-
--- ---- lines with no line feed are told apart in their text
-
-some_line : {G : Type 0} (l w : List ℕ) → [] ≡ l ++ 10 ∷ [] ++ w → G
-some_line [] w e = cc e
-some_line (b ∷ l) w e = cc e
-
-pub lines_one : (ls ms : List (List ℕ)) → AllByRecursion HasNoFeed ls →
-    AllByRecursion HasNoFeed ms → written ls ≡ written ms → ls ≡ ms
-lines_one [] [] h g e = refl
-lines_one [] (m ∷ ms) h g e = some_line m (written ms) e
-lines_one (l ∷ ls) [] h g e = some_line l (written ls) (sym e)
-lines_one (l ∷ ls) (m ∷ ms) h g e =
-    let both = run_one is_not_feed l (10 ∷ written ls) m (10 ∷ written ms) h.0 g.0 refl refl
-    (sym (append_assoc l (10 ∷ []) (written ls)) ∙ e ∙ append_assoc m (10 ∷ []) (written ms)) in
-    let behind : written ls ≡ written ms = cc both.1 in
-    let rest = lines_one ls ms h.1 g.1 behind in
-    λ i. both.0 i ∷ rest i
 
 -- ---- the texts that stand in lines
 

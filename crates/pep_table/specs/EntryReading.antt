@@ -1,4 +1,4 @@
--- What stands in front of a text of a table: an entry.
+-- What stands in front of a table's lines: an entry.
 use Rattle.std.specs.Prelude.{◌≡◌, ◌↔◌, ℕ, codes, List, [], ◌∷◌, ◌++◌, map, Option}
 use Rattle.std.specs.Borrow.{Bor}
 use Rattle.std.specs.Option.{option_copied, option_to_list}
@@ -9,7 +9,7 @@ use Rattle.demands.specs.Table.{EntryParts, IsValidEntry}
 use Rattle.pep_table.specs.TableText.{Shows, entry_text, kind_lines, line, range_text}
 use Rattle.demands.specs.Verdict.{verdict_word}
 
--- as no text of a table does
+-- as no lines of a table do
 abbrev pub BeginsSpace : List ℕ → Type 0
 BeginsSpace x = (rest : List ℕ) × (x ≡ 32 ∷ rest)
 

@@ -21,15 +21,23 @@ use Rattle.demands.proofs.Verdicts.{verdict_one}
 use Rattle.demands.specs.Demand.{Demand, Demands, HaveSameDemands, clause, extra, url}
 use Rattle.demands.specs.Table.{EntryDemands, EntryParts, IsEntry, IsTable}
 use Rattle.demands.specs.Table.{IsValidEntry, TableParts, entry_at, names}
-use Rattle.pep_table.specs.TableText.{IsTableText, entry_text}
+use Rattle.pep_marker.specs.Environment.{EnvironmentParts}
+use Rattle.pep_marker.specs.Header.{header}
+use Rattle.pep_table.specs.TableText.{AreTableLines, IsTableText, entry_text}
 
--- a table has one text
-pub one_table_text : (t : TableParts) (x y : List ℕ) → IsTableText t x → IsTableText t y → x ≡ y
-one_table_text [] x y h g = h ∙ sym g
-one_table_text (p ∷ t) x y h g =
+-- a table's lines are one text
+pub one_list_of_lines : (t : TableParts) (x y : List ℕ) → AreTableLines t x → AreTableLines t y → x ≡ y
+one_list_of_lines [] x y h g = h ∙ sym g
+one_list_of_lines (p ∷ t) x y h g =
     let verdict : h.0 ≡ g.0 = verdict_one (EntryDemands p.1) h.0 g.0 h.2 g.2 in
-    let rest : h.1 ≡ g.1 = one_table_text t h.1 g.1 h.3 g.3 in
+    let rest : h.1 ≡ g.1 = one_list_of_lines t h.1 g.1 h.3 g.3 in
     h.4 ∙ (λ i. entry_text p.0 (verdict i) p.1 ++ rest i) ∙ sym g.4
+
+-- .. and so it has one text in an environment
+pub one_text_in : (e : EnvironmentParts) (t : TableParts) (x y : List ℕ) → IsTableText e t x →
+    IsTableText e t y → x ≡ y
+one_text_in e t x y (ls, h, at) (ms, g, is) =
+    at ∙ ap (λ z. header e ++ z) (one_list_of_lines t ls ms h g) ∙ sym is
 
 -- ---- entries of the same demands are one
 
@@ -208,8 +216,8 @@ pub same_table_of : (Q W : Demands) (t s : TableParts) → HaveSameDemands Q W �
 same_table_of Q W t s same h g =
     one_table t s h.valid.names.0 g.valid.names.0 (same_entry_at Q W t s same h g)
 
-pub one_text : (Q W : Demands) (t s : TableParts) (x y : List ℕ) → HaveSameDemands Q W →
-    IsTable Q t → IsTable W s → IsTableText t x → IsTableText s y → x ≡ y
-one_text Q W t s x y same h g tx sy =
-    one_table_text s x y (subst (λ (u : TableParts). IsTableText u x)
+pub one_text : (e : EnvironmentParts) (Q W : Demands) (t s : TableParts) (x y : List ℕ) →
+    HaveSameDemands Q W → IsTable Q t → IsTable W s → IsTableText e t x → IsTableText e s y → x ≡ y
+one_text e Q W t s x y same h g tx sy =
+    one_text_in e s x y (subst (λ (u : TableParts). IsTableText e u x)
     (same_table_of Q W t s same h g) tx) sy

@@ -1,15 +1,12 @@
--- What stands in front of a text of a table.
+-- What stands in front of a table's lines.
 use Rattle.std.specs.Prelude.{◌≡◌, ℕ, ◌==◌, not, true, codes, List, ◌++◌, All, map}
 use Rattle.std.specs.List.{list_all}
 use Rattle.std.specs.declared.cmp.Ordering.TheVariants.{Less}
 use Rattle.pep_clause.specs.Cut.{IsCut, cut_cmp}
 use Rattle.pep_clause.specs.VersionSet.{IsNormal, Range}
 use Rattle.pep_require.specs.Requirement.{IsAscending}
+pub use Rattle.texts.specs.Lines.{HasNoFeed}
 use Rattle.pep_table.specs.TableText.{kind_lines, range_text}
-
--- no line feed stands in the text
-abbrev pub HasNoFeed : List ℕ → Type 0
-HasNoFeed x = list_all (λ b. not (b == 10)) x ≡ true
 
 -- what a line of the kind begins with
 abbrev pub kind_front : List ℕ → List ℕ

@@ -10,7 +10,7 @@ ghost use Rattle.demands.specs.declared.verdict.Verdict.{Verdict};
 ghost use Rattle.pep_table.specs.TableText.{IsTableText, Shows, entry_text};
 
 use crate::table::Table;
-use crate::text::push_entry;
+use crate::text::{header_of, push_entry};
 use demands::{Entry, Kept, PackageDemands, TableFault};
 use pep_marker::{Environment, MarkerFault, Name};
 use pep_require::Requirement;
@@ -150,13 +150,13 @@ impl Gathering {
         Ok(Table::of_entries(entries))
     }
 
-    /// The text of the table of what is demanded: that of [`Table::text`], without the memory that
-    /// the table takes. The only fault is `NoMemory`, 42.
-    pub fn text(self, alloc: Global) -> Result<String, TableFault>
-        ensures text { IfOk result (λ text. IsTableText self (string_bytes text)) }
+    /// The text of the table of what is demanded in the environment: that of [`Table::text`], without
+    /// the memory that the table takes. The only fault is `NoMemory`, 42.
+    pub fn text(self, alloc: Global, environment: &Environment) -> Result<String, TableFault>
+        ensures text { IfOk result (λ text. IsTableText environment.now self (string_bytes text)) }
         ensures faults { IfErr result (λ e. e ≡ TableFault.NoMemory) }
     {
-        let mut text = String::new(alloc);
+        let mut text = header_of(alloc, environment)?;
         for (name, gathered) in self.entries {
             push_gathered(alloc, &mut text, &name, gathered)?;
         }

@@ -3,7 +3,8 @@
 ghost use Rattle.std.specs.Prelude.{◌≡◌, ◌↔◌, ℕ, [], Bool, Contains, IsUtf8, List};
 ghost use Rattle.std.specs.List.{AllZip};
 ghost use Rattle.pep_version.specs.Version.{IsVersion, Version};
-ghost use Rattle.pep_marker.specs.Environment.{EnvironmentParts};
+ghost use Rattle.pep_marker.specs.Environment.{EnvironmentParts, IsEnvironment};
+ghost use Rattle.pep_marker.specs.Header.{header};
 ghost use Rattle.demands.specs.Answer.{IsAnswer};
 ghost use Rattle.demands.specs.Demand.{
   ApplyingDemands,
@@ -32,26 +33,33 @@ ghost use Rattle.demands.specs.Table.{
   TableParts,
 };
 ghost use Rattle.pep_table.specs.EntryRanges.{HasFewEntryRanges};
-ghost use Rattle.pep_table.specs.TableText.{IsTableText};
+ghost use Rattle.pep_table.specs.TableText.{AreTableLines, IsReadAs, IsTableText};
 ghost use Rattle.demands.specs.Verdict.{IsVerdict};
 ghost use Rattle.pep_require.specs.Requirement.{IsAscending, RequirementParts};
 
 use demands::{Answer, Join, Verdict};
 
-/// A table has one text.
+/// A table has one text in an environment.
 pub fn one_table_text()
-    ensures { (t : TableParts) (x y : List ℕ) → IsTableText t x → IsTableText t y → x ≡ y }
+    ensures { (e : EnvironmentParts) (t : TableParts) (x y : List ℕ) → IsTableText e t x
+        → IsTableText e t y → x ≡ y }
 {}
 
-/// A text is that of one table.
+/// A text is that of one table, in environments of one header, and no table's lines; and it is read as
+/// one table in an environment.
 pub fn one_table_of_text()
-    ensures { (s t : TableParts) (x : List ℕ) → IsTableText s x → IsTableText t x
-        → IsValidTable s → IsValidTable t → s ≡ t }
+    ensures read { (e : EnvironmentParts) (s t : TableParts) (x : List ℕ) → IsReadAs e s x
+        → IsReadAs e t x → IsValidTable s → IsValidTable t → s ≡ t }
+    ensures printed { (e f : EnvironmentParts) (s t : TableParts) (x : List ℕ) → IsEnvironment e
+        → IsEnvironment f → IsTableText e s x → IsTableText f t x → IsValidTable s
+        → IsValidTable t → (s ≡ t) × (header e ≡ header f) }
+    ensures apart { (f : EnvironmentParts) (s t : TableParts) (x : List ℕ) → IsTableText f s x
+        → IsValidTable t → ¬ AreTableLines t x }
 {}
 
-/// The text of a table is UTF-8.
-pub fn table_text_is_utf8()
-    ensures { (t : TableParts) (x : List ℕ) → IsValidTable t → IsTableText t x → IsUtf8 x }
+/// The lines of a table are UTF-8.
+pub fn table_lines_are_utf8()
+    ensures { (t : TableParts) (x : List ℕ) → IsValidTable t → AreTableLines t x → IsUtf8 x }
 {}
 
 /// The union of sorted lists of texts does not depend on order, grouping and repeats.
@@ -79,7 +87,7 @@ pub fn merge_steps()
         → AllZip (MakesTable e) trees ts → JoinsAll IsValidTable JoinsTables s ts r
         → MakesTable e (all_joined a trees) r }
     ensures read { (e : EnvironmentParts) (a : MergeTree) (s t : TableParts) (x : List ℕ)
-        → MakesTable e a s → IsTableText s x → IsTableText t x → IsValidTable t
+        → MakesTable e a s → IsTableText e s x → IsReadAs e t x → IsValidTable t
         → MakesTable e (printed a) t }
 {}
 

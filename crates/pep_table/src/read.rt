@@ -20,14 +20,24 @@ ghost use Rattle.pep_table.specs.EntryReading.{
 };
 ghost use Rattle.demands.specs.Table.{IsValidTable, TableParts, entry_at, names};
 ghost use Rattle.pep_table.specs.NamedEntry.{entry_alone};
-ghost use Rattle.pep_table.specs.TableText.{IsBadTable, IsNoTableText, IsTableText, Shows};
+ghost use Rattle.pep_marker.specs.Environment.{IsEnvironment};
+ghost use Rattle.pep_marker.specs.Header.{FindsHeader};
+ghost use Rattle.pep_table.specs.TableText.{
+  AreNoLines,
+  AreTableLines,
+  DecidesText,
+  IsBadLine,
+  IsReadAs,
+  IsRefusedAsTable,
+  Shows,
+};
 ghost use Rattle.demands.specs.Verdict.{verdict_word};
 
 use crate::read::items::{Extras, TextLines, listed_name, read_items};
 use crate::read::ranges::read_ranges;
 use crate::table::Table;
 use demands::{Entry, TableFault, Verdict};
-use pep_marker::Name;
+use pep_marker::{Environment, HeaderIn, Name};
 use std::alloc::{AllocError, AllocFailed, Global};
 
 /// Why reading stops: memory is wanting, or the line in front of this text can't stand there.
@@ -188,11 +198,11 @@ fn read_entry<'a>(
     }
 }
 
-// The entries of a table's text.
+// The entries of a table's lines.
 fn read_entries(alloc: Global, text: &str) -> Result<Vec<(Name, Entry)>, Halt<'_>>
     ensures ok { IfOk result (λ entries. IsValidTable entries.items
-        × IsTableText entries.items text.now) }
-    ensures refused { IfErr result (λ e. (e ≡ Halt.NoMemory) ⊎ IsNoTableText text.now) }
+        × AreTableLines entries.items text.now) }
+    ensures refused { IfErr result (λ e. (e ≡ Halt.NoMemory) ⊎ AreNoLines text.now) }
 {
     let mut entries = Vec::new(alloc);
     let mut rest = text;
@@ -212,12 +222,12 @@ fn found_with(found: Option<Entry>, wanted: &Name, name: &Name, entry: Entry) ->
     if *name == *wanted { Some(entry) } else { found }
 }
 
-// The entry of the wanted name in a table's text, if there is one. All entries are read, and the
+// The entry of the wanted name in a table's lines, if there is one. All entries are read, and the
 // others dropped.
 fn read_wanted<'a>(alloc: Global, text: &'a str, wanted: &Name) -> Result<Option<Entry>, Halt<'a>>
-    ensures ok { IfOk result (λ found. (t : TableParts) × IsTableText t text.now
+    ensures ok { IfOk result (λ found. (t : TableParts) × AreTableLines t text.now
         × IsValidTable t × (found ≡ entry_at t wanted.now)) }
-    ensures refused { IfErr result (λ e. (e ≡ Halt.NoMemory) ⊎ IsNoTableText text.now) }
+    ensures refused { IfErr result (λ e. (e ≡ Halt.NoMemory) ⊎ AreNoLines text.now) }
 {
     let mut last = None;
     let mut found = None;
@@ -244,38 +254,129 @@ fn line_number(text: &str, rest: &str) -> usize {
     }
 }
 
+// The number of the line that is told where this rest of a header can't stand: that at which it
+// begins, and where nothing is left the last one.
+fn bad_header_line(text: &str, rest: &str) -> usize {
+    let number = line_number(text, rest);
+    if rest.is_empty() {
+        number.saturating_sub(1)
+    } else {
+        number
+    }
+}
+
+// The fault of a text that can't be read as a table's lines.
+fn halted(text: &str, halt: Halt<'_>) -> TableFault
+    ensures memory { halt.entry ≡ Halt.NoMemory → result ≡ TableFault.NoMemory }
+    ensures line { (result ≡ TableFault.NoMemory) ⊎ IsBadLine result }
+{
+    match halt {
+        Halt::NoMemory => TableFault::NoMemory,
+        Halt::At(rest) => TableFault::BadTable(line_number(text, rest)),
+    }
+}
+
+// The table of these lines, with which the text ends.
+fn table_of_lines(alloc: Global, text: &str, lines: &str) -> Result<Table, TableFault>
+    ensures lines { IfOk result (λ t. AreTableLines t lines.now) }
+    ensures valid { IfOk result (λ t. IsValidTable t) }
+    ensures refused { IfErr result (λ e. (e ≡ TableFault.NoMemory)
+        ⊎ (IsBadLine e × AreNoLines lines.now)) }
+{
+    match read_entries(alloc, lines) {
+        Ok(entries) => Ok(Table::of_entries(entries)),
+        Err(halt) => Err(halted(text, halt)),
+    }
+}
+
+// Why a text is refused that has the header of another environment, which differs at this line,
+// and these lines behind it.
+fn other_fault(alloc: Global, text: &str, number: usize, lines: &str) -> TableFault
+    ensures { (result ≡ TableFault.NoMemory)
+        ⊎ ((result ≡ TableFault.OtherEnvironment number)
+        × (t : TableParts) × IsValidTable t × AreTableLines t lines.now)
+        ⊎ (IsBadLine result × AreNoLines lines.now) }
+{
+    match table_of_lines(alloc, text, lines) {
+        Ok(_) => TableFault::OtherEnvironment(number),
+        Err(fault) => fault,
+    }
+}
+
+// What stands in front of the text, seen from the environment.
+fn header_in<'a>(
+    alloc: Global,
+    text: &'a str,
+    environment: &Environment,
+) -> Result<HeaderIn<'a>, TableFault>
+    ensures found { IfOk result (FindsHeader environment.now text.now) }
+    ensures environment { IsEnvironment environment.now }
+    ensures faults { IfErr result (λ e. e ≡ TableFault.NoMemory) }
+{
+    match environment.header_in(alloc, text) {
+        Ok(found) => Ok(found),
+        Err(_) => Err(TableFault::NoMemory),
+    }
+}
+
+// The lines with which the text ends of a table in the environment: those behind its header, or all.
+fn lines_in<'a>(
+    alloc: Global,
+    text: &'a str,
+    environment: &Environment,
+) -> Result<&'a str, TableFault>
+    ensures lines { IfOk result (λ lines. DecidesText environment.now text.now lines.now) }
+    ensures refused { IfErr result (λ e. (e ≡ TableFault.NoMemory)
+        ⊎ IsRefusedAsTable environment.now text.now e) }
+{
+    match header_in(alloc, text, environment)? {
+        HeaderIn::Missing => Ok(text),
+        HeaderIn::Own(lines) => Ok(lines),
+        HeaderIn::Other(number, lines) => Err(other_fault(alloc, text, number, lines)),
+        HeaderIn::Bad(rest) => Err(TableFault::BadTable(bad_header_line(text, rest))),
+    }
+}
+
 impl Table {
-    /// The table whose text this is, as `Table::text` writes it, the verdict words included. The
-    /// fault `BadTable`, 41, names the first line, counted from 1, that can't stand after those
-    /// before it: for a wrong verdict the first line of its entry, unless the line behind the entry
-    /// can't stand there; for a last line without a line feed that line. Any other is `NoMemory`, 42.
-    pub fn read(alloc: Global, text: &str) -> Result<Table, TableFault>
-        ensures text { IfOk result (λ t. IsTableText t text.now) }
+    /// The table whose text this is in the environment, as `Table::text` writes it, the verdict words
+    /// included, or whose lines alone it is.
+    ///
+    /// The fault `OtherEnvironment`, 43, is that of the text of a table in another environment: it
+    /// names the first line that differs from the header of this one. `BadTable`, 41, is that of any
+    /// other text: it names the first line that can't stand after those before it, in a header too, and
+    /// of a header that ends too early the last one; for a wrong verdict
+    /// the first line of its entry, unless the line behind the entry can't stand there; for a last line
+    /// without a line feed that line. Lines are counted from 1. Any other is `NoMemory`, 42.
+    pub fn read(alloc: Global, text: &str, environment: &Environment) -> Result<Table, TableFault>
+        ensures text { IfOk result (λ t. IsReadAs environment.now t text.now) }
         ensures valid { IfOk result (λ t. IsValidTable t) }
         ensures refused { IfErr result (λ e. (e ≡ TableFault.NoMemory)
-            ⊎ IsBadTable text.now e) }
+            ⊎ IsRefusedAsTable environment.now text.now e) }
     {
-        match read_entries(alloc, text) {
-            Ok(entries) => Ok(Table::of_entries(entries)),
-            Err(Halt::NoMemory) => Err(TableFault::NoMemory),
-            Err(Halt::At(rest)) => Err(TableFault::BadTable(line_number(text, rest))),
-        }
+        let lines = lines_in(alloc, text, environment)?;
+        table_of_lines(alloc, text, lines)
     }
 
-    /// What the table whose text this is has of one name: a table of its entry alone, or of nothing
-    /// where there is none. The whole text is read, and refused as by [`Table::read`]; of the other
-    /// entries none is kept.
-    pub fn read_named(alloc: Global, text: &str, name: &Name) -> Result<Table, TableFault>
-        ensures text { IfOk result (λ part. (t : TableParts) × IsTableText t text.now
+    /// What the table has of one name whose text this is in the environment, or whose lines: a table
+    /// of its entry alone, or of nothing where there is none. The whole text is read, and refused as
+    /// by [`Table::read`]; of the other entries none is
+    /// kept, but while the text of another environment is judged.
+    pub fn read_named(
+        alloc: Global,
+        text: &str,
+        environment: &Environment,
+        name: &Name,
+    ) -> Result<Table, TableFault>
+        ensures text { IfOk result (λ part. (t : TableParts) × IsReadAs environment.now t text.now
             × IsValidTable t × (part ≡ entry_alone name.now (entry_at t name.now))) }
         ensures valid { IfOk result (λ part. IsValidTable part) }
         ensures refused { IfErr result (λ e. (e ≡ TableFault.NoMemory)
-            ⊎ IsBadTable text.now e) }
+            ⊎ IsRefusedAsTable environment.now text.now e) }
     {
-        match read_wanted(alloc, text, name) {
+        let lines = lines_in(alloc, text, environment)?;
+        match read_wanted(alloc, lines, name) {
             Ok(found) => Table::alone(alloc, name, found),
-            Err(Halt::NoMemory) => Err(TableFault::NoMemory),
-            Err(Halt::At(rest)) => Err(TableFault::BadTable(line_number(text, rest))),
+            Err(halt) => Err(halted(text, halt)),
         }
     }
 }

@@ -2,6 +2,7 @@
 
 ghost use Rattle.std.specs.Prelude.{◌≡◌, ◌++◌, codes, string_bytes, IfErr, IfOk, OnOk, map};
 ghost use Rattle.pep_clause.specs.Cut.{cut_text};
+ghost use Rattle.pep_marker.specs.Header.{header};
 ghost use Rattle.pep_table.specs.TableText.{
   IsTableText,
   Shows,
@@ -15,7 +16,7 @@ ghost use Rattle.demands.specs.Verdict.{verdict_word};
 use crate::table::Table;
 use demands::{Entry, Kept, TableFault, Verdict};
 use pep_clause::{Cut, Range};
-use pep_marker::Name;
+use pep_marker::{Environment, Name};
 use std::alloc::Global;
 
 fn push_line(text: &mut String, kind: &str, value: &str) -> Result<(), TableFault>
@@ -122,15 +123,28 @@ pub(crate) fn push_entry(
     push_lines(text, name, verdict, entry)
 }
 
+/// The header of the environment.
+pub(crate) fn header_of(alloc: Global, environment: &Environment) -> Result<String, TableFault>
+    ensures text { IfOk result (λ text. string_bytes text ≡ header environment.now) }
+    ensures faults { IfErr result (λ e. e ≡ TableFault.NoMemory) }
+{
+    match environment.header(alloc) {
+        Ok(text) => Ok(text),
+        Err(_) => Err(TableFault::NoMemory),
+    }
+}
+
 impl Table {
-    /// The text of the table: for each name in byte order a line with its verdict (`open`, `none`,
-    /// `conflict`), and below it, indented by two spaces, a line for each extra, URL, demanded text
-    /// and range of versions. The only fault is `NoMemory`, 42.
-    pub fn text(&self, alloc: Global) -> Result<String, TableFault>
-        ensures text { IfOk result (λ text. IsTableText self.now (string_bytes text)) }
+    /// The text of the table in the environment: its header (see [`Environment::header`]), and behind
+    /// it for each name in byte order a line with its verdict (`open`, `none`, `conflict`), and below
+    /// it, indented by two spaces, a line for each extra, URL, demanded text and range of versions.
+    /// The only fault is `NoMemory`, 42.
+    pub fn text(&self, alloc: Global, environment: &Environment) -> Result<String, TableFault>
+        ensures text { IfOk result (λ text.
+            IsTableText environment.now self.now (string_bytes text)) }
         ensures faults { IfErr result (λ e. e ≡ TableFault.NoMemory) }
     {
-        let mut text = String::new(alloc);
+        let mut text = header_of(alloc, environment)?;
         for (name, entry) in self.entries() {
             push_entry(alloc, &mut text, name, entry)?;
         }

@@ -60,7 +60,7 @@ fault_line-no_memory = refl
 pub merges_input : {A : Type 0} (text_of : A → List ℕ) (r : Result A Fault)
     (left after : Option (List ℕ)) (e : EnvironmentParts) (t : TableParts) →
     e ≡ standard_environment → ReadsTable e left after t →
-    IfOk r (λ text. IsTableText t (text_of text)) →
+    IfOk r (λ text. IsTableText e t (text_of text)) →
     IfOk r (λ text. MergesInput left after (text_of text))
 merges_input text_of (Ok text) left after e t standard read h = record {
   bytes = read.bytes;
@@ -68,7 +68,7 @@ merges_input text_of (Ok text) left after e t standard read h = record {
   whole = read.whole;
   table = t;
   of_list = of_list;
-  is_text = h;
+  is_text = subst (λ d. IsTableText d t (text_of text)) standard h;
   verdicts = shows_verdicts (BytesDemand standard_environment kind.List None read.bytes) t
       of_list.is_table;
 }

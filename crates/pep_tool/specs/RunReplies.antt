@@ -50,7 +50,7 @@ pub record MergesInput (left after : Option (List ℕ)) (text : List ℕ) : Type
   pub whole : IsAtEnd after
   pub table : TableParts
   pub of_list : IsTableOfList standard_environment bytes table
-  pub is_text : IsTableText table text
+  pub is_text : IsTableText standard_environment table text
   pub verdicts : ShowsVerdicts (BytesDemand standard_environment kind.List None bytes) table
 
 -- ---- versions and names among the words
@@ -108,15 +108,16 @@ pub record IsAsked (c : CheckRequest) (v : Version) (n : List ℕ) : Type 0 wher
   pub version : Reads c.version (Ok v)
   pub name : name_of c.name ≡ Some n
 
-abbrev pub answer_line : Answer → List ℕ
-answer_line Yes = codes "yes\n"
-answer_line No = codes "no\n"
-answer_line Conflict = codes "conflict\n"
-
 -- the exit status: 0 exactly where the version meets the requirements
 abbrev pub answer_status : Answer → ℕ
 answer_status Yes = 0
 answer_status _ = 1
+
+-- what is printed
+abbrev pub answer_line : Answer → List ℕ
+answer_line Yes = codes "yes\n"
+answer_line No = codes "no\n"
+answer_line Conflict = codes "conflict\n"
 
 -- ---- what files are asked for
 

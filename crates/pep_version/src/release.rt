@@ -16,7 +16,7 @@ pub(crate) fn release_numbers(alloc: Global, text: &[u8]) -> Result<Vec<u64>, Ve
     requires { IsTrue (list_all is_number (dotted_parts text.now)) }
     ensures { NumbersOf (map (digits_value 10) (dotted_parts text.now)) result }
 {
-    // As much room as the first of them would make.
+    // As much room as pushing the first number would make.
     let mut numbers = Vec::with_capacity(alloc, 4)?;
     let mut rest = Some(text);
     while let Some(text) = rest {

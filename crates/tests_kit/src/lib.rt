@@ -9,5 +9,5 @@ mod numbers;
 
 pub use crate::faults::REQUIRE_FAULTS;
 pub use crate::long_texts::{push_numbered, repeated};
-pub use crate::machine::MACHINE;
+pub use crate::machine::{MACHINE, MACHINE_HEADER, STANDARD_HEADER};
 pub use crate::numbers::Numbers;

@@ -1,6 +1,7 @@
 //! One module a subject.
 
 mod codes;
+mod headers;
 mod large_tables;
 mod lines;
 mod printed;

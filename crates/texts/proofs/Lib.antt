@@ -3,3 +3,5 @@ pub mod SplitLemmas
 pub mod ListLemmas
 pub mod SpaceLemmas
 pub mod RunLemmas
+pub mod CutLists
+pub mod LineLemmas

@@ -4,3 +4,4 @@ pub mod Space
 pub mod Split
 pub mod Runs
 pub mod Limits
+pub mod Lines

@@ -10,7 +10,7 @@ ghost use Rattle.pep_clause.specs.OperatorTable.{past_release};
 
 use crate::cut::Cut;
 use pep_version::{Version, VersionFault};
-use specifiers::ClauseFault;
+use specifiers::{ClauseFault, is_final};
 use std::alloc::Global;
 
 // Whether the release has no zero at its end beyond its first number.
@@ -21,16 +21,6 @@ fn is_short(release: &[u64]) -> bool
         [_, .., last] => *last != 0,
         _ => true,
     }
-}
-
-// Whether the version is an epoch and a release, and nothing more.
-fn is_final(version: &Version) -> bool
-    ensures { result ≡ is_final version.now }
-{
-    version.pre().is_none()
-        && version.post().is_none()
-        && version.dev().is_none()
-        && version.label().is_empty()
 }
 
 // The version, if it is at its own place and this is its normal text: a cut's text has no other.

@@ -188,7 +188,7 @@ fn merge_input<S: Source>(alloc: Global, source: &mut S) -> Result<String, Fault
 {
     let environment = standard_environment(alloc)?;
     let gathering = gather_reader(alloc, source, &environment)?;
-    text_of(alloc, gathering)
+    text_of(alloc, gathering, &environment)
 }
 
 // The requirements that a list or a project file has, without an extra, or of a dependency group.

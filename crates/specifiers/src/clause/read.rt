@@ -29,8 +29,9 @@ fn ends_in_space(text: &str) -> bool
     without_trailing_space(text).len() != text.len()
 }
 
-// Whether the version is an epoch and a release, and nothing more.
-fn is_final(version: &Version) -> bool
+/// Whether the version is an epoch and a release, and nothing more: a final release (PEP 440, "Final
+/// releases"). Public for the crate of cuts and sets, in whose texts such versions stand.
+pub fn is_final(version: &Version) -> bool
     ensures { result ≡ is_final version.now }
 {
     version.pre().is_none()

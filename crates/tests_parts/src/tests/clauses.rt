@@ -1,8 +1,8 @@
 //! Clauses: what is read and what is refused, how they are written, and which versions they admit.
 
 use crate::tests::lines::{expect, expect_row, expect_same};
-use pep_clause::{Clause, ClauseFault, Op, laws};
-use pep_version::Version;
+use pep_clause::{Clause, ClauseFault, Op, is_final, laws};
+use pep_version::{Version, VersionFault};
 use std::alloc::Global;
 use std::test::Fail;
 use texts::{clause_run, is_clause_byte};
@@ -162,6 +162,28 @@ fn is_copied(alloc: Global, text: &str, operator: Op) -> Result<bool, ClauseFaul
 fn copies_clauses(rt: HostRuntime) -> Result<(), Fail> {
     for &(text, operator) in &COPIED {
         expect(&rt, text, is_copied(rt.alloc(), text, operator)?);
+    }
+    Ok(())
+}
+
+// Versions, and whether they are an epoch and a release alone (PEP 440, "Final releases").
+const FINAL: [(&str, bool); 6] = [
+    ("1.0", true),
+    ("1!2.0", true),
+    ("1.0a1", false),
+    ("1.0.post1", false),
+    ("1.0.dev1", false),
+    ("1.0+x", false),
+];
+
+fn is_final_text(alloc: Global, text: &str) -> Result<bool, VersionFault> {
+    Ok(is_final(&Version::read(alloc, text)?))
+}
+
+#[test]
+fn final_versions(rt: HostRuntime) -> Result<(), Fail> {
+    for &(text, wanted) in &FINAL {
+        expect(&rt, text, is_final_text(rt.alloc(), text)? == wanted);
     }
     Ok(())
 }

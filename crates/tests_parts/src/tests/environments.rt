@@ -2,11 +2,11 @@
 //! texts beside `extra`.
 
 use crate::tests::lines::{expect, expect_row, expect_same};
-use pep_marker::{Environment, MarkerFault, Variable, norm_of};
+use pep_marker::{Environment, MarkerFault, Variable, laws, norm_of};
 use std::alloc::{AllocError, Global};
 use std::process::Abort;
 use std::test::Fail;
-use tests_kit::{MACHINE, repeated};
+use tests_kit::{MACHINE, MACHINE_HEADER, repeated};
 
 const VARIABLES: [Variable; 11] = [
     Variable::OsName,
@@ -68,6 +68,31 @@ fn machine_from_behind(alloc: Global) -> Result<Environment, MarkerFault> {
 fn extra_and_order(rt: HostRuntime) -> Result<(), Fail> {
     let environment = machine_from_behind(rt.alloc())?;
     expect_machine(&rt, &environment, "Dev_Tools");
+    Ok(())
+}
+
+// Extras, and the last line of a header with each.
+const LAST_LINES: [(&str, &str); 4] = [
+    ("", "env extra=\n"),
+    ("dev-tools", "env extra=dev-tools\n"),
+    ("Dev_Tools", "env extra=dev-tools\n"),
+    ("a=b \u{e9}", "env extra=a=b \u{e9}\n"),
+];
+
+// Whether the header of the machine with this extra has this last line, and else that of the machine.
+fn has_header(alloc: Global, extra: &'static str, last: &str) -> Result<bool, MarkerFault> {
+    let mut pairs = pairs_without(alloc, 11, 11)?;
+    pairs.push(("extra", extra))?;
+    let header = Environment::of(alloc, &pairs)?.header(alloc)?;
+    Ok(header.as_str().strip_suffix(last) == MACHINE_HEADER.strip_suffix("env extra=\n"))
+}
+
+#[test]
+fn headers(rt: HostRuntime) -> Result<(), Fail> {
+    for &(extra, last) in &LAST_LINES {
+        expect(&rt, extra, has_header(rt.alloc(), extra, last)?);
+    }
+    laws::one_header();
     Ok(())
 }
 

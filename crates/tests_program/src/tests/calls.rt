@@ -8,7 +8,7 @@ use pep_tool::{ArgumentFault, Fault, Input, Kind, check_bytes, list_of, merge_by
 use pep_version::Version;
 use std::alloc::{AllocError, Global};
 use std::test::Fail;
-use tests_kit::MACHINE;
+use tests_kit::{MACHINE, MACHINE_HEADER, STANDARD_HEADER};
 
 /// An input's kind and its text.
 pub(crate) type Part<'a> = (Kind, &'a str);
@@ -37,10 +37,15 @@ pub(crate) fn inputs_of(alloc: Global, parts: &[Part]) -> Result<Vec<Input>, All
     Ok(inputs)
 }
 
-/// The text, or the line of the fault.
-pub(crate) fn text_or_fault(alloc: Global, found: Result<String, Fault>) -> Result<String, Fault> {
+/// What stands behind the header of the machine in the text of a table.
+pub(crate) fn lines_behind(text: &str) -> &str {
+    text.strip_prefix(MACHINE_HEADER).unwrap_or("no header")
+}
+
+/// What stands there in the text, or the line of the fault.
+pub(crate) fn lines_or_fault(alloc: Global, found: Result<String, Fault>) -> Result<String, Fault> {
     match found {
-        Ok(text) => Ok(text),
+        Ok(text) => Ok(String::from_str(alloc, lines_behind(text.as_str()))?),
         Err(fault) => fault.text(alloc),
     }
 }
@@ -50,10 +55,10 @@ fn merged(alloc: Global, inputs: &[Input]) -> Result<String, Fault> {
     merge_bytes(alloc, inputs, &machine(alloc)?)
 }
 
-// The same, or the line of the fault.
+// Its lines, or the line of the fault.
 fn table_line(alloc: Global, parts: &[Part]) -> Result<String, Fault> {
     let inputs = inputs_of(alloc, parts)?;
-    text_or_fault(alloc, merged(alloc, inputs.as_slice()))
+    lines_or_fault(alloc, merged(alloc, inputs.as_slice()))
 }
 
 const LIST: Part = (Kind::List, "Flask!=2.1\n");
@@ -65,10 +70,20 @@ const TABLE: Part = (
     "flask open\n  range before 0.dev0 to before 3.dev0\n",
 );
 
+// Empty tables of the machine, and of another one.
+const HERE: Part = (Kind::Table, MACHINE_HEADER);
+
+const ELSEWHERE: Part = (Kind::Table, STANDARD_HEADER);
+
 const FAULTY: Part = (Kind::List, "flask>=2.0\nFlask<\n");
 
-const TABLES: [(&[Part], &str); 3] = [
+const TABLES: [(&[Part], &str); 5] = [
     (&[], ""),
+    (&[HERE, HERE], ""),
+    (
+        &[HERE, ELSEWHERE, FAULTY],
+        "refused input 2 line 4 code 57 43\n",
+    ),
     (
         &[LIST, PROJECT, TABLE],
         "flask open\n  range before 2 to before 2.1\n  range before 2.1.post0.dev0 to before 3.dev0\n",
@@ -119,8 +134,15 @@ fn answer_line(
     }
 }
 
-const ANSWERS: [(&[Part], &str, bool, &str); 6] = [
+const ANSWERS: [(&[Part], &str, bool, &str); 8] = [
     (&[], "1.0", false, "Yes"),
+    (&[HERE], "1.0", false, "Yes"),
+    (
+        &[ELSEWHERE, FAULTY],
+        "1.0",
+        false,
+        "refused input 1 line 4 code 57 43\n",
+    ),
     (&[LIST, PROJECT, TABLE], "2.2", false, "Yes"),
     (&[LIST, PROJECT, TABLE], "2.1", true, "No"),
     (&[LIST, PROJECT, TABLE], "2.3rc1", false, "No"),

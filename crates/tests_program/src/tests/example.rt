@@ -1,6 +1,6 @@
 //! The example of README, as it stands there.
 
-use crate::tests::calls::machine;
+use crate::tests::calls::{lines_or_fault, machine};
 use crate::tests::lines::expect_line;
 use pep_marker::Environment;
 use pep_tool::{Fault, Input, Kind, merge_bytes};
@@ -14,12 +14,9 @@ fn merged(alloc: Global, list: &str, environment: &Environment) -> Result<String
     merge_bytes(alloc, &[Input { kind, bytes, group }], environment)
 }
 
-// The table of a list on the machine, or the line of the fault.
+// The lines of the table of a list on the machine, or the line of the fault.
 fn merged_line(alloc: Global, list: &str) -> Result<String, Fault> {
-    match merged(alloc, list, &machine(alloc)?) {
-        Ok(text) => Ok(text),
-        Err(fault) => fault.text(alloc),
-    }
+    lines_or_fault(alloc, merged(alloc, list, &machine(alloc)?))
 }
 
 const EXAMPLES: [(&str, &str); 2] = [

@@ -21,13 +21,14 @@ fn line_fault_line(alloc: Global, fault: LineFault) -> Result<String, AllocError
 }
 
 // Faults of lines that are not those of requirements.
-const OF_LINES: [(LineFault, &str); 3] = [
+const OF_LINES: [(LineFault, &str); 4] = [
     (LineFault::NotUtf8, "51 not UTF-8"),
     (
         LineFault::Undefined,
         "28 a marker is undefined in the environment",
     ),
     (LineFault::BadTable, "41 not a line that a table has there"),
+    (LineFault::OtherEnvironment, "43 of another environment"),
 ];
 
 #[test]
@@ -96,13 +97,20 @@ const BAD_VERSION: LineFault = LineFault::Requirement(RequireFault::BadClause(
     ClauseFault::BadVersion,
 ));
 
-const FAULTS: [(Fault, &str); 4] = [
+const FAULTS: [(Fault, &str); 5] = [
     (
         Fault {
             place: Place::Input(2),
             cause: Cause::Line(7, BAD_VERSION),
         },
         "refused input 2 line 7 code 57 33 12\ninput 2: line 7: a faulty clause: not a version",
+    ),
+    (
+        Fault {
+            place: Place::Input(1),
+            cause: Cause::Line(9, LineFault::OtherEnvironment),
+        },
+        "refused input 1 line 9 code 57 43\ninput 1: line 9: of another environment",
     ),
     (
         Fault {

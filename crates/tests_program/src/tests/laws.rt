@@ -6,6 +6,9 @@ use pep_tool::laws;
 #[test]
 fn laws_of_tables() {
     table_laws::one_table_text();
+    table_laws::one_table_of_text();
+    table_laws::table_lines_are_utf8();
+    table_laws::merge_steps();
     table_laws::union_is_join();
     table_laws::merges_alike();
     table_laws::join_all_is_one::<Table>();
@@ -27,6 +30,7 @@ fn laws_of_merging() {
     laws::same_lines();
     laws::one_text_of_lines();
     laws::printed_in_place();
+    laws::one_environment();
     laws::read_is_merged();
     laws::group_is_walked();
     laws::one_list();

@@ -1,6 +1,6 @@
 //! Lists that are merged while they are read, in whatever pieces their bytes come.
 
-use crate::tests::calls::{machine, text_or_fault};
+use crate::tests::calls::{lines_or_fault, machine};
 use crate::tests::lines::{expect, expect_line, expect_row};
 use crate::tests::streams::{NEVER, Reader};
 use pep_marker::Environment;
@@ -14,17 +14,18 @@ use tests_kit::{Numbers, push_numbered, repeated};
 // The text of the table of a list on the machine that comes in pieces, and whose read with this number
 // fails.
 fn table_text(alloc: Global, list: &str, piece: usize, fails_at: u64) -> Result<String, Fault> {
+    let machine = machine(alloc)?;
     let mut reader = Reader::in_pieces(list.as_bytes(), piece, fails_at);
-    let table = merge_reader(alloc, &mut reader, &machine(alloc)?)?;
-    match table.text(alloc) {
+    let table = merge_reader(alloc, &mut reader, &machine)?;
+    match table.text(alloc, &machine) {
         Ok(text) => Ok(text),
         Err(_) => Err(Fault::no_memory()),
     }
 }
 
-// The same, or the line of the fault.
+// Its lines, or the line of the fault.
 fn table_line(alloc: Global, list: &str, piece: usize, fails_at: u64) -> Result<String, Fault> {
-    text_or_fault(alloc, table_text(alloc, list, piece, fails_at))
+    lines_or_fault(alloc, table_text(alloc, list, piece, fails_at))
 }
 
 const LISTS: [&str; 2] = [

@@ -9,6 +9,7 @@ use std::alloc::{AllocError, Global};
 use std::io;
 use std::io::Write;
 use std::test::Fail;
+use tests_kit::STANDARD_HEADER;
 
 const LIST: &[u8] = b"flask>=2.0\nFlask<3\n";
 
@@ -237,6 +238,14 @@ fn text(bytes: &[u8]) -> &str {
     str::from_utf8(bytes).unwrap_or("?")
 }
 
+// What is printed, with a mark in the place of the header of the standard environment.
+fn shown(alloc: Global, printed: &[u8]) -> Result<String, AllocError> {
+    match text(printed).strip_prefix(STANDARD_HEADER) {
+        Some(lines) => format!(in alloc; "@{lines}"),
+        None => String::from_str(alloc, text(printed)),
+    }
+}
+
 // Of the devices of a run: the calls of its reader and of the writer of its output, what is printed
 // and what is told.
 fn devices_line(
@@ -247,7 +256,8 @@ fn devices_line(
 ) -> Result<String, AllocError> {
     let (reads, writes) = (input.calls(), output.calls);
     let (read, written) = (mark(input.failed), mark(output.failed));
-    let (printed, told) = (text(output.bytes.as_slice()), text(faults.bytes.as_slice()));
+    let printed = shown(alloc, output.bytes.as_slice())?;
+    let told = text(faults.bytes.as_slice());
     format!(in alloc; "{reads}{read} {writes}{written} [{printed}] [{told}]")
 }
 
@@ -278,7 +288,7 @@ const READS: [(&[u8], u64, &str); 9] = [
     (
         LIST,
         5,
-        "0 4 7 [flask open\n  range before 2 to before 3.dev0\n] []",
+        "0 4 56 [@flask open\n  range before 2 to before 3.dev0\n] []",
     ),
     // The first line is faulty, and the read behind it would fail.
     (
@@ -327,27 +337,24 @@ fn each_read_that_fails(rt: HostRuntime) -> Result<(), Fail> {
 }
 
 // The number of the call of the writer of the output that fails, and what the run is. The table goes
-// in seven pieces.
+// in 56 pieces, the fiftieth of which has the end of the header in it.
 const WRITES: [(u64, &str); 8] = [
     (1, "2 4 1! [] [refused code 63\n]"),
-    (2, "2 4 2! [flask o] [refused code 63\n]"),
-    (3, "2 4 3! [flask open\n  r] [refused code 63\n]"),
-    (4, "2 4 4! [flask open\n  range be] [refused code 63\n]"),
+    (2, "2 4 2! [pep-tab] [refused code 63\n]"),
+    (3, "2 4 3! [pep-table 2\nen] [refused code 63\n]"),
+    (51, "2 4 51! [@flask] [refused code 63\n]"),
+    (52, "2 4 52! [@flask open\n ] [refused code 63\n]"),
     (
-        5,
-        "2 4 5! [flask open\n  range before 2 ] [refused code 63\n]",
+        55,
+        "2 4 55! [@flask open\n  range before 2 to be] [refused code 63\n]",
     ),
     (
-        6,
-        "2 4 6! [flask open\n  range before 2 to befo] [refused code 63\n]",
+        56,
+        "2 4 56! [@flask open\n  range before 2 to before 3.] [refused code 63\n]",
     ),
     (
-        7,
-        "2 4 7! [flask open\n  range before 2 to before 3.de] [refused code 63\n]",
-    ),
-    (
-        8,
-        "0 4 7 [flask open\n  range before 2 to before 3.dev0\n] []",
+        57,
+        "0 4 56 [@flask open\n  range before 2 to before 3.dev0\n] []",
     ),
 ];
 
@@ -472,7 +479,8 @@ fn std_line(rt: &HostRuntime) -> Result<String, AllocError> {
         &mut Counted::new(&mut told),
     );
     let (reads, read) = (input.calls(), mark(input.failed()));
-    let (printed, told) = (text(printed.as_slice()), text(told.as_slice()));
+    let printed = shown(rt.alloc(), printed.as_slice())?;
+    let told = text(told.as_slice());
     format!(in rt.alloc(); "{status} {reads}{read} [{printed}] [{told}]")
 }
 
@@ -482,7 +490,7 @@ fn devices_over_std(rt: HostRuntime) -> Result<(), Fail> {
     expect_line(
         &rt,
         line.as_str(),
-        "0 2 [flask open\n  range before 2 to before 3.dev0\n] []",
+        "0 2 [@flask open\n  range before 2 to before 3.dev0\n] []",
     );
     Ok(())
 }

@@ -5,7 +5,7 @@ use pep_table::TableFault;
 use std::alloc::{AllocError, Global};
 use std::test::Fail;
 
-const FAULTS: [(TableFault, &str); 3] = [
+const FAULTS: [(TableFault, &str); 4] = [
     (
         TableFault::Undefined(7),
         "28 requirement 7: an undefined marker",
@@ -15,6 +15,10 @@ const FAULTS: [(TableFault, &str); 3] = [
         "41 line 7: not a line that a table has there",
     ),
     (TableFault::NoMemory, "42 out of memory"),
+    (
+        TableFault::OtherEnvironment(7),
+        "43 line 7: of another environment",
+    ),
 ];
 
 // A code, and what its fault is told as.

@@ -2,7 +2,7 @@
 
 use crate::tests::lines::{expect_line, expect_same};
 use crate::tests::tables::{
-    answer, entry, gathered, machine, name, requirement, table, table_of, verdict,
+    answer, entry, gathered, lines_of, machine, name, requirement, table, table_of, verdict,
 };
 use pep_clause::ClauseFault;
 use pep_marker::Environment;
@@ -40,18 +40,19 @@ fn is_copied_and_joined(alloc: Global, table: &Table) -> Result<bool, TableFault
     Ok(table.copied(alloc)? == *table && table.joined(alloc, table)? == *table)
 }
 
-// Whether this is its text, and the text is read as it.
-fn is_text(alloc: Global, table: &Table, text: &str) -> Result<bool, TableFault> {
-    Ok(table.text(alloc)?.as_str() == text && Table::read(alloc, text)? == *table)
+// Whether these are its lines, and it is read of them.
+fn has_lines(alloc: Global, table: &Table, lines: &str) -> Result<bool, TableFault> {
+    let read = Table::read(alloc, lines, &machine(alloc)?)?;
+    Ok(lines_of(alloc, table)?.as_str() == lines && read == *table)
 }
 
-// The table has the text, and so has what is made of it.
+// The table has the lines, and so has what is made of it.
 fn expect_table(
     rt: &(impl Abort + AllocGlobal),
     table: &Table,
     wanted: &str,
 ) -> Result<(), TableFault> {
-    assert!(rt; is_text(rt.alloc(), table, wanted)?);
+    assert!(rt; has_lines(rt.alloc(), table, wanted)?);
     assert!(rt; is_gathered(rt.alloc(), table)?);
     assert!(rt; is_copied_and_joined(rt.alloc(), table)?);
     Ok(())
@@ -240,13 +241,13 @@ fn joined_back(alloc: Global) -> Result<Table, TableFault> {
 #[test]
 fn join_of_many_tables(rt: HostRuntime) -> Result<(), Fail> {
     let joined = joined(rt.alloc())?;
-    assert!(rt; joined.text(rt.alloc())? == tables_text(rt.alloc())?);
+    assert!(rt; lines_of(rt.alloc(), &joined)? == tables_text(rt.alloc())?);
     assert!(rt; joined_back(rt.alloc())? == joined);
     Ok(())
 }
 
 fn gathered_text(alloc: Global) -> Result<String, TableFault> {
-    gathered(alloc, tables(alloc)?.as_slice())?.text(alloc)
+    lines_of(alloc, &gathered(alloc, tables(alloc)?.as_slice())?)
 }
 
 #[test]
@@ -304,7 +305,7 @@ fn gathered_names_text(alloc: Global) -> Result<String, AllocError> {
 #[test]
 fn many_names(rt: HostRuntime) -> Result<(), Fail> {
     let table = gathered_names(rt.alloc())?;
-    assert!(rt; table.text(rt.alloc())? == gathered_names_text(rt.alloc())?);
+    assert!(rt; lines_of(rt.alloc(), &table)? == gathered_names_text(rt.alloc())?);
     assert!(rt; entry(rt.alloc(), &table, "n29999").is_ok());
     Ok(())
 }

@@ -1,14 +1,14 @@
-//! Tables that are read from their texts.
+//! Tables that are read from their lines, and from their texts on the machine.
 
 use crate::tests::lines::{expect, expect_line, expect_same};
-use crate::tests::tables::{requirement, table, table_of};
+use crate::tests::tables::{lines_of, machine, requirement, table, table_of};
 use pep_marker::Name;
 use pep_require::Requirement;
 use pep_table::{Join, Table, TableFault};
 use std::alloc::{AllocError, Global};
 use std::process::Abort;
 use std::test::Fail;
-use tests_kit::{Numbers, push_numbered, repeated};
+use tests_kit::{MACHINE_HEADER, Numbers, push_numbered, repeated};
 
 // A table with all kinds of lines and verdicts.
 const LINES: [&str; 11] = [
@@ -28,19 +28,31 @@ const LINES: [&str; 11] = [
 // A table of one name, 45 bytes.
 const FLASK: &str = "flask open\n  range before 2 to before 3.dev0\n";
 
-// The line that can't stand in the text, or 0 where it is the text of the table that is read.
+// The line that can't stand in the text, or 0 where it is that of the table that is read, or its lines.
 fn bad_line(alloc: Global, text: &str) -> Result<usize, TableFault> {
-    match Table::read(alloc, text) {
+    match Table::read(alloc, text, &machine(alloc)?) {
         Ok(table) => line_of(alloc, &table, text),
         Err(TableFault::BadTable(line)) => Ok(line),
         Err(fault) => Err(fault),
     }
 }
 
-// The text of what the table with this text has of a name.
+// The same where the text stands behind the header of the machine; the lines are counted from there.
+fn bad_line_behind_header(alloc: Global, text: &str) -> Result<usize, TableFault> {
+    let whole = format!(in alloc; "{MACHINE_HEADER}{text}")?;
+    let line = bad_line(alloc, whole.as_str())?;
+    Ok(line.checked_sub(HEADER_LINES).unwrap_or(line))
+}
+
+const HEADER_LINES: usize = 13;
+
+// The lines of what the table with this text has of a name.
 fn part(alloc: Global, text: &str, name: &str) -> Result<String, TableFault> {
     match Name::read(alloc, name) {
-        Ok(name) => Table::read_named(alloc, text, &name)?.text(alloc),
+        Ok(name) => {
+            let part = Table::read_named(alloc, text, &machine(alloc)?, &name)?;
+            lines_of(alloc, &part)
+        }
         Err(_) => Err(TableFault::NoMemory),
     }
 }
@@ -57,9 +69,11 @@ fn bad_line_of_part(alloc: Global, text: &str) -> Result<usize, TableFault> {
 // Stands for the line where a table is read of the text, but has another text.
 const ANOTHER: usize = usize::MAX;
 
-// No line where this is the text of the table.
+// No line where this is the text of the table, or its lines.
 fn line_of(alloc: Global, table: &Table, text: &str) -> Result<usize, TableFault> {
-    let is_own = table.text(alloc)?.as_str() == text;
+    let whole = table.text(alloc, &machine(alloc)?)?;
+    let lines = whole.as_str().strip_prefix(MACHINE_HEADER);
+    let is_own = whole.as_str() == text || lines == Some(text);
     Ok(if is_own { 0 } else { ANOTHER })
 }
 
@@ -68,6 +82,8 @@ fn expect_lines(rt: &(impl Abort + AllocGlobal), rows: &[(&str, usize)]) -> Resu
         let line = bad_line(rt.alloc(), text)?;
         expect_same(rt, text, line, wanted);
         let line = bad_line_of_part(rt.alloc(), text)?;
+        expect_same(rt, text, line, wanted);
+        let line = bad_line_behind_header(rt.alloc(), text)?;
         expect_same(rt, text, line, wanted);
     }
     Ok(())
@@ -412,6 +428,9 @@ fn beginnings(rt: HostRuntime) -> Result<(), Fail> {
     expect(&rt, sizes.as_str(), sizes == sizes_at_ends(rt.alloc())?);
     let sizes = sizes_of_tables(rt.alloc(), FLASK)?;
     expect_line(&rt, sizes.as_str(), "0 45 ");
+    let whole = format!(in rt.alloc(); "{MACHINE_HEADER}{FLASK}")?;
+    let sizes = sizes_of_tables(rt.alloc(), whole.as_str())?;
+    expect_line(&rt, sizes.as_str(), "0 356 401 ");
     Ok(())
 }
 
@@ -544,7 +563,8 @@ fn list_of_any(alloc: Global, numbers: &mut Numbers) -> Result<Vec<Requirement>,
 
 // The table that a text of this table is read as.
 fn read_back(alloc: Global, table: &Table) -> Result<Table, TableFault> {
-    Table::read(alloc, table.text(alloc)?.as_str())
+    let machine = machine(alloc)?;
+    Table::read(alloc, table.text(alloc, &machine)?.as_str(), &machine)
 }
 
 // The table and that of the requirements, printed and read back before and after they are joined.
@@ -584,7 +604,8 @@ fn merged_in_turn(
 }
 
 fn is_one_text(alloc: Global, one: &Table, other: &Table) -> Result<bool, TableFault> {
-    Ok(one.text(alloc)? == other.text(alloc)?)
+    let machine = machine(alloc)?;
+    Ok(one.text(alloc, &machine)? == other.text(alloc, &machine)?)
 }
 
 // Whether two merges of the same lines have one text: at once, and list by list.
@@ -606,10 +627,10 @@ fn merged_in_two_ways(rt: HostRuntime) -> Result<(), Fail> {
 const MERGED: &str =
     "flask open\n  range before 2 to before 2.1\n  range before 2.1.post0.dev0 to before 3.dev0\n";
 
-// What is read of a text and what a list demands, joined.
-fn read_and_joined(alloc: Global, text: &str, list: &str) -> Result<String, TableFault> {
-    let read = Table::read(alloc, text)?;
-    read.joined(alloc, &table(alloc, &[list])?)?.text(alloc)
+// What is read of lines and what a list demands, joined.
+fn read_and_joined(alloc: Global, lines: &str, list: &str) -> Result<String, TableFault> {
+    let read = Table::read(alloc, lines, &machine(alloc)?)?;
+    lines_of(alloc, &read.joined(alloc, &table(alloc, &[list])?)?)
 }
 
 #[test]
@@ -621,7 +642,7 @@ fn read_tables_are_joined(rt: HostRuntime) -> Result<(), Fail> {
 
 const TWO_NAMES: &str = "a none\nb open\n  extra x\n  range before 1 to end\n";
 
-// The text of a table, a name, and the text of what it has of the name.
+// The lines of a table, a name, and the lines of what it has of the name.
 const PARTS: [(&str, &str, &str); 6] = [
     ("", "a", ""),
     (FLASK, "Flask", FLASK),

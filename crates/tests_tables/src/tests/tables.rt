@@ -1,4 +1,4 @@
-//! Tables of requirements: their texts, verdicts and answers, and what joining them gives.
+//! Tables of requirements: their lines, verdicts and answers, and what joining them gives.
 
 use crate::tests::lines::{expect_line, expect_row, expect_same};
 use pep_clause::VersionSet;
@@ -10,7 +10,7 @@ use pep_table::{
 use pep_version::Version;
 use std::alloc::Global;
 use std::test::Fail;
-use tests_kit::MACHINE;
+use tests_kit::{MACHINE, MACHINE_HEADER};
 
 /// The requirement of a line, which is one.
 pub(crate) fn requirement(alloc: Global, line: &str) -> Result<Requirement, TableFault> {
@@ -63,15 +63,22 @@ pub(crate) fn entry<'t>(
     table.get(&name(alloc, text)?).ok_or(TableFault::NoMemory)
 }
 
-// The text of the table of the lines, or why there is none.
+/// What stands behind the header of the machine in the text of a table that was made there.
+pub(crate) fn lines_of(alloc: Global, table: &Table) -> Result<String, TableFault> {
+    let text = table.text(alloc, &machine(alloc)?)?;
+    let lines = text.as_str().strip_prefix(MACHINE_HEADER);
+    Ok(String::from_str(alloc, lines.unwrap_or("no header"))?)
+}
+
+// The lines of the table of the requirement lines, or why there is none.
 fn table_line(alloc: Global, lines: &[&str]) -> Result<String, TableFault> {
     match table(alloc, lines) {
-        Ok(table) => table.text(alloc),
+        Ok(table) => lines_of(alloc, &table),
         Err(fault) => Ok(format!(in alloc; "refused {}: {fault}", fault.code())?),
     }
 }
 
-// Requirement lines, and the text of their table.
+// Requirement lines, and the lines of their table.
 const TEXTS: [(&[&str], &str); 19] = [
     (&[], ""),
     (
@@ -161,8 +168,8 @@ const URLS: [&str; 2] = ["a @ https://x.test/1", "a @ https://x.test/2"];
 #[test]
 fn conflicts(rt: HostRuntime) -> Result<(), Fail> {
     let both = joined(rt.alloc(), URLS[0], URLS[1])?;
-    let text = both.text(rt.alloc())?;
-    expect_line(&rt, text.as_str(), CONFLICT);
+    let lines = lines_of(rt.alloc(), &both)?;
+    expect_line(&rt, lines.as_str(), CONFLICT);
     assert!(rt; joined(rt.alloc(), URLS[1], URLS[0])? == both);
     Ok(())
 }
@@ -243,7 +250,7 @@ pub(crate) fn gathered(alloc: Global, tables: &[Table]) -> Result<Table, TableFa
 }
 
 fn gathered_line(alloc: Global) -> Result<String, TableFault> {
-    gathered(alloc, tables(alloc)?.as_slice())?.text(alloc)
+    lines_of(alloc, &gathered(alloc, tables(alloc)?.as_slice())?)
 }
 
 #[test]

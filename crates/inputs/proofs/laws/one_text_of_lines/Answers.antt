@@ -5,6 +5,6 @@ use Rattle.inputs.proofs.laws.one_text_of_lines.Goals as goal
 
 pub returns : goal.returns
 returns c = λ e a b x y m n same.
-    laws.one_text (Gathered e a) (Gathered e b) m.table n.table x y
+    laws.one_text e (Gathered e a) (Gathered e b) m.table n.table x y
     (inputs.same_lines e a b m.accepted n.accepted same) m.is_table n.is_table
     m.text n.text

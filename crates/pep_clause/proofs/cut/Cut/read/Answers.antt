@@ -10,12 +10,8 @@ returns-then-eq-clause-read c =
 
 pub returns-in-Some-2-clause-read : goal.returns-in-Some-2-clause-read
 returns-in-Some-2-clause-read c =
-    let text = c.args.text.now in
-    let v = c.in-Some-2.version in
-    let at : StandsBehind text (codes "past ") v = search rules in
-    let read : ReadBehind text (codes "past ") (Some v) = search rules in
-    past_read text v c.in_ok-past_final.field-0 at read c.in_ok-past_final.ensures.kept
-    c.in_ok-past_final.ensures.exact
+    past_read c.args.text.now c.in-Some-2.version c.in_ok-past_final.field-0 (search rules)
+    (search rules) c.in_ok-past_final.ensures.kept c.in_ok-past_final.ensures.exact
 
 pub returns-in-Some-3-clause-read : goal.returns-in-Some-3-clause-read
 returns-in-Some-3-clause-read c =

@@ -12,21 +12,21 @@ invariant_of-result c =
     (cc (c.in_ok-ranges.ensures.ok)) (subst IsNormal c.self.view_is c.self.invariant)
     (subst IsNormal c.other.view_is c.other.invariant)
 
-pub returns-clause-normal : goal.returns-clause-normal
-returns-clause-normal c = invariant_of-result c
-
-pub returns-clause-inhabited : goal.returns-clause-inhabited
-returns-clause-inhabited c = normal-has_version c.in_ok-ranges.ranges.items (invariant_of-result c)
-
 pub returns-clause-points : goal.returns-clause-points
 returns-clause-points c =
     joined_points c.args.self.now c.args.other.now c.in_ok-ranges.ranges.items
     (cc (c.in_ok-ranges.ensures.ok))
 
+pub returns-clause-inhabited : goal.returns-clause-inhabited
+returns-clause-inhabited c = normal-has_version c.in_ok-ranges.ranges.items (invariant_of-result c)
+
 pub returns-clause-versions : goal.returns-clause-versions
 returns-clause-versions c =
     joined_versions c.args.self.now c.args.other.now c.in_ok-ranges.ranges.items
     (cc (c.in_ok-ranges.ensures.ok))
+
+pub returns-clause-normal : goal.returns-clause-normal
+returns-clause-normal c = invariant_of-result c
 
 pub returns-clause-few : goal.returns-clause-few
 returns-clause-few c =

@@ -1,9 +1,27 @@
-use Rattle.std.proofs.Common.{◌≡◌, ◌∷◌, rules, string_bytes, subst}
+use Rattle.std.proofs.Common.{◌≡◌, ◌∷◌, rules, string_bytes, subst, sym}
 use Rattle.std.specs.List.{All}
 use Rattle.demands.specs.Table.{IsValidEntry, TableParts}
-use Rattle.std.proofs.lemmas.List.Elements.{All-tail}
-use Rattle.pep_table.proofs.PrintedEntries.{all_printed, one_printed}
+use Rattle.std.proofs.lemmas.List.Elements.{All-head, All-tail}
+use Rattle.pep_table.proofs.PrintedEntries.{PrintsUpTo, all_printed, none_printed, one_printed}
 use Rattle.pep_table.proofs.gathering.Gathering.text.Goals as goal
+
+pub loop-name-init : goal.loop-name-init
+loop-name-init c =
+    let same : c.into_iter-name-iterator.result ≡ c.args.self = search rules in (
+      subst (λ (l : TableParts). PrintsUpTo c.args.environment.now c.args.self l
+          (string_bytes c.in_ok-text.text)) (sym same)
+          (none_printed c.args.environment.now c.args.self (string_bytes c.in_ok-text.text)
+          c.in_ok-text.ensures.text),
+      subst (λ (l : TableParts). All (λ p. IsValidEntry p.1) l) (sym same) (search rules),
+    )
+
+pub push_gathered-requires : goal.push_gathered-requires
+push_gathered-requires c =
+    let left : TableParts = c.loop-name.name-iterator in
+    let more : TableParts = c.next.new.self in
+    let split : left ≡ (c.in-Some.name, c.in-Some.gathered) ∷ more = search rules in
+    All-head (λ p. IsValidEntry p.1) (c.in-Some.name, c.in-Some.gathered) more
+    (subst (All (λ p. IsValidEntry p.1)) split c.loop-name.invariant.1)
 
 pub loop-name-preserved : goal.loop-name-preserved
 loop-name-preserved c =
@@ -11,7 +29,7 @@ loop-name-preserved c =
     let more : TableParts = c.next.new.self in
     let split : left ≡ (c.in-Some.name, c.in-Some.gathered) ∷ more = search rules in
     let (verdict, shows, text) = c.in_ok-push_gathered.ensures.ok in (
-      one_printed c.args.self left more (string_bytes c.loop-name.text)
+      one_printed c.args.environment.now c.args.self left more (string_bytes c.loop-name.text)
           (string_bytes c.push_gathered.new.text) (c.in-Some.name, c.in-Some.gathered) verdict
           c.loop-name.invariant.0 split shows text,
       All-tail (λ p. IsValidEntry p.1) (c.in-Some.name, c.in-Some.gathered) more
@@ -20,5 +38,5 @@ loop-name-preserved c =
 
 pub returns-clause-text : goal.returns-clause-text
 returns-clause-text c =
-    all_printed c.args.self c.loop-name.name-iterator (string_bytes c.loop-name.text)
+    all_printed c.args.environment.now c.args.self c.loop-name.name-iterator (string_bytes c.loop-name.text)
     c.loop-name.invariant.0 (search rules)

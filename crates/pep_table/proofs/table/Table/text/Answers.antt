@@ -11,7 +11,7 @@ loop-name-preserved c =
     let i = c.loop-name.name-index in
     let p = c.loop-name-item.result in
     let (verdict, shows, text) = c.in_ok-push_entry.ensures.ok in
-    one_printed t (drop i t) (drop (i + 1) t) (string_bytes c.loop-name.text)
+    one_printed c.args.environment.now t (drop i t) (drop (i + 1) t) (string_bytes c.loop-name.text)
     (string_bytes c.push_entry.new.text) p verdict c.loop-name.invariant
     (drop_more t i p c.loop-name-test.true ∙ ap (λ q. q ∷ drop (i + 1) t) (sym c.loop-name-item.is))
     shows text
@@ -19,7 +19,7 @@ loop-name-preserved c =
 pub returns-clause-text : goal.returns-clause-text
 returns-clause-text c =
     let t : TableParts = c.entries-name-items.result.now in
-    subst (λ (l : TableParts). IsTableText l (string_bytes c.loop-name.text))
+    subst (λ (l : TableParts). IsTableText c.args.environment.now l (string_bytes c.loop-name.text))
     c.entries-name-items.ensures.entries
-    (all_printed t (drop c.loop-name.name-index t) (string_bytes c.loop-name.text)
+    (all_printed c.args.environment.now t (drop c.loop-name.name-index t) (string_bytes c.loop-name.text)
     c.loop-name.invariant (drop_all c.loop-name.name-index t c.loop-name-test.false))

@@ -1,0 +1,146 @@
+-- Environments of one header are one: what is accepted, demanded and merged in the one is so in the
+-- other.
+use Rattle.std.proofs.Common.{◌≡◌, ◌≢◌, ℕ, ◌==◌, Bool, true, false, List, [], ◌∷◌, ◌++◌, length, ap, refl}
+use Rattle.std.proofs.Common.{sym, ◌∙◌, inl, inr, Option, Some, None, Result, Ok, arith}
+use Rattle.std.specs.Prelude.{All}
+use Rattle.std.proofs.lemmas.Bool.Decides.{nat_tests}
+use Rattle.std.proofs.lemmas.List.Elements.{All-weaker}
+use Rattle.texts.specs.Bytes.{is_separator}
+use Rattle.toml.specs.Data.{Members}
+use Rattle.pep_marker.specs.declared.environment.Variable.TheVariants.{Extra}
+use Rattle.pep_marker.specs.Environment.{EnvironmentParts, IsEnvironment, extra_in}
+use Rattle.pep_marker.specs.Header.{header}
+use Rattle.pep_marker.specs.Holds.{Truth}
+use Rattle.pep_marker.specs.Marker.{MarkerParts}
+use Rattle.pep_marker.specs.Name.{normalized}
+use Rattle.pep_marker.proofs.HeaderLaws.{header_values, same_truth}
+use Rattle.pep_require.specs.Requirement.{HasDefinedMarker, MarkerSays, RequirementParts}
+use Rattle.demands.specs.Demand.{Demand, HaveSameDemands}
+use Rattle.demands.specs.Table.{TableParts}
+use Rattle.pep_table.specs.TableText.{IsReadAs}
+use Rattle.pep_table.proofs.SameDemands.{same_demands}
+use Rattle.faults.specs.declared.fault.Cause.{Cause}
+use Rattle.inputs.specs.declared.input.Input.{Input}
+use Rattle.inputs.specs.declared.input.Kind.{Kind}
+use Rattle.inputs.specs.declared.input.Kind.TheVariants as kind
+use Rattle.inputs.specs.Document.{◌>>=◌, document_of}
+use Rattle.inputs.specs.Gathered.{AcceptsBytes, BytesDemand, Gathered, IsAccepted}
+use Rattle.inputs.specs.Lists.{HoldsTable, Lists, ProjectTexts}
+use Rattle.inputs.specs.Merge.{IsMerge}
+use Rattle.inputs.specs.Project.{project_file, project_texts}
+use Rattle.inputs.proofs.MergeLemmas.{shows_verdicts}
+
+-- ---- extras of one normal form
+
+-- no text but the empty one has an empty normal form
+some_normal : (b : ℕ) (x : List ℕ) → normalized (b ∷ x) ≢ []
+some_normal b [] h = by (is_separator b) refl
+  where
+    by : (s : Bool) → is_separator b ≡ s → ⊥
+    by true e = let some : 45 ∷ [] ≡ [] = rw e at h in cc some
+    by false e = let some = rw e at h in cc some
+some_normal b (c ∷ x) h = by (is_separator b) refl (is_separator c) refl (some_normal c x)
+  where
+    by : (s : Bool) → is_separator b ≡ s → (t : Bool) → is_separator c ≡ t →
+        normalized (c ∷ x) ≢ [] → ⊥
+    by true e true f rest = let short = rw (e, f) at h in rest (rw f short)
+    by true e false f rest = let some = rw (e, f) at h in cc some
+    by false e t f rest = let some = rw e at h in cc some
+
+both_empty : (x y : List ℕ) → normalized x ≡ normalized y → (length x == 0) ≡ (length y == 0)
+both_empty [] [] h = refl
+both_empty [] (c ∷ y) h = absurd (some_normal c y (sym h))
+both_empty (b ∷ x) [] h = absurd (some_normal b x h)
+both_empty (b ∷ x) (c ∷ y) h = grind (arith, nat_tests)
+
+texts_alike : (x y : List ℕ) → normalized x ≡ normalized y → (document : Members) →
+    project_texts x document ≡ project_texts y document
+texts_alike x y h document = rw (both_empty x y h, h) refl
+
+file_alike : (x y : List ℕ) → normalized x ≡ normalized y → (bytes : List ℕ) →
+    project_file x bytes ≡ project_file y bytes
+file_alike x y h bytes = λ i. document_of bytes >>= (λ document. texts_alike x y h document i)
+
+-- ---- what is so in the other environment
+
+module _ (e f : EnvironmentParts) (is : IsEnvironment e) (are : IsEnvironment f)
+    (same : header e ≡ header f) where
+  says : (m : Option MarkerParts) (t : Truth) → MarkerSays e m t → MarkerSays f m t
+  says None t h = h
+  says (Some m) t h = same_truth e f (header_values e f is are same) m t h
+
+  defined : (r : RequirementParts) → HasDefinedMarker e r → HasDefinedMarker f r
+  defined r (b, h) = (b, says r.marker (Some b) h)
+
+  extras : normalized (extra_in e) ≡ normalized (extra_in f)
+  extras = header_values e f is are same Extra
+
+  texts : (group : Option (List ℕ)) (bytes : List ℕ) (found : Result (List (List ℕ)) Cause) →
+      ProjectTexts (extra_in e) group bytes found → ProjectTexts (extra_in f) group bytes found
+  texts None bytes found h = sym (file_alike (extra_in e) (extra_in f) extras bytes) ∙ h
+  texts (Some group) bytes found h = h
+
+  lists : (k : Kind) (group : Option (List ℕ)) (bytes : List ℕ) (rs : List RequirementParts) →
+      Lists (extra_in e) k group bytes rs → Lists (extra_in f) k group bytes rs
+  lists kind.List group bytes rs h = h
+  lists kind.Project group bytes rs (xs, found, reads) = (xs, texts group bytes (Ok xs) found, reads)
+  lists kind.Table group bytes rs h = h
+
+  read : (t : TableParts) (x : List ℕ) → IsReadAs e t x → IsReadAs f t x
+  read t x (inl (ls, h, cut)) = inl (ls, h, cut ∙ ap (λ z. z ++ ls) same)
+  read t x (inr h) = inr h
+
+  holds : (k : Kind) (bytes : List ℕ) (t : TableParts) → HoldsTable e k bytes t →
+      HoldsTable f k bytes t
+  holds kind.List bytes t h = h
+  holds kind.Project bytes t h = h
+  holds kind.Table bytes t h = record {
+    size = h.size;
+    encoding = h.encoding;
+    valid = h.valid;
+    text = read t bytes h.text;
+  }
+
+  accepts : (k : Kind) (group : Option (List ℕ)) (bytes : List ℕ) → AcceptsBytes e k group bytes →
+      AcceptsBytes f k group bytes
+  accepts k group bytes (inl (rs, h, all)) =
+      inl (
+        rs,
+        lists k group bytes rs h,
+        All-weaker (HasDefinedMarker e) (HasDefinedMarker f) defined rs all,
+      )
+  accepts k group bytes (inr (t, h)) = inr (t, holds k bytes t h)
+
+  demand : (k : Kind) (group : Option (List ℕ)) (bytes : List ℕ) (name : List ℕ) (d : Demand) →
+      BytesDemand e k group bytes name d → BytesDemand f k group bytes name d
+  demand k group bytes name d (inl (rs, h, (r, has, applies, demands))) =
+      inl (rs, lists k group bytes rs h, (r, has, says r.marker (Some true) applies, demands))
+  demand k group bytes name d (inr (t, h, demands)) = inr (t, holds k bytes t h, demands)
+
+  gathered : (inputs : List Input) (name : List ℕ) (d : Demand) → Gathered e inputs name d →
+      Gathered f inputs name d
+  gathered [] name d h = h
+  gathered (i ∷ inputs) name d (inl h) = inl (demand i.kind i.group i.bytes.items name d h)
+  gathered (i ∷ inputs) name d (inr h) = inr (gathered inputs name d h)
+
+  pub accepted : (i : Input) → IsAccepted e i → IsAccepted f i
+  accepted i h = accepts i.kind i.group i.bytes.items h
+
+pub demands_alike : (e f : EnvironmentParts) → IsEnvironment e → IsEnvironment f →
+    header e ≡ header f → (a : List Input) → HaveSameDemands (Gathered e a) (Gathered f a)
+demands_alike e f is are same a name d =
+    (gathered e f is are same a name d, gathered f e are is (sym same) a name d)
+
+pub merges_alike : (e f : EnvironmentParts) → IsEnvironment e → IsEnvironment f →
+    header e ≡ header f → (a : List Input) (x : List ℕ) → IsMerge e a x → IsMerge f a x
+merges_alike e f is are same a x m =
+    let both = same_demands (Gathered e a) (Gathered f a) m.table (demands_alike e f is are same a)
+    m.is_table m.points in
+    record {
+      accepted = All-weaker (IsAccepted e) (IsAccepted f) (accepted e f is are same) a m.accepted;
+      table = m.table;
+      is_table = both.0;
+      points = both.1;
+      text = (m.text.0, m.text.1, m.text.2 ∙ ap (λ z. z ++ m.text.0) same);
+      verdicts = shows_verdicts (Gathered f a) m.table both.0;
+    }
