@@ -85,6 +85,9 @@ def gathered():
     return table.encode()
 
 
+# More markers than twice the places in which texts of markers are remembered, none of which holds.
+MARKED = "".join(f"a<0; os_name=='{number}'\n" for number in range(600)) + "a>=1\n"
+
 MERGE = ["merge", "--env", "env.toml"]
 FIRST_LINES = FILES["first.table"]
 URLS_LINES = b"a conflict\n  url https://x.test/1\n  url https://x.test/2\n  range before 0.dev0 to end\n"
@@ -172,3 +175,5 @@ RUNS = [
     ),
     Run(["check", "--env", "env.toml", "Flask", "1!2", "kept.table"], b"yes\n"),
 ]
+# A list of many pieces, for allocations alone: that reads of small pieces of it fail one by one would say nothing more.
+LONG_RUN = of_list(b"a open\n  range before 1 to end\n", MARKED.encode())

@@ -77,7 +77,7 @@ fn answer(
 ///
 /// All inputs are read, and refused as by [`merge_bytes`]; what they demand of other packages isn't
 /// kept: a line's or a table entry's is dropped where it is found, a project file's once all its
-/// texts are read. (A table that was printed in another environment is made before it is refused.)
+/// texts are read.
 pub fn check_bytes(
     alloc: Global,
     inputs: &[Input],

@@ -1,26 +1,22 @@
 -- A header is one environment's: environments of one header give each variable the same text, but for
 -- the spelling of `extra`, and so each marker the same truth.
-use Rattle.std.proofs.Common.{◌≡◌, ℕ, ◌==◌, ◌&&◌, Bool, true, false, not, List, [], ◌∷◌, ◌++◌, refl, sym}
-use Rattle.std.proofs.Common.{ap, subst, ◌∙◌, append_assoc, arith, codes, map}
-use Rattle.std.specs.Prelude.{IsTrue, MatchBool, nat_lt, ◌||◌}
-use Rattle.std.specs.Char.{to_ascii_lowercase}
-use Rattle.std.specs.List.{AllByRecursion, list_all}
-use Rattle.std.proofs.lemmas.Bool.Decides.{nat_tests}
+use Rattle.std.proofs.Common.{◌≡◌, ℕ, Bool, true, false, List, [], ◌∷◌, ◌++◌, refl, sym}
+use Rattle.std.proofs.Common.{ap, subst, ◌∙◌, append_assoc, codes, map}
+use Rattle.std.specs.Prelude.{MatchBool, ◌||◌}
+use Rattle.std.specs.List.{AllByRecursion}
 use Rattle.std.proofs.lemmas.List.{append_cancel_left}
-use Rattle.texts.specs.Lines.{HasNoFeed, is_not_feed}
-use Rattle.texts.proofs.Connectives.{and_first, and_from, and_second, or_parts}
+use Rattle.texts.specs.Lines.{HasNoFeed}
+use Rattle.texts.proofs.Connectives.{or_parts}
 use Rattle.texts.specs.Lines.{line, written}
 use Rattle.texts.proofs.LineLemmas.{first_line_one, lines_one}
-use Rattle.pep_version.proofs.NormalTexts.{list_all-weaker}
 use Rattle.pep_marker.specs.declared.environment.Variable.{Variable}
 use Rattle.pep_marker.specs.declared.environment.Variable.TheVariants.{Extra}
-use Rattle.pep_marker.specs.Environment.{EnvironmentParts, IsEnvironment, is_value, value_of}
-use Rattle.pep_marker.specs.Environment.{variable_name, variables}
+use Rattle.pep_marker.specs.Environment.{EnvironmentParts, IsEnvironment, value_of}
+use Rattle.pep_marker.specs.Environment.{variables}
 use Rattle.pep_marker.specs.Header.{form_line, header, header_line, header_lines, header_value}
 use Rattle.pep_marker.specs.Holds.{Compares, Evaluates, Truth, is_extra, operand_value, plain_truth}
 use Rattle.pep_marker.specs.Marker.{MarkerParts, Operand, Operator, and, compare, or, text, variable}
-use Rattle.texts.specs.Bytes.{is_separator}
-use Rattle.pep_marker.specs.Name.{begins_with_separator, normalized}
+use Rattle.pep_marker.specs.Name.{normalized}
 use Rattle.pep_marker.proofs.HeaderLines.{front, lines_feed}
 use Rattle.pep_marker.proofs.VariableLemmas.{same_each}
 

@@ -7,19 +7,25 @@ use Rattle.pep_version.specs.Version.{Version}
 use Rattle.pep_version.specs.declared.fault.VersionFault.{VersionFault}
 use Rattle.pep_version.specs.declared.fault.VersionFault.TheVariants as read
 use Rattle.pep_version.proofs.OneVersion.{one-version}
-use Rattle.specifiers.specs.Admits.{admits}
+use Rattle.specifiers.specs.Admits.{SaysOf, admits}
 use Rattle.specifiers.specs.Clause.{Clause, ClauseOf}
 use Rattle.specifiers.specs.declared.fault.ClauseFault.{ClauseFault}
 use Rattle.specifiers.specs.declared.fault.ClauseFault.TheVariants as made
 use Rattle.specifiers.specs.declared.op.Op.{Op}
-use Rattle.specifiers.specs.declared.op.Op.TheVariants.{Exact}
+use Rattle.specifiers.specs.declared.op.Op.TheVariants.{Equal, Exact}
 use Rattle.specifiers.proofs.OneAnswer.{one-answer, one-clause-of}
+use Rattle.specifiers.proofs.OneOperand.{equal_too}
 use Rattle.pep_marker.specs.Environment.{EnvironmentParts}
-use Rattle.pep_marker.specs.Holds.{Compares, ComparesVersions, Evaluates, Truth, both, is_extra}
+use Rattle.pep_marker.specs.Holds.{Compares, Evaluates, Truth, both, is_extra}
+use Rattle.pep_marker.specs.ComparedView.{VersionsSay}
 use Rattle.pep_marker.specs.Holds.{operand_value, plain_truth}
 use Rattle.pep_marker.specs.Marker.{MarkerParts, Operator, and, compare, is_in, is_not_in, or}
 use Rattle.pep_marker.specs.Marker.{version_operator}
 use Rattle.pep_marker.specs.Name.{normalized}
+use Rattle.pep_marker.specs.Value.{IsMatchingOf, IsVersionOf}
+use Rattle.std.specs.Borrow.{Bor}
+use Rattle.std.specs.Option.{option_copied}
+use Rattle.std.proofs.Common.{subst}
 
 same_version : (x : List ℕ) (v w : Version) → Spells x v → Spells x w → v ≡ w
 same_version x v w h g = one-version x v w h.0 g.0
@@ -72,12 +78,54 @@ pub clause_says : {E : Type 0} (o : Op) (l r : List ℕ) (c : Clause) (t : Resul
     o ≢ Exact → ClauseOf o r (Ok c) →
     IfOk t (λ found. MatchOption found ((v : Version) → ¬ Spells l v)
     (λ b. (v : Version) × Spells l v × (b ≡ admits c v))) →
-    IfOk t (λ found. MatchOption found ((d : Clause) (v : Version) → ¬ ComparesVersions o l r d v)
-    (λ b. (d : Clause) × (v : Version) × ComparesVersions o l r d v × (b ≡ admits d v)))
+    IfOk t (VersionsSay o l r)
 clause_says o l r c (Err e) differs made says = tt
 clause_says o l r c (Ok None) differs made says = λ d v h. says v h.version
 clause_says o l r c (Ok (Some b)) differs made (v, spells, is) =
     (c, v, record { not_exact = differs; clause = made; version = spells }, is)
+
+-- what is said of each text that makes a clause is said of this one
+pub handed : {E : Type 0} (o : Op) (l r : List ℕ) (c : Clause) (t : Result (Option Bool) E) →
+    o ≢ Exact → ClauseOf Equal r (Ok c) →
+    IfOk t (λ found. (x : List ℕ) → ClauseOf Equal x (Ok c) → o ≢ Exact → VersionsSay o l x found) →
+    IfOk t (VersionsSay o l r)
+handed o l r c (Err e) differs made says = tt
+handed o l r c (Ok found) differs made says = says r made differs
+
+-- .. and what its operator and the text of the clause of `==` say of the text
+pub operand_says : (o : Op) (l r : List ℕ) (v : Version) (t : Option Bool) → o ≢ Exact → Spells l v →
+    SaysOf o r v t → VersionsSay o l r t
+operand_says o l r v None differs spells says =
+    λ c w h. says c h.clause
+operand_says o l r v (Some b) differs spells (c, made, is) =
+    (c, v, record { not_exact = differs; clause = made; version = spells }, is)
+
+pub spells_none : (o : Op) (l r : List ℕ) → ((v : Version) → ¬ Spells l v) → VersionsSay o l r None
+spells_none o l r none = λ c v h. none v h.version
+
+-- where no clause of `==` is made of a text, none is with another operator
+pub makes_none : (o : Op) (l r : List ℕ) → ((c : Clause) → ¬ ClauseOf Equal r (Ok c)) →
+    VersionsSay o l r None
+makes_none o l r none = λ c v h.
+    let made = equal_too o r c h.not_exact h.clause in none made.0 made.1
+
+-- what is found of a text, as a value keeps it and lends it
+pub version_kept : (x y : List ℕ) (o : Option Version) → y ≡ x →
+    MatchOption o ((v : Version) → ¬ Spells x v) (λ v. Spells x v) → IsVersionOf y o
+version_kept x y None same h = λ v g. h v (subst (λ t. Spells t v) same g)
+version_kept x y (Some v) same h = subst (λ t. Spells t v) (sym same) h
+
+pub clause_kept : (x y : List ℕ) (o : Option Clause) → y ≡ x →
+    MatchOption o ((c : Clause) → ¬ ClauseOf Equal x (Ok c)) (λ c. ClauseOf Equal x (Ok c)) →
+    IsMatchingOf y o
+clause_kept x y None same h = λ c g. h c (subst (λ t. ClauseOf Equal t (Ok c)) same g)
+clause_kept x y (Some c) same h = subst (λ t. ClauseOf Equal t (Ok c)) (sym same) h
+
+pub version_lent : (x : List ℕ) (o : Option (Bor Version)) →
+    MatchOption o ((v : Version) → ¬ Spells x v) (λ f. Spells x f.now) →
+    IsVersionOf x (option_copied o)
+version_lent x None h = h
+version_lent x (Some f) h = h
 
 -- ---- texts that are not compared as versions
 

@@ -1,14 +1,16 @@
 //! The texts of a comparison.
 
-ghost use Rattle.std.specs.Prelude.{◌≡◌, IfErr, IfOk, MatchOption};
-ghost use Rattle.std.specs.Option.{option_map};
+ghost use Rattle.std.specs.Prelude.{◌≡◌, ◌≢◌, ℕ, IfErr, IfOk, List, MatchOption, Ok};
+ghost use Rattle.std.specs.Option.{option_copied, option_map};
 ghost use Rattle.pep_version.specs.Spelling.{Spells};
 ghost use Rattle.pep_version.specs.Version as version;
 ghost use Rattle.specifiers.specs.Admits.{admits};
+ghost use Rattle.specifiers.specs.Clause.{ClauseOf};
 ghost use Rattle.pep_marker.specs.Holds.{operand_value};
 ghost use Rattle.pep_marker.specs.Name.{normalized};
 ghost use Rattle.pep_marker.specs.NormalView.{normal_bytes};
-ghost use Rattle.pep_marker.specs.ComparedView.{compared_bytes};
+ghost use Rattle.pep_marker.specs.ComparedView.{VersionsSay, compared_bytes};
+ghost use Rattle.pep_marker.specs.Value.{IsVersionOf};
 ghost use Rattle.pep_marker.specs.View.{operand_parts};
 
 use crate::environment::Environment;
@@ -17,7 +19,7 @@ use crate::marker::Operand;
 use crate::normal::Normal;
 use crate::value::{Value, version_of};
 use pep_version::Version;
-use specifiers::Clause;
+use specifiers::{Clause, Op};
 use std::alloc::Global;
 
 /// A text of the marker, or the value of a variable, of which more is known.
@@ -78,6 +80,41 @@ impl<'a> ComparedText<'a> {
             }
             ComparedText::Known(value) => admitted(alloc, clause, value.version()),
         }
+    }
+
+    /// What the operator says of the version that the text spells, and of what stands in this clause
+    /// of `==`; nothing where it spells none, and where they make no clause. The only fault is want
+    /// of memory, 29.
+    pub(crate) fn admitted_as(
+        self,
+        alloc: Global,
+        op: Op,
+        clause: &Clause,
+    ) -> Result<Option<bool>, MarkerFault>
+        ensures value { IfOk result (λ t. (text : List ℕ) → ClauseOf Op.Equal text (Ok clause.now) →
+            op ≢ Op.Exact → VersionsSay op (compared_bytes self.entry) text t) }
+        ensures faults { IfErr result (λ e. e ≡ MarkerFault.NoMemory) }
+    {
+        match self {
+            ComparedText::Written(text) => {
+                let version = version_of(alloc, text)?;
+                Ok(said(clause, op, version.as_ref()))
+            }
+            ComparedText::Known(value) => Ok(said(clause, op, value.version())),
+        }
+    }
+}
+
+// What the clause of the operator and of what stands in the clause of `==` says of the version, if
+// there is one.
+fn said(clause: &Clause, op: Op, version: Option<&Version>) -> Option<bool>
+    ensures { (left right : List ℕ) → IsVersionOf left (option_copied version.entry) →
+        ClauseOf Op.Equal right (Ok clause.now) → op ≢ Op.Exact →
+        VersionsSay op left right result }
+{
+    match version {
+        Some(version) => clause.admits_by(op, version),
+        None => None,
     }
 }
 

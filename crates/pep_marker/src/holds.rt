@@ -1,13 +1,8 @@
 // Whether a marker is true in an environment (PEP 508, "Environment Markers").
 
-ghost use Rattle.std.specs.Prelude.{◌≡◌, ◌⊎◌, ◌&&◌, ◌||◌, IfErr, IfOk, MatchOption, Ok, Some};
-ghost use Rattle.pep_version.specs.Version as version;
-ghost use Rattle.specifiers.specs.Admits.{admits};
-ghost use Rattle.specifiers.specs.Clause as clause;
-ghost use Rattle.specifiers.specs.Clause.{ClauseOf};
+ghost use Rattle.std.specs.Prelude.{◌≡◌, ◌≢◌, ◌⊎◌, ◌&&◌, ◌||◌, IfErr, IfOk, Some};
 ghost use Rattle.pep_marker.specs.Holds.{
   Compares,
-  ComparesVersions,
   Evaluates,
   IsUndefined,
   both,
@@ -18,14 +13,15 @@ ghost use Rattle.pep_marker.specs.Holds.{
 };
 ghost use Rattle.pep_marker.specs.Marker as syntax;
 ghost use Rattle.pep_marker.specs.Name.{normalized};
-ghost use Rattle.pep_marker.specs.ComparedView.{compared_bytes};
+ghost use Rattle.pep_marker.specs.ComparedView.{VersionsSay, compared_bytes};
 ghost use Rattle.pep_marker.specs.View.{marker_parts, operand_parts, operator_parts, tree_parts};
 
 use crate::compared_text::ComparedText;
 use crate::environment::{Environment, Variable};
 use crate::fault::MarkerFault;
 use crate::marker::{Marker, Operand, Operator, Tree};
-use specifiers::{Clause, ClauseFault, Op};
+use crate::value::{Value, clause_of};
+use specifiers::Op;
 use std::alloc::Global;
 
 // True, false, or undefined.
@@ -118,7 +114,7 @@ fn comparison_truth(
     if is_extra(left) || is_extra(right) {
         return normal_truth(alloc, operator, left_text, right_text);
     }
-    compared(alloc, operator, left_text, right_text.text())
+    compared(alloc, operator, left_text, right_text)
 }
 
 // What the operator says of the normal forms of two texts.
@@ -142,18 +138,18 @@ fn compared(
     alloc: Global,
     operator: Operator,
     left: ComparedText<'_>,
-    right: &str,
+    right: ComparedText<'_>,
 ) -> Result<Truth, MarkerFault>
-    ensures value { IfOk result (λ t.
-        Compares (operator_parts operator) (compared_bytes left.entry) right.now t) }
+    ensures value { IfOk result (λ t. Compares (operator_parts operator)
+        (compared_bytes left.entry) (compared_bytes right.entry) t) }
     ensures faults { IfErr result (λ e. e ≡ MarkerFault.NoMemory) }
 {
     let Operator::Version(op) = operator else {
-        return Ok(plain_truth(operator, left.text(), right));
+        return Ok(plain_truth(operator, left.text(), right.text()));
     };
     match version_truth(alloc, op, left, right)? {
         Some(truth) => Ok(Some(truth)),
-        None => Ok(text_truth(op, left.text(), right)),
+        None => Ok(text_truth(op, left.text(), right.text())),
     }
 }
 
@@ -162,36 +158,52 @@ fn version_truth(
     alloc: Global,
     op: Op,
     left: ComparedText<'_>,
-    right: &str,
+    right: ComparedText<'_>,
 ) -> Result<Option<bool>, MarkerFault>
-    ensures value { IfOk result (λ t. MatchOption t
-        ((c : clause.Clause) (v : version.Version) →
-        ¬ ComparesVersions op (compared_bytes left.entry) right.now c v)
-        (λ b. (c : clause.Clause) × (v : version.Version)
-        × ComparesVersions op (compared_bytes left.entry) right.now c v × (b ≡ admits c v))) }
+    ensures value { IfOk result (VersionsSay op (compared_bytes left.entry)
+        (compared_bytes right.entry)) }
     ensures faults { IfErr result (λ e. e ≡ MarkerFault.NoMemory) }
 {
     if op == Op::Exact {
         return Ok(None);
     }
+    match right {
+        ComparedText::Written(text) => written_truth(alloc, op, left, text),
+        ComparedText::Known(value) => known_truth(alloc, op, left, value),
+    }
+}
+
+// The same where the right text stands in the marker: its clause is made.
+fn written_truth(
+    alloc: Global,
+    op: Op,
+    left: ComparedText<'_>,
+    right: &str,
+) -> Result<Option<bool>, MarkerFault>
+    requires { op ≢ Op.Exact }
+    ensures value { IfOk result (VersionsSay op (compared_bytes left.entry) right.now) }
+    ensures faults { IfErr result (λ e. e ≡ MarkerFault.NoMemory) }
+{
     match clause_of(alloc, op, right)? {
         Some(clause) => left.admitted_by(alloc, &clause),
         None => Ok(None),
     }
 }
 
-// The clause of the operator and the text, if they make one.
-fn clause_of(alloc: Global, op: Op, text: &str) -> Result<Option<Clause>, MarkerFault>
-    ensures value { IfOk result (λ found. MatchOption found
-        ((c : clause.Clause) → ¬ ClauseOf op text.now (Ok c)) (λ c. ClauseOf op text.now (Ok c))) }
+// The same where the right text is that of a variable, of which its clause of `==` is known.
+fn known_truth(
+    alloc: Global,
+    op: Op,
+    left: ComparedText<'_>,
+    right: &Value,
+) -> Result<Option<bool>, MarkerFault>
+    requires { op ≢ Op.Exact }
+    ensures value { IfOk result (VersionsSay op (compared_bytes left.entry) right.now) }
     ensures faults { IfErr result (λ e. e ≡ MarkerFault.NoMemory) }
 {
-    match Clause::of(alloc, op, text) {
-        Ok(clause) => Ok(Some(clause)),
-        Err(fault) => match fault {
-            ClauseFault::NoMemory => Err(MarkerFault::NoMemory),
-            _ => Ok(None),
-        },
+    match right.matching() {
+        Some(clause) => left.admitted_as(alloc, op, clause),
+        None => Ok(None),
     }
 }
 

@@ -1,35 +1,41 @@
 //! What the text of a variable is, found out once for all comparisons.
 
-ghost use Rattle.std.specs.Prelude.{◌≡◌, IfErr, IfOk, MatchOption};
+ghost use Rattle.std.specs.Prelude.{◌≡◌, IfErr, IfOk, MatchOption, Ok};
 ghost use Rattle.pep_version.specs.Spelling.{Spells};
 ghost use Rattle.pep_version.specs.Version as version;
+ghost use Rattle.specifiers.specs.Clause as clause;
+ghost use Rattle.specifiers.specs.Clause.{ClauseOf};
 ghost use Rattle.pep_marker.specs.Name.{normalized};
 
 use crate::fault::MarkerFault;
 use crate::name::norm_of;
 use pep_version::{Version, VersionFault};
+use specifiers::{Clause, ClauseFault, Op};
 use std::alloc::Global;
 use std::marker::Model;
 
-/// The text of a variable, with its normal form and the version that it spells.
+/// The text of a variable, with its normal form, the version that it spells, and the clause of `==`
+/// and the text: what the text is behind an operator.
 #[derive(Debug, Drop)]
 pub(crate) struct Value {
     text: String,
     normal: String,
     version: Option<Version>,
+    matching: Option<Clause>,
 }
 
 impl Model for Value {
     ghost use Rattle.std.specs.Prelude.{◌≡◌, List, ℕ, string_bytes};
     ghost use Rattle.pep_marker.specs.Name.{normalized};
-    ghost use Rattle.pep_marker.specs.Value.{IsVersionOf};
+    ghost use Rattle.pep_marker.specs.Value.{IsMatchingOf, IsVersionOf};
 
     ghost Value = { List ℕ };
 
     ghost view = { λ v. string_bytes v.text };
 
     ghost invariant = { λ v. (string_bytes v.normal ≡ normalized (string_bytes v.text))
-        × IsVersionOf (string_bytes v.text) v.version };
+        × IsVersionOf (string_bytes v.text) v.version
+        × IsMatchingOf (string_bytes v.text) v.matching };
 }
 
 impl Value {
@@ -40,10 +46,12 @@ impl Value {
     {
         let normal = norm_of(alloc, text)?;
         let version = version_of(alloc, text)?;
+        let matching = clause_of(alloc, Op::Equal, text)?;
         Ok(Value {
             text: String::from_str(alloc, text)?,
             normal,
             version,
+            matching,
         })
     }
 
@@ -67,6 +75,14 @@ impl Value {
     {
         self.version.as_ref()
     }
+
+    /// The clause of `==` and the text, if they make one.
+    pub(crate) fn matching(&self) -> Option<&Clause>
+        ensures { MatchOption result ((c : clause.Clause) → ¬ ClauseOf Op.Equal self.now (Ok c))
+            (λ found. ClauseOf Op.Equal self.now (Ok found.now)) }
+    {
+        self.matching.as_ref()
+    }
 }
 
 /// The version that the text spells, if it spells one. The only fault is want of memory, 29.
@@ -79,6 +95,21 @@ pub(crate) fn version_of(alloc: Global, text: &str) -> Result<Option<Version>, M
         Ok(version) => Ok(Some(version)),
         Err(fault) => match fault {
             VersionFault::NoMemory => Err(MarkerFault::NoMemory),
+            _ => Ok(None),
+        },
+    }
+}
+
+/// The clause of the operator and the text, if they make one. The only fault is want of memory, 29.
+pub(crate) fn clause_of(alloc: Global, op: Op, text: &str) -> Result<Option<Clause>, MarkerFault>
+    ensures value { IfOk result (λ found. MatchOption found
+        ((c : clause.Clause) → ¬ ClauseOf op text.now (Ok c)) (λ c. ClauseOf op text.now (Ok c))) }
+    ensures faults { IfErr result (λ e. e ≡ MarkerFault.NoMemory) }
+{
+    match Clause::of(alloc, op, text) {
+        Ok(clause) => Ok(Some(clause)),
+        Err(fault) => match fault {
+            ClauseFault::NoMemory => Err(MarkerFault::NoMemory),
             _ => Ok(None),
         },
     }

@@ -2,7 +2,7 @@
 use Rattle.std.proofs.Common.{◌≡◌, ◌⊎◌, ℕ, true, List, [], ◌∷◌, ◌++◌, codes, inl, inr}
 use Rattle.std.proofs.Common.{refl, sym, ap, subst, ◌∙◌, append_assoc, append-nil, arith, length, map, ◌<◌, ◌≤◌, ◌+◌}
 use Rattle.std.proofs.Common.{Option, Some, None}
-use Rattle.std.specs.Prelude.{All, bytes_eq, if◌then◌else◌}
+use Rattle.std.specs.Prelude.{All}
 use Rattle.std.specs.List.{list_all}
 use Rattle.std.proofs.lemmas.Bool.Decides.{nat_tests}
 use Rattle.std.proofs.lemmas.List.{length-append, map-append}
@@ -19,11 +19,11 @@ use Rattle.pep_table.proofs.TableLines.{name_plain, regroup}
 use Rattle.demands.proofs.Verdicts.{verdict_one}
 use Rattle.demands.specs.declared.verdict.Verdict.{Verdict}
 use Rattle.pep_table.specs.EntryReading.{BeginsSpace, FollowsAlike, HasHead, HasNext, HasNoHead}
-use Rattle.pep_table.specs.EntryReading.{HasNoNext}
+use Rattle.pep_table.specs.EntryReading.{HasNoNext, found_with, wanted_entry}
 use Rattle.pep_table.specs.EntryReading.{HasNoParts, HasOtherVerdict, HasParts, IsEntryAt, head_line}
 use Rattle.pep_table.specs.EntryReading.{parts_then, ranges_then, texts_then, urls_then}
 use Rattle.demands.specs.Table.{EntryDemands, EntryParts, IsValidEntry, IsValidTable, TableParts}
-use Rattle.demands.specs.Table.{entry_at, names}
+use Rattle.demands.specs.Table.{names}
 use Rattle.pep_table.specs.TableText.{AreNoLines, AreTableLines, Shows, entry_text, kind_lines}
 use Rattle.pep_table.specs.TableText.{line, range_text}
 use Rattle.demands.specs.Verdict.{verdict_word}
@@ -274,25 +274,35 @@ module _ (x : List ℕ) (t : TableParts) (rest : List ℕ) (s : EntriesSoFar x t
 -- ---- the entry of one name
 
 -- entries are read, of which the last name is kept, and what they have of one name
-pub record NamedSoFar (x n : List ℕ) (last : List (List ℕ)) (found : Option EntryParts)
-    (rest : List ℕ) : Type 0 where
+pub record NamedSoFar (x : List ℕ) (n : Option (List ℕ)) (last : List (List ℕ))
+    (found : Option EntryParts) (rest : List ℕ) : Type 0 where
   pub done : TableParts
   pub entries : EntriesSoFar x done rest
   pub alike : FollowsAlike (names done) last
-  pub kept : found ≡ entry_at done n
+  pub kept : found ≡ wanted_entry done n
 
-pub none_named : (x n : List ℕ) → NamedSoFar x n [] None x
+none_wanted : (n : Option (List ℕ)) → None ≡ wanted_entry [] n
+none_wanted None = refl
+none_wanted (Some n) = refl
+
+pub none_named : (x : List ℕ) (n : Option (List ℕ)) → NamedSoFar x n [] None x
 none_named x n = record {
   done = [];
   entries = none_read x;
   alike = λ m. ((λ h. h), λ h. h);
-  kept = refl;
+  kept = none_wanted n;
 }
 
-module _ (x n : List ℕ) (last : List (List ℕ)) (found : Option EntryParts) (rest : List ℕ)
+wanted_more : (t : TableParts) (p : List ℕ × EntryParts) (n : Option (List ℕ))
+    (found : Option EntryParts) → IsAscending (names (t ++ p ∷ [])) → found ≡ wanted_entry t n →
+    found_with n p.0 p.1 found ≡ wanted_entry (t ++ p ∷ []) n
+wanted_more t p None found up kept = kept
+wanted_more t p (Some n) found up kept = found_more t p n found up kept
+
+module _ (x : List ℕ) (n : Option (List ℕ)) (last : List (List ℕ)) (found : Option EntryParts) (rest : List ℕ)
     (s : NamedSoFar x n last found rest) where
   pub named_read : length rest ≡ 0 →
-      (t : TableParts) × AreTableLines t x × IsValidTable t × (found ≡ entry_at t n)
+      (t : TableParts) × AreTableLines t x × IsValidTable t × (found ≡ wanted_entry t n)
   named_read e = (s.done, all_read x s.done rest s.entries e, s.entries.valid, s.kept)
 
   pub no_named : ¬ (rest ≡ []) → HasNoNext last rest → AreNoLines x
@@ -301,7 +311,7 @@ module _ (x n : List ℕ) (last : List (List ℕ)) (found : Option EntryParts) (
 
   pub named_more : (name : List ℕ) (e : EntryParts) (behind : List ℕ) → ¬ (rest ≡ []) →
       HasNext last rest name e behind → NamedSoFar x n (name ∷ [])
-      (if bytes_eq name n then Some e else found) behind
+      (found_with n name e found) behind
   named_more name e behind some next =
       let own = next_alike (names s.done) last rest s.alike name e behind next in
       let more = entry_more x s.done rest s.entries name e behind some own in
@@ -311,5 +321,5 @@ module _ (x n : List ℕ) (last : List (List ℕ)) (found : Option EntryParts) (
         entries = more;
         alike = subst (λ l. FollowsAlike l (name ∷ [])) (sym split)
             (behind_one (names s.done) name own.next.behind);
-        kept = found_more s.done (name, e) n found more.valid.names.0 s.kept;
+        kept = wanted_more s.done (name, e) n found more.valid.names.0 s.kept;
       }

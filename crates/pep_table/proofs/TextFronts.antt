@@ -18,7 +18,7 @@ use Rattle.demands.specs.Table.{IsValidTable, TableParts, names}
 use Rattle.demands.specs.Verdict.{verdict_word}
 use Rattle.pep_table.specs.EntryReading.{HasNoHead, parts_then}
 use Rattle.pep_table.specs.TableText.{AreNoLines, AreTableLines, DecidesText, IsBadLine}
-use Rattle.pep_table.specs.TableText.{IsMadeElsewhere, IsNoTableText, IsReadAs, IsRefusedAsTable, IsUnread}
+use Rattle.pep_table.specs.TableText.{IsNoTableText, IsReadAs, IsRefusedAsTable, IsUnread}
 use Rattle.pep_table.specs.TableText.{IsTableText, of_none, of_other}
 use Rattle.pep_table.proofs.OneTableOfText.{same_lines}
 use Rattle.pep_table.proofs.ReadParts.{no_verdict}
@@ -139,9 +139,9 @@ refused_lines e x lines fault decides (inr ((n, bad), none)) = inr (of_none n ba
 
 pub halted_refused : (e : EnvironmentParts) (x lines : List ℕ) (fault : TableFault) →
     DecidesText e x lines → (M : Type 0) → (M → fault ≡ NoMemory) → M ⊎ AreNoLines lines →
-    (fault ≡ NoMemory) ⊎ IsBadLine fault → (fault ≡ NoMemory) ⊎ IsRefusedAsTable e x fault
+    M ⊎ IsBadLine fault → (fault ≡ NoMemory) ⊎ IsRefusedAsTable e x fault
 halted_refused e x lines fault decides M memory (inl m) bad = inl (memory m)
-halted_refused e x lines fault decides M memory (inr none) (inl wanting) = inl wanting
+halted_refused e x lines fault decides M memory (inr none) (inl m) = inl (memory m)
 halted_refused e x lines fault decides M memory (inr none) (inr bad) =
     refused_lines e x lines fault decides (inr (bad, none))
 

@@ -1,6 +1,5 @@
 -- What stands in front of a table's lines.
-use Rattle.std.specs.Prelude.{◌≡◌, ℕ, ◌==◌, not, true, codes, List, ◌++◌, All, map}
-use Rattle.std.specs.List.{list_all}
+use Rattle.std.specs.Prelude.{◌≡◌, ℕ, codes, List, ◌++◌, All, map}
 use Rattle.std.specs.declared.cmp.Ordering.TheVariants.{Less}
 use Rattle.pep_clause.specs.Cut.{IsCut, cut_cmp}
 use Rattle.pep_clause.specs.VersionSet.{IsNormal, Range}

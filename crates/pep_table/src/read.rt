@@ -5,7 +5,7 @@ mod ranges;
 
 ghost use Rattle.std.specs.Prelude.{◌≡◌, ◌⊎◌, ◌↔◌, ◌++◌, ◌∷◌, []};
 ghost use Rattle.std.specs.Prelude.{IfErr, IfOk, IfSome, IsTrue, None, Some};
-ghost use Rattle.std.specs.Prelude.{bytes_eq, if◌then◌else◌};
+ghost use Rattle.std.specs.Option.{option_copied};
 ghost use Rattle.pep_require.specs.Requirement.{IsAscending};
 ghost use Rattle.pep_table.specs.EntryReading.{
   FollowsAlike,
@@ -16,7 +16,9 @@ ghost use Rattle.pep_table.specs.EntryReading.{
   HasNoParts,
   HasOtherVerdict,
   HasParts,
+  found_with,
   last_name,
+  wanted_entry,
 };
 ghost use Rattle.demands.specs.Table.{IsValidTable, TableParts, entry_at, names};
 ghost use Rattle.pep_table.specs.NamedEntry.{entry_alone};
@@ -216,17 +218,29 @@ fn read_entries(alloc: Global, text: &str) -> Result<Vec<(Name, Entry)>, Halt<'_
 }
 
 // What was found before, or this entry where it has the wanted name.
-fn found_with(found: Option<Entry>, wanted: &Name, name: &Name, entry: Entry) -> Option<Entry>
-    ensures { result ≡ (if bytes_eq name.now wanted.now then Some entry else found) }
+fn found_with(
+    found: Option<Entry>,
+    wanted: Option<&Name>,
+    name: &Name,
+    entry: Entry,
+) -> Option<Entry>
+    ensures { result ≡ found_with (option_copied wanted.entry) name.now entry found }
 {
-    if *name == *wanted { Some(entry) } else { found }
+    match wanted {
+        Some(wanted) if *name == *wanted => Some(entry),
+        _ => found,
+    }
 }
 
-// The entry of the wanted name in a table's lines, if there is one. All entries are read, and the
-// others dropped.
-fn read_wanted<'a>(alloc: Global, text: &'a str, wanted: &Name) -> Result<Option<Entry>, Halt<'a>>
+// The entry of the wanted name, where one is wanted, in a table's lines, if there is one. All
+// entries are read, and the others dropped.
+fn read_wanted<'a>(
+    alloc: Global,
+    text: &'a str,
+    wanted: Option<&Name>,
+) -> Result<Option<Entry>, Halt<'a>>
     ensures ok { IfOk result (λ found. (t : TableParts) × AreTableLines t text.now
-        × IsValidTable t × (found ≡ entry_at t wanted.now)) }
+        × IsValidTable t × (found ≡ wanted_entry t (option_copied wanted.entry))) }
     ensures refused { IfErr result (λ e. (e ≡ Halt.NoMemory) ⊎ AreNoLines text.now) }
 {
     let mut last = None;
@@ -268,7 +282,7 @@ fn bad_header_line(text: &str, rest: &str) -> usize {
 // The fault of a text that can't be read as a table's lines.
 fn halted(text: &str, halt: Halt<'_>) -> TableFault
     ensures memory { halt.entry ≡ Halt.NoMemory → result ≡ TableFault.NoMemory }
-    ensures line { (result ≡ TableFault.NoMemory) ⊎ IsBadLine result }
+    ensures line { (halt.entry ≡ Halt.NoMemory) ⊎ IsBadLine result }
 {
     match halt {
         Halt::NoMemory => TableFault::NoMemory,
@@ -297,9 +311,9 @@ fn other_fault(alloc: Global, text: &str, number: usize, lines: &str) -> TableFa
         × (t : TableParts) × IsValidTable t × AreTableLines t lines.now)
         ⊎ (IsBadLine result × AreNoLines lines.now) }
 {
-    match table_of_lines(alloc, text, lines) {
+    match read_wanted(alloc, lines, None) {
         Ok(_) => TableFault::OtherEnvironment(number),
-        Err(fault) => fault,
+        Err(halt) => halted(text, halt),
     }
 }
 
@@ -320,7 +334,7 @@ fn header_in<'a>(
 }
 
 // The lines with which the text ends of a table in the environment: those behind its header, or all.
-fn lines_in<'a>(
+fn lines_to_read<'a>(
     alloc: Global,
     text: &'a str,
     environment: &Environment,
@@ -353,14 +367,13 @@ impl Table {
         ensures refused { IfErr result (λ e. (e ≡ TableFault.NoMemory)
             ⊎ IsRefusedAsTable environment.now text.now e) }
     {
-        let lines = lines_in(alloc, text, environment)?;
+        let lines = lines_to_read(alloc, text, environment)?;
         table_of_lines(alloc, text, lines)
     }
 
     /// What the table has of one name whose text this is in the environment, or whose lines: a table
     /// of its entry alone, or of nothing where there is none. The whole text is read, and refused as
-    /// by [`Table::read`]; of the other entries none is
-    /// kept, but while the text of another environment is judged.
+    /// by [`Table::read`]; of the other entries none is kept.
     pub fn read_named(
         alloc: Global,
         text: &str,
@@ -373,8 +386,8 @@ impl Table {
         ensures refused { IfErr result (λ e. (e ≡ TableFault.NoMemory)
             ⊎ IsRefusedAsTable environment.now text.now e) }
     {
-        let lines = lines_in(alloc, text, environment)?;
-        match read_wanted(alloc, lines, name) {
+        let lines = lines_to_read(alloc, text, environment)?;
+        match read_wanted(alloc, lines, Some(name)) {
             Ok(found) => Table::alone(alloc, name, found),
             Err(halt) => Err(halted(text, halt)),
         }

@@ -5,6 +5,7 @@ mod fault;
 mod key;
 pub mod laws;
 mod number;
+mod order;
 mod parts;
 mod release;
 mod segments;

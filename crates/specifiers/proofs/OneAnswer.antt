@@ -68,7 +68,7 @@ version-one o text a b h g m n =
     n
 
 -- with any operator but `===` the text is read as a version
-told-version : (o : Op) (text : List ℕ) (a : Result Clause ClauseFault) → o ≢ op.Exact →
+pub told-version : (o : Op) (text : List ℕ) (a : Result Clause ClauseFault) → o ≢ op.Exact →
     IsAnswer a → TargetAnswers o text a → VersionAnswers o text a
 told-version op.Exact text a other m h = absurd (other refl)
 told-version o text (Ok c) other m h = h

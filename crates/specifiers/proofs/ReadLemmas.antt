@@ -77,7 +77,7 @@ lower-demanded (b ∷ rest) h = lower-bytes (b ∷ rest) h
 -- ---- a text without white space at its ends, behind an operator
 
 -- with any operator but `===` the text is read as a version
-target-any : (o : Op) (text : List ℕ) (answer : Result Clause ClauseFault) → o ≢ op.Exact →
+pub target-any : (o : Op) (text : List ℕ) (answer : Result Clause ClauseFault) → o ≢ op.Exact →
     VersionAnswers o text answer → TargetAnswers o text answer
 target-any op.Exact text answer other h = absurd (other refl)
 target-any o text (Ok c) other h = h

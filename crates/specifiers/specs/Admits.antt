@@ -1,14 +1,17 @@
 -- Which versions a clause admits ("Version specifiers"). A candidate's local version label counts
 -- only where the clause has a label itself ("Version matching").
-use Rattle.std.specs.Prelude.{ℕ, ◌==◌, ◌-◌, ◌&&◌, ◌||◌, Bool, true, not, List, [], ◌∷◌, length}
-use Rattle.std.specs.Prelude.{take, IsTrue, is_some, nat_eq, if◌then◌else◌}
+use Rattle.std.specs.Prelude.{◌≡◌, ℕ, ◌==◌, ◌-◌, ◌&&◌, ◌||◌, Bool, true, not, List, [], ◌∷◌, length}
+use Rattle.std.specs.Prelude.{take, IsTrue, is_some, nat_eq, if◌then◌else◌, Option, Some, None}
+use Rattle.std.specs.Prelude.{Result, Ok, Err}
 use Rattle.std.specs.Cmp.Lexicographic.{pointwise}
 use Rattle.pep_version.specs.Order.{is_below, is_same, public_version, without_dev, without_post}
 use Rattle.pep_version.specs.Order.{without_pre}
 use Rattle.pep_version.specs.Text.{normal_text}
 use Rattle.pep_version.specs.Version.{Version, is_pre_release}
 use Rattle.texts.specs.Lists.{is_empty}
-use Rattle.specifiers.specs.Clause.{Clause, Prefix, compatible, matching, matching_prefix}
+use Rattle.specifiers.specs.declared.fault.ClauseFault.{ClauseFault}
+use Rattle.specifiers.specs.declared.op.Op.{Op}
+use Rattle.specifiers.specs.Clause.{Clause, ClauseOf, Prefix, compatible, matching, matching_prefix}
 use Rattle.specifiers.specs.Clause.{excluding, excluding_prefix, at_most, at_least, less_than}
 use Rattle.specifiers.specs.Clause.{greater_than, demanded}
 
@@ -57,6 +60,16 @@ admits (less_than w) v =
 admits (greater_than w) v =
     is_below w (public_version v) && (is_some w.post || not (is_post_release_of v w))
 admits (demanded text) v = pointwise nat_eq (normal_text v) text
+
+-- what the clause that an operator makes says of the version; nothing where it makes none
+abbrev pub says : Result Clause ClauseFault → Version → Option Bool
+says (Ok c) v = Some (admits c v)
+says (Err e) v = None
+
+-- an operator and a text say so of the version: what their clause says; nothing where they make none
+abbrev pub SaysOf : Op → List ℕ → Version → Option Bool → Type 0
+SaysOf o text v None = (c : Clause) → ¬ ClauseOf o text (Ok c)
+SaysOf o text v (Some b) = (c : Clause) × ClauseOf o text (Ok c) × (b ≡ admits c v)
 
 -- the clause admits the version
 abbrev pub Admits : Clause → Version → Type 0

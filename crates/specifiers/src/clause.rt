@@ -13,7 +13,7 @@ use std::marker::Model;
 
 /// How a clause is kept, a prefix as the version that is its epoch and release. Public for the crate
 /// of cuts and sets, which makes ranges of it.
-#[derive(Drop)]
+#[derive(Debug, Drop)]
 pub enum ClauseForm {
     Compatible(Version),
     Matching(Version),
@@ -29,7 +29,7 @@ pub enum ClauseForm {
 
 /// A version specifier clause (PEP 440, "Version specifiers"): an operator, and the version, the
 /// prefix or the text that stands behind it.
-#[derive(Drop)]
+#[derive(Debug, Drop)]
 pub struct Clause {
     form: ClauseForm,
 }

@@ -1,7 +1,8 @@
 // Which versions a clause admits.
 
-ghost use Rattle.std.specs.Prelude.{◌≡◌, [], IfErr, IfOk};
-ghost use Rattle.pep_version.specs.Order.{is_below, is_same, public_version, version_cmp};
+ghost use Rattle.std.specs.Prelude.{◌≡◌};
+ghost use Rattle.pep_version.specs.Order.{public_version, version_cmp};
+ghost use Rattle.texts.specs.Lists.{is_empty};
 ghost use Rattle.specifiers.specs.Admits.{
   admits,
   begins_padded,
@@ -9,6 +10,7 @@ ghost use Rattle.specifiers.specs.Admits.{
   is_post_release_of,
   is_pre_release_of,
   matches,
+  says,
 };
 ghost use Rattle.specifiers.specs.Clause.{
   at_least,
@@ -16,97 +18,56 @@ ghost use Rattle.specifiers.specs.Clause.{
   compatible,
   greater_than,
   less_than,
+  prefix_clause,
   prefix_of,
+  version_clause,
 };
 
 use crate::clause::{Clause, ClauseForm};
 use crate::fault::ClauseFault;
-use pep_version::{Key, Phase, Version};
+use crate::op::Op;
+use pep_version::Version;
 use std::alloc::Global;
 use std::cmp::Ordering;
 
-// The version's epoch and release with these parts, and no label.
-fn with_suffixes(
-    alloc: Global,
-    version: &Version,
-    pre: Option<(Phase, u64)>,
-    post: Option<u64>,
-    dev: Option<u64>,
-) -> Result<Version, ClauseFault>
-    ensures version { IfOk result (λ v. v ≡ record {
-      epoch = version.now.epoch;
-      release =
-          version.now.release;
-      pre = pre;
-      post = post;
-      dev = dev;
-      label = [];
-    }) }
-    ensures faults { IfErr result (λ e. e ≡ ClauseFault.NoMemory) }
+// Whether the version has no local version label.
+fn is_public(version: &Version) -> bool
+    ensures { result ≡ is_empty version.now.label }
 {
-    let release = Vec::from_slice(alloc, version.release())?;
-    Ok(Version::of_parts(version.epoch(), release, pre, post, dev, Vec::new(alloc)).unwrap())
+    version.label().is_empty()
 }
 
-// The version without its local version label.
-fn public_version(alloc: Global, version: &Version) -> Result<Version, ClauseFault>
-    ensures version { IfOk result (λ v. v ≡ public_version version.now) }
-    ensures faults { IfErr result (λ e. e ≡ ClauseFault.NoMemory) }
+// How the version without its local version label stands to the other.
+fn public_order(version: &Version, other: &Version) -> Ordering
+    ensures { result ≡ version_cmp (public_version version.now) other.now }
 {
-    with_suffixes(alloc, version, version.pre(), version.post(), version.dev())
+    version.order_with(version.pre(), version.post(), version.dev(), other)
 }
 
-fn compared(alloc: Global, version: &Version, other: &Version) -> Result<Ordering, ClauseFault>
-    ensures order { IfOk result (λ o. o ≡ version_cmp version.now other.now) }
-    ensures faults { IfErr result (λ e. e ≡ ClauseFault.NoMemory) }
+// How the other stands to the version without its local version label.
+fn order_to_public(other: &Version, version: &Version) -> Ordering
+    ensures { result ≡ version_cmp other.now (public_version version.now) }
 {
-    Ok(Key::of(alloc, version)?.cmp(&Key::of(alloc, other)?))
-}
-
-fn is_below(alloc: Global, version: &Version, other: &Version) -> Result<bool, ClauseFault>
-    ensures below { IfOk result (λ b. b ≡ is_below version.now other.now) }
-    ensures faults { IfErr result (λ e. e ≡ ClauseFault.NoMemory) }
-{
-    Ok(compared(alloc, version, other)? == Ordering::Less)
-}
-
-fn is_same(alloc: Global, version: &Version, other: &Version) -> Result<bool, ClauseFault>
-    ensures same { IfOk result (λ b. b ≡ is_same version.now other.now) }
-    ensures faults { IfErr result (λ e. e ≡ ClauseFault.NoMemory) }
-{
-    Ok(compared(alloc, version, other)? == Ordering::Equal)
+    public_order(version, other).reverse()
 }
 
 // Whether the version is a pre-release of the other (PEP 440, "Exclusive ordered comparison").
-fn is_pre_release_of(alloc: Global, version: &Version, other: &Version) -> Result<bool, ClauseFault>
-    ensures is { IfOk result (λ b. b ≡ is_pre_release_of version.now other.now) }
-    ensures faults { IfErr result (λ e. e ≡ ClauseFault.NoMemory) }
+fn is_pre_release_of(version: &Version, other: &Version) -> bool
+    ensures { result ≡ is_pre_release_of version.now other.now }
 {
-    let without_dev = with_suffixes(alloc, version, version.pre(), version.post(), None)?;
-    if is_same(alloc, &without_dev, other)? {
-        return Ok(true);
+    let without_dev = version.order_with(version.pre(), version.post(), None, other);
+    if without_dev == Ordering::Equal {
+        return true;
     }
-    if version.pre().is_none() {
-        return Ok(false);
-    }
-    let release = with_suffixes(alloc, version, None, None, None)?;
-    is_same(alloc, &release, other)
+    version.pre().is_some() && version.order_with(None, None, None, other) == Ordering::Equal
 }
 
 // Whether the version is a post-release of the other (PEP 440, "Exclusive ordered comparison").
-fn is_post_release_of(
-    alloc: Global,
-    version: &Version,
-    other: &Version,
-) -> Result<bool, ClauseFault>
-    ensures is { IfOk result (λ b. b ≡ is_post_release_of version.now other.now) }
-    ensures faults { IfErr result (λ e. e ≡ ClauseFault.NoMemory) }
+fn is_post_release_of(version: &Version, other: &Version) -> bool
+    ensures { result ≡ is_post_release_of version.now other.now }
 {
-    if version.post().is_none() {
-        return Ok(false);
-    }
-    let without_post = with_suffixes(alloc, version, version.pre(), None, None)?;
-    is_same(alloc, &without_post, other)
+    version.post().is_some()
+        && version.order_with(version.pre(), None, None, other) == Ordering::Equal
 }
 
 // Whether the release, padded with zeros, begins with these numbers.
@@ -131,14 +92,14 @@ fn has_prefix(epoch: u64, numbers: &[u64], version: &Version) -> bool
 
 // Whether the version is the same as the clause's, its label apart where the clause has none (PEP
 // 440, "Version matching").
-fn matches(alloc: Global, wanted: &Version, version: &Version) -> Result<bool, ClauseFault>
-    ensures matches { IfOk result (λ b. b ≡ matches wanted.now version.now) }
-    ensures faults { IfErr result (λ e. e ≡ ClauseFault.NoMemory) }
+fn matches(wanted: &Version, version: &Version) -> bool
+    ensures { result ≡ matches wanted.now version.now }
 {
-    if !wanted.label().is_empty() {
-        return is_same(alloc, version, wanted);
+    if is_public(wanted) {
+        public_order(version, wanted) == Ordering::Equal
+    } else {
+        version.order_to(wanted) == Ordering::Equal
     }
-    is_same(alloc, &public_version(alloc, version)?, wanted)
 }
 
 // `==` and `.*` (PEP 440, "Version matching").
@@ -149,76 +110,120 @@ fn matches_prefix(prefix: &Version, version: &Version) -> bool
 }
 
 // `<=` (PEP 440, "Inclusive ordered comparison").
-fn is_at_most(alloc: Global, wanted: &Version, version: &Version) -> Result<bool, ClauseFault>
-    ensures is { IfOk result (λ b. b ≡ admits (at_most wanted.now) version.now) }
-    ensures faults { IfErr result (λ e. e ≡ ClauseFault.NoMemory) }
+fn is_at_most(wanted: &Version, version: &Version) -> bool
+    ensures { result ≡ admits (at_most wanted.now) version.now }
 {
-    Ok(!is_below(alloc, wanted, &public_version(alloc, version)?)?)
+    order_to_public(wanted, version) != Ordering::Less
 }
 
 // `>=` (PEP 440, "Inclusive ordered comparison").
-fn is_at_least(alloc: Global, wanted: &Version, version: &Version) -> Result<bool, ClauseFault>
-    ensures is { IfOk result (λ b. b ≡ admits (at_least wanted.now) version.now) }
-    ensures faults { IfErr result (λ e. e ≡ ClauseFault.NoMemory) }
+fn is_at_least(wanted: &Version, version: &Version) -> bool
+    ensures { result ≡ admits (at_least wanted.now) version.now }
 {
-    Ok(!is_below(alloc, &public_version(alloc, version)?, wanted)?)
+    public_order(version, wanted) != Ordering::Less
 }
 
 // `~=` (PEP 440, "Compatible release").
-fn is_compatible(alloc: Global, wanted: &Version, version: &Version) -> Result<bool, ClauseFault>
-    ensures is { IfOk result (λ b. b ≡ admits (compatible wanted.now) version.now) }
-    ensures faults { IfErr result (λ e. e ≡ ClauseFault.NoMemory) }
+fn is_compatible(wanted: &Version, version: &Version) -> bool
+    ensures { result ≡ admits (compatible wanted.now) version.now }
 {
     let [numbers @ .., _] = wanted.release() else {
         unreachable!();
     };
-    Ok(is_at_least(alloc, wanted, version)? && has_prefix(wanted.epoch(), numbers, version))
+    is_at_least(wanted, version) && has_prefix(wanted.epoch(), numbers, version)
 }
 
 // `<` (PEP 440, "Exclusive ordered comparison").
-fn is_less(alloc: Global, wanted: &Version, version: &Version) -> Result<bool, ClauseFault>
-    ensures is { IfOk result (λ b. b ≡ admits (less_than wanted.now) version.now) }
-    ensures faults { IfErr result (λ e. e ≡ ClauseFault.NoMemory) }
+fn is_less(wanted: &Version, version: &Version) -> bool
+    ensures { result ≡ admits (less_than wanted.now) version.now }
 {
-    if !is_below(alloc, &public_version(alloc, version)?, wanted)? {
-        return Ok(false);
-    }
-    Ok(wanted.is_pre() || !is_pre_release_of(alloc, version, wanted)?)
+    public_order(version, wanted) == Ordering::Less
+        && (wanted.is_pre() || !is_pre_release_of(version, wanted))
 }
 
 // `>` (PEP 440, "Exclusive ordered comparison").
-fn is_greater(alloc: Global, wanted: &Version, version: &Version) -> Result<bool, ClauseFault>
-    ensures is { IfOk result (λ b. b ≡ admits (greater_than wanted.now) version.now) }
-    ensures faults { IfErr result (λ e. e ≡ ClauseFault.NoMemory) }
+fn is_greater(wanted: &Version, version: &Version) -> bool
+    ensures { result ≡ admits (greater_than wanted.now) version.now }
 {
-    if !is_below(alloc, wanted, &public_version(alloc, version)?)? {
-        return Ok(false);
+    order_to_public(wanted, version) == Ordering::Less
+        && (wanted.post().is_some() || !is_post_release_of(version, wanted))
+}
+
+// What the clause of an operator and a version says of another version; nothing where they make no
+// clause.
+fn admitted_by(op: Op, wanted: &Version, version: &Version) -> Option<bool>
+    ensures { result ≡ says (version_clause op wanted.now) version.now }
+{
+    let numbers = wanted.release().len();
+    match op {
+        Op::Equal => Some(matches(wanted, version)),
+        Op::NotEqual => Some(!matches(wanted, version)),
+        Op::Exact => None,
+        _ if !is_public(wanted) => None,
+        Op::AtMost => Some(is_at_most(wanted, version)),
+        Op::AtLeast => Some(is_at_least(wanted, version)),
+        Op::Less => Some(is_less(wanted, version)),
+        Op::More => Some(is_greater(wanted, version)),
+        Op::Compatible if numbers < 2 => None,
+        Op::Compatible => Some(is_compatible(wanted, version)),
     }
-    Ok(wanted.post().is_some() || !is_post_release_of(alloc, version, wanted)?)
+}
+
+// What the clause of an operator and a prefix says of a version; nothing where they make no clause.
+fn admitted_by_prefix(op: Op, prefix: &Version, version: &Version) -> Option<bool>
+    ensures { result ≡ says (prefix_clause op (prefix_of prefix.now)) version.now }
+{
+    match op {
+        Op::Equal => Some(matches_prefix(prefix, version)),
+        Op::NotEqual => Some(!matches_prefix(prefix, version)),
+        _ => None,
+    }
 }
 
 impl Clause {
-    ghost use Rattle.std.specs.Prelude.{◌≡◌, IfErr, IfOk};
-    ghost use Rattle.specifiers.specs.Admits.{admits};
+    ghost use Rattle.std.specs.Prelude.{◌≡◌, ◌≢◌, ℕ, IfErr, IfOk, IsOk, List, None};
+    ghost use Rattle.specifiers.specs.Admits.{SaysOf, admits};
+    ghost use Rattle.specifiers.specs.Clause.{IsClauseOf, demanded_text};
+    ghost use Rattle.specifiers.specs.Operator.{operator};
 
     /// Whether the clause admits the version (PEP 440, "Version specifiers"). The version's local
     /// version label counts only where the clause has a label itself ("Version matching"). The only
-    /// fault is `NoMemory`.
+    /// fault is `NoMemory`, for a clause with `===`: the others ask for no memory.
     pub fn admits(&self, alloc: Global, version: &Version) -> Result<bool, ClauseFault>
         ensures admits { IfOk result (λ b. b ≡ admits self.now version.now) }
+        ensures no_fault { demanded_text self.now ≡ None → IsOk result }
         ensures faults { IfErr result (λ e. e ≡ ClauseFault.NoMemory) }
     {
+        let truth = match self.form() {
+            ClauseForm::Compatible(wanted) => is_compatible(wanted, version),
+            ClauseForm::Matching(wanted) => matches(wanted, version),
+            ClauseForm::MatchingPrefix(prefix) => matches_prefix(prefix, version),
+            ClauseForm::Excluding(wanted) => !matches(wanted, version),
+            ClauseForm::ExcludingPrefix(prefix) => !matches_prefix(prefix, version),
+            ClauseForm::AtMost(wanted) => is_at_most(wanted, version),
+            ClauseForm::AtLeast(wanted) => is_at_least(wanted, version),
+            ClauseForm::LessThan(wanted) => is_less(wanted, version),
+            ClauseForm::GreaterThan(wanted) => is_greater(wanted, version),
+            ClauseForm::Demanded(text) => version.text(alloc)?.as_str() == text.as_str(),
+        };
+        Ok(truth)
+    }
+
+    /// What the clause of this operator, with the version or prefix that this clause of `==` has, says
+    /// of a version, as [`Clause::admits`] does (PEP 440, "Version specifiers"); nothing where the
+    /// operator and the text make no clause (see [`Clause::of`]), and where this is no clause of `==`
+    /// or the operator is `===`. Nothing is read or copied, and no memory is asked for. Public for the
+    /// crate of markers.
+    pub fn admits_by(&self, op: Op, version: &Version) -> Option<bool>
+        ensures says { (text : List ℕ) → IsClauseOf Op.Equal text self.now → op ≢ Op.Exact →
+            SaysOf op text version.now result }
+        ensures exact { op ≡ Op.Exact → result ≡ None }
+        ensures other { ¬ (operator self.now ≡ Op.Equal) → result ≡ None }
+    {
         match self.form() {
-            ClauseForm::Compatible(wanted) => is_compatible(alloc, wanted, version),
-            ClauseForm::Matching(wanted) => matches(alloc, wanted, version),
-            ClauseForm::MatchingPrefix(prefix) => Ok(matches_prefix(prefix, version)),
-            ClauseForm::Excluding(wanted) => Ok(!matches(alloc, wanted, version)?),
-            ClauseForm::ExcludingPrefix(prefix) => Ok(!matches_prefix(prefix, version)),
-            ClauseForm::AtMost(wanted) => is_at_most(alloc, wanted, version),
-            ClauseForm::AtLeast(wanted) => is_at_least(alloc, wanted, version),
-            ClauseForm::LessThan(wanted) => is_less(alloc, wanted, version),
-            ClauseForm::GreaterThan(wanted) => is_greater(alloc, wanted, version),
-            ClauseForm::Demanded(text) => Ok(version.text(alloc)?.as_str() == text.as_str()),
+            ClauseForm::Matching(wanted) => admitted_by(op, wanted, version),
+            ClauseForm::MatchingPrefix(prefix) => admitted_by_prefix(op, prefix, version),
+            _ => None,
         }
     }
 }

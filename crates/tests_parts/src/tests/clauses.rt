@@ -227,6 +227,54 @@ fn admits_versions(rt: HostRuntime) -> Result<(), Fail> {
     Ok(())
 }
 
+// What the clause's operator makes of its text, asked of the clause of `==`.
+fn admitted_by(alloc: Global, clause: &str, version: &str) -> Result<Option<bool>, ClauseFault> {
+    let candidate = Version::read(alloc, version)?;
+    let clause = Clause::read(alloc, clause)?;
+    let written = clause.text(alloc)?;
+    let behind = written.as_str().strip_prefix(clause.op().text());
+    let matching = Clause::of(alloc, Op::Equal, behind.unwrap_or("another operator"))?;
+    Ok(matching.admits_by(clause.op(), &candidate))
+}
+
+#[test]
+fn admits_by_operators(rt: HostRuntime) -> Result<(), Fail> {
+    for &(clause, version, wanted) in &ADMITTED {
+        let found = admitted_by(rt.alloc(), clause, version)?;
+        let wanted = if clause.starts_with("===") {
+            None
+        } else {
+            Some(wanted)
+        };
+        expect(&rt, (clause, version), found == wanted);
+    }
+    Ok(())
+}
+
+// Operators that make no clause of a text, though `==` does; `===`, of which nothing is told; and a
+// clause that isn't one of `==`.
+const NOT_ADMITTED: [(&str, Op); 5] = [
+    ("==1", Op::Compatible),
+    ("==1.*", Op::AtLeast),
+    ("==1+x", Op::Less),
+    ("==1", Op::Exact),
+    ("!=1", Op::Equal),
+];
+
+fn asked(alloc: Global, clause: &str, operator: Op) -> Result<Option<bool>, ClauseFault> {
+    let candidate = Version::read(alloc, "1")?;
+    Ok(Clause::read(alloc, clause)?.admits_by(operator, &candidate))
+}
+
+#[test]
+fn makes_no_clauses(rt: HostRuntime) -> Result<(), Fail> {
+    for &(clause, operator) in &NOT_ADMITTED {
+        let found = asked(rt.alloc(), clause, operator)?;
+        expect(&rt, (clause, operator.text()), found.is_none());
+    }
+    Ok(())
+}
+
 #[test]
 fn laws_of_clauses() {
     laws::one_clause();

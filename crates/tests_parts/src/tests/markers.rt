@@ -27,10 +27,20 @@ const OPERATORS: [&str; 10] = [
 ];
 
 // What each marker says on the machine.
-const TRUTHS: [(&str, &str); 14] = [
+const TRUTHS: [(&str, &str); 24] = [
     ("python_version < \"3.10\"", "true"),
     ("\"3.8\" <= python_version", "true"),
     ("\"18446744073709551616\" < python_version", "true"),
+    ("\"3.9.0\" == python_version", "true"),
+    ("\"3.9+x\" == python_version", "true"),
+    ("\"3.9.0\" === python_version", "false"),
+    ("\"3.9.*\" == python_version", "false"),
+    ("\"3.9rc1\" < python_version", "false"),
+    ("\"3.10\" ~= python_version", "true"),
+    ("\"3.9.1\" ~= python_full_version", "false"),
+    ("python_version < python_full_version", "true"),
+    ("python_full_version ~= python_version", "true"),
+    ("\"4\" > os_name", "false"),
     ("python_version == \"3.*\"", "true"),
     ("python_version in \"3.8 3.9\"", "true"),
     ("\"lin\" in sys_platform", "true"),
@@ -64,9 +74,10 @@ const VERSIONS: [(&str, &str, &str); 9] = [
     (">", "18446744073709551616", "true"),
 ];
 
-const UNDEFINED: [&str; 8] = [
+const UNDEFINED: [&str; 9] = [
     "extra ~= \"1.0\"",
     "sys_platform ~= \"1.0\"",
+    "\"1.0\" ~= sys_platform",
     "python_version ~= \"3\"",
     "python_version ~= \"18446744073709551616.0\"",
     "\"dog\" ~= \"fred\"",

@@ -1,8 +1,10 @@
 //! Versions by PEP 440: what texts are read as, their normal texts, and their parts.
 
 use crate::tests::lines::{expect, expect_line, expect_row, expect_same};
+use crate::tests::ordered::ORDERED;
 use pep_version::{Key, Label, Phase, Version, VersionFault, laws};
 use std::alloc::{AllocError, Global};
+use std::cmp::Ordering;
 use std::hash::{DefaultHasher, Hash, Hasher};
 use std::process::Abort;
 use std::test::Fail;
@@ -149,6 +151,39 @@ fn joins_equal_versions(rt: HostRuntime) -> Result<(), Fail> {
     for &(one, other) in &EQUAL {
         expect(&rt, (one, other), is_one_place(rt.alloc(), one, other)?);
     }
+    Ok(())
+}
+
+// How one version stands to the other, and the other to it.
+fn orders(alloc: Global, one: &str, other: &str) -> Result<(Ordering, Ordering), VersionFault> {
+    let (one, other) = (Version::read(alloc, one)?, Version::read(alloc, other)?);
+    Ok((one.order_to(&other), other.order_to(&one)))
+}
+
+#[test]
+fn orders_versions(rt: HostRuntime) -> Result<(), Fail> {
+    for (lower, higher) in ORDERED.iter().zip(ORDERED.iter().skip(1)) {
+        let found = orders(rt.alloc(), lower, higher)?;
+        expect_same(&rt, lower, found, (Ordering::Less, Ordering::Greater));
+    }
+    for &(one, other) in &EQUAL {
+        let found = orders(rt.alloc(), one, other)?;
+        expect_same(&rt, one, found, (Ordering::Equal, Ordering::Equal));
+    }
+    Ok(())
+}
+
+// How the version without its suffixes and its label stands to the other.
+fn release_order(alloc: Global, one: &str, other: &str) -> Result<Ordering, VersionFault> {
+    let (one, other) = (Version::read(alloc, one)?, Version::read(alloc, other)?);
+    Ok(one.order_with(None, None, None, &other))
+}
+
+#[test]
+fn orders_releases(rt: HostRuntime) -> Result<(), Fail> {
+    let same = release_order(rt.alloc(), "1.0rc3.post4.dev5+a", "1")?;
+    let above = release_order(rt.alloc(), "1.0.dev1", "1.0rc1")?;
+    assert!(rt; (same, above) == (Ordering::Equal, Ordering::Greater));
     Ok(())
 }
 

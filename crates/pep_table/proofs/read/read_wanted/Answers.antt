@@ -1,5 +1,5 @@
 use Rattle.std.proofs.Common.{◌≡◌, ◌∷◌, [], length, rules, subst, sym}
-use Rattle.std.specs.Option.{option_to_list}
+use Rattle.std.specs.Option.{option_copied, option_to_list}
 use Rattle.pep_table.proofs.Exits.{further, handed_on}
 use Rattle.pep_table.proofs.ReadTables.{NamedSoFar, named_more, named_read, no_named}
 use Rattle.pep_table.proofs.ReadTables.{none_named}
@@ -13,18 +13,18 @@ returns-in_err-name-clause-refused c =
     let some : ¬ (rest ≡ []) = search rules in
     handed_on _ c.from_residual.result _ c.from_residual.ensures.1
     (further
-    (λ n. no_named c.args.text.now c.args.wanted.now last c.loop-rest.found rest
+    (λ n. no_named c.args.text.now (option_copied c.args.wanted) last c.loop-rest.found rest
     c.loop-rest.invariant.1 some
     (subst (λ o. HasNoNext (option_to_list o) rest) c.as_ref.ensures.value n))
     c.in_err-name.ensures.refused)
 
 pub loop-rest-init : goal.loop-rest-init
-loop-rest-init c = (search rules, none_named c.args.text.now c.args.wanted.now)
+loop-rest-init c = (search rules, none_named c.args.text.now (option_copied c.args.wanted))
 
 pub loop-rest-preserved : goal.loop-rest-preserved
 loop-rest-preserved c =
     let text = c.args.text.now in
-    let wanted = c.args.wanted.now in
+    let wanted = option_copied c.args.wanted in
     let last = option_to_list c.loop-rest.last in
     let rest = c.loop-rest.rest.now in
     let name = c.in_ok-name.name in
@@ -42,5 +42,5 @@ loop-rest-preserved c =
 pub returns-clause-ok : goal.returns-clause-ok
 returns-clause-ok c =
     let empty : length c.loop-rest.rest.now ≡ 0 = search rules in
-    named_read c.args.text.now c.args.wanted.now (option_to_list c.loop-rest.last)
+    named_read c.args.text.now (option_copied c.args.wanted) (option_to_list c.loop-rest.last)
     c.loop-rest.found c.loop-rest.rest.now c.loop-rest.invariant.1 empty

@@ -1,0 +1,70 @@
+-- Why a text that stands alone is refused.
+use Rattle.std.proofs.Common.{◌≡◌, ◌⊎◌, ℕ, List, Err, inl, inr, refl}
+use Rattle.std.specs.Str.{IsUtf8}
+use Rattle.specifiers.specs.Clause.{ReadsClause}
+use Rattle.specifiers.specs.declared.fault.ClauseFault.{ClauseFault}
+use Rattle.specifiers.specs.declared.fault.ClauseFault.TheVariants as clause_fault
+use Rattle.pep_require.specs.InnerFault.{fault_of_clause}
+use Rattle.pep_require.specs.LineParts.{RefusesLine}
+use Rattle.pep_require.specs.declared.fault.RequireFault.{RequireFault}
+use Rattle.pep_require.specs.declared.fault.RequireFault.TheVariants as require
+use Rattle.pep_version.specs.Spelling.{Reads}
+use Rattle.pep_version.specs.declared.fault.VersionFault.{VersionFault}
+use Rattle.pep_version.specs.declared.fault.VersionFault.TheVariants as version_fault
+use Rattle.faults.specs.InnerFault.{fault_of_argument}
+use Rattle.faults.specs.NoMemory.{no_memory}
+use Rattle.faults.specs.declared.fault.ArgumentFault.TheVariants as argument
+use Rattle.pep_c.specs.FirstLine.{refused_line}
+use Rattle.pep_c.specs.Requirements.{RefusesRequirement, faulty_requirement}
+use Rattle.pep_c.specs.Versions.{IsNoClause, RefusesVersion, faulty_clause, no_version}
+
+-- a text that is read as no version
+pub refused_version : (text : List ℕ) (reason : VersionFault) → Reads text (Err reason) →
+    (fault_of_argument (argument.Version reason) ≡ no_memory)
+    ⊎ RefusesVersion text (fault_of_argument (argument.Version reason))
+refused_version text version_fault.NoMemory h = inl refl
+refused_version text version_fault.NotAVersion h =
+    inr (no_version version_fault.NotAVersion (λ e. cc e) h refl)
+refused_version text version_fault.NumberTooLarge h =
+    inr (no_version version_fault.NumberTooLarge (λ e. cc e) h refl)
+
+-- a text that is read as no clause
+pub refused_clause : (text : List ℕ) → IsUtf8 text → (reason : ClauseFault) → ReadsClause text (Err reason) →
+    (refused_line (fault_of_clause reason) ≡ no_memory)
+    ⊎ IsNoClause text (refused_line (fault_of_clause reason))
+refused_clause text u clause_fault.NoMemory h = inl refl
+refused_clause text u clause_fault.NoOperator h =
+    inr (faulty_clause u clause_fault.NoOperator (λ e. cc e) h refl)
+refused_clause text u clause_fault.BadVersion h =
+    inr (faulty_clause u clause_fault.BadVersion (λ e. cc e) h refl)
+refused_clause text u clause_fault.StarNotAllowed h =
+    inr (faulty_clause u clause_fault.StarNotAllowed (λ e. cc e) h refl)
+refused_clause text u clause_fault.LocalNotAllowed h =
+    inr (faulty_clause u clause_fault.LocalNotAllowed (λ e. cc e) h refl)
+refused_clause text u clause_fault.OneNumber h =
+    inr (faulty_clause u clause_fault.OneNumber (λ e. cc e) h refl)
+refused_clause text u clause_fault.NumberTooLarge h =
+    inr (faulty_clause u clause_fault.NumberTooLarge (λ e. cc e) h refl)
+
+-- a text that is no requirement
+pub refused_requirement : (text : List ℕ) → IsUtf8 text → (reason : RequireFault) → RefusesLine text reason →
+    (refused_line reason ≡ no_memory) ⊎ RefusesRequirement text (refused_line reason)
+refused_requirement text u require.NoMemory h = inl refl
+refused_requirement text u require.BadName h =
+    inr (faulty_requirement u require.BadName (λ e. cc e) h refl)
+refused_requirement text u require.BadExtras h =
+    inr (faulty_requirement u require.BadExtras (λ e. cc e) h refl)
+refused_requirement text u (require.BadClause f) h =
+    inr (faulty_requirement u (require.BadClause f) (λ e. cc e) h refl)
+refused_requirement text u require.BadUrl h =
+    inr (faulty_requirement u require.BadUrl (λ e. cc e) h refl)
+refused_requirement text u (require.BadMarker f) h =
+    inr (faulty_requirement u (require.BadMarker f) (λ e. cc e) h refl)
+refused_requirement text u require.Trailing h =
+    inr (faulty_requirement u require.Trailing (λ e. cc e) h refl)
+refused_requirement text u require.OptionLine h =
+    inr (faulty_requirement u require.OptionLine (λ e. cc e) h refl)
+refused_requirement text u require.LineTooLong h =
+    inr (faulty_requirement u require.LineTooLong (λ e. cc e) h refl)
+refused_requirement text u require.UrlOverflow h =
+    inr (faulty_requirement u require.UrlOverflow (λ e. cc e) h refl)

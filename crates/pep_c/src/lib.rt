@@ -1,0 +1,20 @@
+//! The library for C, and for all that calls C: each export calls one function of the crates below
+//! and states its clauses again.
+//!
+//! Bytes come in as slices. A text goes out into the room that the caller gives, where it fits, and
+//! its length always: so no memory changes hands. `include/tubrambutan.h` declares the exports and
+//! says what a caller owes, of which nothing is proved.
+#![tactic(auto)]
+
+mod first_line;
+mod merging;
+mod parts;
+mod reply;
+mod requirements;
+mod versions;
+
+pub use crate::merging::{tubrambutan_check, tubrambutan_merge};
+pub use crate::parts::Part;
+pub use crate::reply::{ANSWERED, MISCUT, REFUSED, Reply};
+pub use crate::requirements::tubrambutan_requirement;
+pub use crate::versions::{tubrambutan_admits, tubrambutan_compare, tubrambutan_version};

@@ -1,0 +1,120 @@
+/* Calls each function of the library, with room enough and with too little, and prints what goes out. The gate compares what it
+ * prints with examples/calls.txt, and runs it under AddressSanitizer and valgrind. */
+#include <stdio.h>
+#include <stdlib.h>
+#include <string.h>
+
+#include "tubrambutan.h"
+
+static const char ENVIRONMENT[] =
+    "os_name = 'posix'\n"
+    "sys_platform = 'linux'\n"
+    "platform_machine = 'x86_64'\n"
+    "platform_python_implementation = 'CPython'\n"
+    "platform_release = '6.1.0-18-amd64'\n"
+    "platform_system = 'Linux'\n"
+    "platform_version = '#1 SMP'\n"
+    "python_version = '3.9'\n"
+    "python_full_version = '3.9.18'\n"
+    "implementation_name = 'cpython'\n"
+    "implementation_version = '3.9.18'\n";
+
+/* The bytes of a text, and how many they are, as two arguments of a call. */
+#define BYTES(text) (const uint8_t *)(text), strlen(text)
+
+static void show(const char *call, tubrambutan_reply reply, const uint8_t *room)
+{
+    if (reply.status == TUBRAMBUTAN_MISCUT) {
+        printf("%s: miscut\n", call);
+    } else if (reply.size == 0) {
+        printf("%s: %d\n", call, (int)reply.answer);
+    } else {
+        int is_line = room[reply.size - 1] == '\n';
+        printf("%s: %.*s%s", call, (int)reply.size, (const char *)room, is_line ? "" : "\n");
+    }
+}
+
+/* Merges inputs, in room that grows until the text fits. */
+static void merge(const char *call, const tubrambutan_part *parts, size_t count, const char *bytes)
+{
+    tubrambutan_reply reply = {0};
+    uint8_t *room = NULL;
+    size_t size;
+
+    do {
+        free(room);
+        size = reply.size;
+        room = calloc(size + 1, 1);
+        if (room == NULL) {
+            exit(EXIT_FAILURE);
+        }
+        reply = tubrambutan_merge(BYTES(ENVIRONMENT), parts, count, BYTES(bytes), room, size);
+    } while (reply.size > size);
+    show(call, reply, room);
+    free(room);
+}
+
+static void merge_and_check(void)
+{
+    const char list[] = "flask>=2.0\nFlask[async]<3; python_version < '4'\n";
+    const char table[] = "tomli open\n  range before 2 to end\n";
+    char bytes[sizeof list + sizeof table];
+    uint8_t room[256] = {0};
+    tubrambutan_part parts[] = {{TUBRAMBUTAN_LIST, strlen(list)}, {TUBRAMBUTAN_TABLE, strlen(table)}};
+
+    strcpy(bytes, list);
+    strcat(bytes, table);
+    merge("merge", parts, 2, bytes);
+    show("check 2.3.2", tubrambutan_check(BYTES(ENVIRONMENT), parts, 2, BYTES(bytes), BYTES("flask"), BYTES("2.3.2"), false, room, sizeof room), room);
+    show("check 3", tubrambutan_check(BYTES(ENVIRONMENT), parts, 2, BYTES(bytes), BYTES("flask"), BYTES("3"), false, room, sizeof room), room);
+    parts[0].size -= 1;
+    merge("merge", parts, 2, bytes);
+    parts[0].kind = 3;
+    parts[0].size += 1;
+    merge("merge", parts, 2, bytes);
+    merge("merge", &(tubrambutan_part){TUBRAMBUTAN_LIST, 17}, 1, "flask>=2.0\nflask<");
+    merge("merge", parts, 0, "");
+}
+
+static void versions_and_clauses(void)
+{
+    uint8_t room[64] = {0};
+
+    show("version", tubrambutan_version(BYTES(" 1.0a-1"), room, sizeof room), room);
+    show("version", tubrambutan_version(BYTES("1.0.x"), room, sizeof room), room);
+    show("requirement", tubrambutan_requirement(BYTES("Requests [security] (>=2.8.1) ; os_name=='nt'"), room, sizeof room), room);
+    show("requirement", tubrambutan_requirement(BYTES("requests>="), room, sizeof room), room);
+    show("admits", tubrambutan_admits(BYTES("~=2.2"), BYTES("2.9"), room, sizeof room), room);
+    show("admits", tubrambutan_admits(BYTES("~=2.2"), BYTES("3"), room, sizeof room), room);
+    show("admits", tubrambutan_admits(BYTES("2.2"), BYTES("3"), room, sizeof room), room);
+    show("compare", tubrambutan_compare(BYTES("1.0.dev1"), BYTES("1.0a1"), room, sizeof room), room);
+    show("compare", tubrambutan_compare(BYTES("1.0"), BYTES("1.0.0"), room, sizeof room), room);
+    show("compare", tubrambutan_compare(BYTES("1.0"), BYTES("1.0rc1"), room, sizeof room), room);
+}
+
+/* As README has it. */
+static void read_me(void)
+{
+    uint8_t room[64] = {0};
+    tubrambutan_reply reply = tubrambutan_version((const uint8_t *)"1.0a-1", 6, room, sizeof room);
+    if (reply.size <= sizeof room)
+        printf("%.*s\n", (int)reply.size, (const char *)room); /* 1.0a1 */
+}
+
+/* Where the room is too small, the size is told and no byte of it changes. */
+static void too_little_room(void)
+{
+    uint8_t room[4] = "abcd";
+    tubrambutan_reply reply = tubrambutan_version(BYTES("1.0.post1"), room, sizeof room);
+
+    printf("too little room: status %u, size %zu, %.4s\n", (unsigned)reply.status, reply.size, (const char *)room);
+}
+
+int main(void)
+{
+    merge_and_check();
+    versions_and_clauses();
+    read_me();
+    too_little_room();
+    return EXIT_SUCCESS;
+}

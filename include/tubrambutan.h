@@ -1,0 +1,95 @@
+/* Tubrambutan as a library in C: reads Python requirements and merges them into one table.
+ *
+ * Each call is one export of crates/pep_c, which is proved to meet its contract (docs/PROVED.md). Nothing is proved of what
+ * calls it. Link libpep_c.a ("rt lib" in crates/pep_c makes it in out/) with c/liblibc_c.a of the kit, whose allocator is malloc,
+ * realloc and free of the program.
+ *
+ * What goes out. A call returns a reply. Where its `status` is TUBRAMBUTAN_ANSWERED, its `answer` is that of a call that asks
+ * something, and 0 of any other; and `size` is the length of the text that goes out, 0 where none does. Where the room has as many
+ * bytes, they are the text and those behind it stay; where it has fewer, no byte of it is changed: call again with room for `size`
+ * bytes. No zero byte ends a text. Where the status is TUBRAMBUTAN_REFUSED, the text is the line that the program tells, with its
+ * line feed ("refused input 1 line 2 code 57 33 12"; docs/CODES.md says what the codes mean). TUBRAMBUTAN_MISCUT is told of
+ * parts that aren't those of the bytes; nothing goes out then.
+ *
+ * What a caller owes. Where it breaks one of these, nothing is promised.
+ * - A pointer isn't null, also beside a length of 0, and as many bytes (parts) can be read there as the length behind it says, fewer than
+ *   2^63 bytes in all. Nothing changes them while the call runs. Parts stand where a tubrambutan_part may stand.
+ * - The room's bytes can be read and written, and lie in nothing else that is handed to the call. Nothing else reads or writes them while it runs.
+ *   They have been written before (calloc, not malloc).
+ * - A bool is false or true.
+ * - malloc, realloc and free are one allocator's, which aligns a block to each power of two up to 16 that divides its size, and which any thread
+ *   that calls may use at once with others.
+ * - The stack has 1 MiB left: a marker of 1,024 comparisons takes some 250 KiB.
+ * - No call comes from a signal handler, or from the forked child of a process with threads.
+ * - These names mean these functions alone in the program.
+ *
+ * Calls may run at once on any threads. None keeps what it was handed, and none leaves memory behind.
+ */
+#ifndef TUBRAMBUTAN_H
+#define TUBRAMBUTAN_H
+
+#include <stdbool.h>
+#include <stddef.h>
+#include <stdint.h>
+
+#ifdef __cplusplus
+extern "C" {
+#endif
+
+/* The status of a reply. */
+enum { TUBRAMBUTAN_ANSWERED = 0, TUBRAMBUTAN_MISCUT = 1, TUBRAMBUTAN_REFUSED = 2 };
+
+/* The kind of an input: a list of requirements, a pyproject.toml, or a printed table. docs/INPUTS.md says what each may hold. */
+enum { TUBRAMBUTAN_LIST = 0, TUBRAMBUTAN_PROJECT = 1, TUBRAMBUTAN_TABLE = 2 };
+
+/* An input in a buffer in which all stand one behind the other: its kind, and how many bytes it has. */
+typedef struct {
+    uint32_t kind;
+    size_t size;
+} tubrambutan_part;
+
+/* The library is made for addresses of 64 bits. */
+#ifdef __cplusplus
+static_assert(sizeof(size_t) == 8, "sizes of 64 bits");
+#else
+_Static_assert(sizeof(size_t) == 8, "sizes of 64 bits");
+#endif
+
+/* What a call gives back. */
+typedef struct {
+    uint32_t status;
+    int32_t answer;
+    size_t size;
+} tubrambutan_reply;
+
+/* The text of the table of inputs, in the environment of a file with these bytes (docs/INPUTS.md, "An environment file"). */
+tubrambutan_reply tubrambutan_merge(const uint8_t *environment, size_t environment_size, const tubrambutan_part *parts,
+                                    size_t part_count, const uint8_t *bytes, size_t byte_count, uint8_t *room, size_t room_size);
+
+/* Whether a version of the package with this name meets all that such inputs demand of it: 1 for yes, 0 for no, -1 where two different
+ * URLs are demanded. A pre-release is taken only where these are wanted. */
+tubrambutan_reply tubrambutan_check(const uint8_t *environment, size_t environment_size, const tubrambutan_part *parts,
+                                    size_t part_count, const uint8_t *bytes, size_t byte_count, const uint8_t *name,
+                                    size_t name_size, const uint8_t *version, size_t version_size, bool wants_pre_releases,
+                                    uint8_t *room, size_t room_size);
+
+/* The normal text of a version (PEP 440, "Normalization"). */
+tubrambutan_reply tubrambutan_version(const uint8_t *version, size_t version_size, uint8_t *room, size_t room_size);
+
+/* The normal text of a requirement (PEP 508). A refusal names it as line 1 of input 1. */
+tubrambutan_reply tubrambutan_requirement(const uint8_t *requirement, size_t requirement_size, uint8_t *room, size_t room_size);
+
+/* Whether a version specifier clause, as ">=1.0", admits a version (PEP 440, "Version specifiers"): 1 for yes, 0 for no. A refusal
+ * of the clause names it as line 1 of input 1. */
+tubrambutan_reply tubrambutan_admits(const uint8_t *clause, size_t clause_size, const uint8_t *version, size_t version_size,
+                                     uint8_t *room, size_t room_size);
+
+/* The order of two versions (PEP 440): -1 where the first is below the second, 0 where they are the same, 1 where it is above. */
+tubrambutan_reply tubrambutan_compare(const uint8_t *first, size_t first_size, const uint8_t *second, size_t second_size,
+                                      uint8_t *room, size_t room_size);
+
+#ifdef __cplusplus
+}
+#endif
+
+#endif

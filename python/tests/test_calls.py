@@ -1,0 +1,85 @@
+"""Calls in threads, and many calls."""
+
+import concurrent.futures
+import gc
+import resource
+import threading
+import time
+import unittest
+
+from tubrambutan import Refused, Version, admits, merge, requirement_text
+from test_tables import STANDARD
+
+
+def pages():
+    """Returns how much memory the process has, in bytes."""
+    with open("/proc/self/statm", encoding="ascii") as it:
+        return int(it.read().split()[1]) * resource.getpagesize()
+
+
+def call_each():
+    """Calls each function of the library, and returns how often."""
+    package = merge(lists=["a>=1,!=1.5\nb"], environment=STANDARD)["a"]
+    package.admits("1.5")
+    sum(Version("1.0") < Version(f"1.{i}") for i in range(5))
+    admits("~=1.4", "1.5")
+    requirement_text("a[x]>=1 ; os_name=='nt'")
+    for text in ("1.0.x", "1.0+", "18446744073709551616"):
+        try:
+            Version(text)
+        except Refused:
+            continue
+        raise AssertionError(text)
+    try:
+        merge(lists=["a<"], environment=STANDARD)
+    except Refused:
+        return 1 + 1 + 15 + 1 + 1 + 3 + 1
+    raise AssertionError("a<")
+
+
+class Calls(unittest.TestCase):
+    def test_a_call_gives_the_lock_back(self):
+        lists = ["".join(f"n{i}!=1.{i % 97}\n" for i in range(400_000))]
+        began, ticks = time.monotonic(), 0
+        thread = threading.Thread(target=merge, kwargs={"lists": lists, "environment": STANDARD})
+        thread.start()
+        while thread.is_alive():
+            time.sleep(0.001)
+            ticks += 1
+        seconds = time.monotonic() - began
+        # (with the lock held the whole call would be one tick, or two)
+        self.assertGreater(seconds, 0.1)
+        self.assertGreater(ticks, 20)
+
+    def test_calls_at_once(self):
+        def merged(i):
+            table = merge(lists=[f"n{i}>={j}" for j in range(20)], environment=STANDARD)
+            return list(table) == [f"n{i}"] and table[f"n{i}"].ranges[0].low == "before 19" and str(Version(f"{i}.0a")) == f"{i}.0a0"
+
+        with concurrent.futures.ThreadPoolExecutor(8) as pool:
+            self.assertTrue(all(pool.map(merged, range(2_000))))
+
+    def test_the_largest_marker_in_a_small_stack(self):
+        marker = "(" * 64 + " or ".join(["python_version == '1'"] * 1_023) + ")" * 64 + " or os_name == 'posix'"
+        found, size = [], threading.stack_size(1 << 20)
+        try:
+            thread = threading.Thread(target=lambda: found.extend(merge(lists=[f"a; {marker}"], environment=STANDARD)))
+            thread.start()
+            thread.join()
+        finally:
+            threading.stack_size(size)
+        self.assertEqual(found, ["a"])
+
+    def test_memory_stays(self):
+        for _ in range(500):
+            call_each()
+        gc.collect()
+        before, calls = pages(), 0
+        while calls < 100_000:
+            calls += call_each()
+        gc.collect()
+        self.assertLess(pages() - before, 1_000_000)
+
+
+if __name__ == "__main__":
+    unittest.main()

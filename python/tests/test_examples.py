@@ -1,0 +1,29 @@
+"""The examples of the package's docstrings and of README.md."""
+
+import doctest
+import importlib
+import os
+import pkgutil
+import re
+
+import tubrambutan
+
+ROOT = os.path.dirname(os.path.dirname(os.path.dirname(os.path.abspath(__file__))))
+
+
+def of_readme():
+    """Returns the test of README's blocks for Python, in their order."""
+    with open(f"{ROOT}/README.md", encoding="utf-8") as it:
+        blocks = re.findall(r"^```python\n(.*?)^```$", it.read(), re.M | re.S)
+    if not blocks:
+        raise AssertionError("README.md has no example in Python")
+    return doctest.DocTestCase(doctest.DocTestParser().get_doctest("\n".join(blocks), {}, "README", "README.md", 0))
+
+
+def load_tests(loader, tests, pattern):
+    names = [it.name for it in pkgutil.iter_modules(tubrambutan.__path__) if it.name != "libtubrambutan"]
+    for module in [tubrambutan, *(importlib.import_module(f"tubrambutan.{name}") for name in names)]:
+        # (a module without an example has no test)
+        tests.addTests(doctest.DocTestSuite(module))
+    tests.addTest(of_readme())
+    return tests

@@ -1,0 +1,56 @@
+"""Environments of markers."""
+
+from __future__ import annotations
+
+import os
+import platform
+import re
+import sys
+from typing import Any, Mapping
+
+from ._texts import encoded
+
+# What a basic string of TOML may not hold as it is.
+_ESCAPED = re.compile(r'[\x00-\x1f"\\\x7f]')
+
+
+def _full_version(info: Any) -> str:
+    """Returns the text of a version of an implementation, as PEP 508 makes it."""
+    version = f"{info.major}.{info.minor}.{info.micro}"
+    return version if info.releaselevel == "final" else f"{version}{info.releaselevel[0]}{info.serial}"
+
+
+def default_environment() -> dict[str, str]:
+    """Returns the environment of the running interpreter: the eleven variables of PEP 508, derived as it says, without an `extra`.
+
+    >>> import sys, tubrambutan
+    >>> environment = tubrambutan.default_environment()
+    >>> environment["sys_platform"] == sys.platform
+    True
+    >>> environment["extra"] = "dev"
+    >>> list(tubrambutan.merge(lists=['pytest; extra == "dev"'], environment=environment))
+    ['pytest']
+    """
+    return {
+        "os_name": os.name,
+        "sys_platform": sys.platform,
+        "platform_machine": platform.machine(),
+        "platform_python_implementation": platform.python_implementation(),
+        "platform_release": platform.release(),
+        "platform_system": platform.system(),
+        "platform_version": platform.version(),
+        "python_version": ".".join(platform.python_version_tuple()[:2]),
+        "python_full_version": platform.python_version(),
+        "implementation_name": sys.implementation.name,
+        "implementation_version": _full_version(sys.implementation.version),
+    }
+
+
+def _string(text: str) -> str:
+    """Returns a basic string of TOML."""
+    return '"' + _ESCAPED.sub(lambda it: f"\\u{ord(it[0]):04x}", text) + '"'
+
+
+def file_of(environment: Mapping[str, str]) -> bytes:
+    """Returns the environment file with these variables."""
+    return encoded("".join(f"{_string(name)} = {_string(text)}\n" for name, text in environment.items()))
