@@ -41,7 +41,8 @@ class Calls(unittest.TestCase):
     def test_a_call_gives_the_lock_back(self):
         lists = ["".join(f"n{i}!=1.{i % 97}\n" for i in range(400_000))]
         began, ticks = time.monotonic(), 0
-        thread = threading.Thread(target=merge, kwargs={"lists": lists, "environment": STANDARD})
+        tables = []
+        thread = threading.Thread(target=lambda: tables.append(merge(lists=lists, environment=STANDARD)))
         thread.start()
         while thread.is_alive():
             time.sleep(0.001)
@@ -50,6 +51,7 @@ class Calls(unittest.TestCase):
         # (with the lock held the whole call would be one tick, or two)
         self.assertGreater(seconds, 0.1)
         self.assertGreater(ticks, 20)
+        self.assertEqual([len(table) for table in tables], [400_000])
 
     def test_calls_at_once(self):
         def merged(i):
