@@ -11,3 +11,4 @@ pub mod Others
 pub mod PartialJoins
 pub mod IntersectionLaws
 pub mod EntryLaws
+pub mod Finished

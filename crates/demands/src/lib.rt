@@ -5,6 +5,7 @@
 mod entry;
 mod fault;
 mod join;
+mod kept_versions;
 mod others;
 mod package_demands;
 mod partial_joins;
@@ -15,6 +16,6 @@ mod verdict;
 pub use crate::entry::Entry;
 pub use crate::fault::TableFault;
 pub use crate::join::{Join, join_all};
-pub use crate::package_demands::PackageDemands;
+pub use crate::package_demands::{Finished, PackageDemands};
 pub use crate::sorted::{Kept, Sorted};
-pub use crate::verdict::{Answer, Verdict, is_wanted};
+pub use crate::verdict::{Answer, Verdict, is_wanted, verdict_between};

@@ -1,35 +1,36 @@
 //! What is demanded so far of one package.
 
-ghost use Rattle.std.specs.Prelude.{◌≡◌, ◌∷◌, [], All, IfErr, IfOk, OnOk, option_map};
-ghost use Rattle.specifiers.specs.Valid.{IsValidClause};
-ghost use Rattle.pep_require.specs.View.{requirement_parts, target_parts};
-ghost use Rattle.demands.specs.Gathering.{
-  HasValidParts,
-  MeetsClauses,
-  TakesEntry,
-  bare_entry,
-  target_clauses,
-};
+ghost use Rattle.std.specs.Prelude.{◌≡◌, IfErr, IfOk, OnOk, option_map};
+ghost use Rattle.pep_require.specs.View.{requirement_parts};
+ghost use Rattle.demands.specs.Gathering.{HasValidParts, TakesEntry, bare_entry};
 ghost use Rattle.demands.specs.Join.{JoinsEntries};
 ghost use Rattle.demands.specs.Others.{JoinsOthers, TakesOthers, kept_others};
-ghost use Rattle.demands.specs.PartialJoins.{AreNormal, joined_sets};
+ghost use Rattle.demands.specs.Finished.{finished_entry};
 ghost use Rattle.demands.specs.Table.{IsValidEntry};
 
 use crate::entry::Entry;
 use crate::fault::TableFault;
+use crate::kept_versions::KeptVersions;
 use crate::others::{Others, demands_others};
-use crate::partial_joins::{joined_of, narrow};
 use crate::sorted::Sorted;
-use pep_clause::{Clause, VersionSet};
-use pep_require::{Requirement, Target};
+use pep_require::Requirement;
+use places::Bounds;
 use std::alloc::Global;
 use std::marker::Model;
+
+/// What is demanded of one package in all.
+#[derive(Drop)]
+pub enum Finished {
+    /// The versions between two places, and nothing else.
+    Bounded(Bounds),
+    /// What the entry demands.
+    Listed(Entry),
+}
 
 /// What requirements and entries so far demand of one package. Clauses see the entry of it.
 #[derive(Drop)]
 pub struct PackageDemands {
-    // Sets of which the join counts: of all versions, where there is none.
-    versions: Vec<VersionSet>,
+    versions: KeptVersions,
     // No extras, URLs and texts, where it is `None`.
     others: Option<Box<Others>>,
 }
@@ -37,70 +38,11 @@ pub struct PackageDemands {
 impl Model for PackageDemands {
     ghost use Rattle.std.specs.Prelude.{option_map};
     ghost use Rattle.demands.specs.Others.{entry_with, kept_others};
-    ghost use Rattle.demands.specs.PartialJoins.{AreNormal, joined_sets};
     ghost use Rattle.demands.specs.Table.{EntryParts};
 
     ghost Value = { EntryParts };
 
-    ghost view = { λ g. entry_with (kept_others (option_map (λ b. b.value) g.others))
-        (joined_sets g.versions.items) };
-
-    ghost invariant = { λ g. AreNormal g.versions.items };
-}
-
-// Keeps the versions that the clause admits. A clause that demands a text admits all of them here.
-fn meet(alloc: Global, versions: &mut Vec<VersionSet>, clause: &Clause) -> Result<(), TableFault>
-    requires { AreNormal versions.old.items }
-    ensures ok { OnOk result (MeetsClauses (joined_sets versions.old.items) (clause.now ∷ [])
-        (joined_sets versions.new.items)) }
-    ensures normal { AreNormal versions.new.items }
-    ensures valid { IsValidClause clause.now }
-    ensures faults { IfErr result (λ e. e ≡ TableFault.NoMemory) }
-{
-    // Its clause tells that the clause is valid.
-    let _ = clause.op();
-    match VersionSet::of(alloc, clause) {
-        Ok(admitted) => narrow(alloc, versions, admitted),
-        Err(_) => Err(TableFault::NoMemory),
-    }
-}
-
-// Keeps the versions that all clauses admit.
-fn meet_all(
-    alloc: Global,
-    versions: &mut Vec<VersionSet>,
-    clauses: &[Clause],
-) -> Result<(), TableFault>
-    requires { AreNormal versions.old.items }
-    ensures ok { OnOk result (MeetsClauses (joined_sets versions.old.items) clauses.now
-        (joined_sets versions.new.items)) }
-    ensures normal { AreNormal versions.new.items }
-    ensures valid { OnOk result (All IsValidClause clauses.now) }
-    ensures faults { IfErr result (λ e. e ≡ TableFault.NoMemory) }
-{
-    for clause in clauses {
-        meet(alloc, versions, clause)?;
-    }
-    Ok(())
-}
-
-// Keeps the versions that the target admits.
-fn meet_target(
-    alloc: Global,
-    versions: &mut Vec<VersionSet>,
-    target: &Target,
-) -> Result<(), TableFault>
-    requires { AreNormal versions.old.items }
-    ensures ok { OnOk result (MeetsClauses (joined_sets versions.old.items)
-        (target_clauses (target_parts target.now)) (joined_sets versions.new.items)) }
-    ensures normal { AreNormal versions.new.items }
-    ensures valid { OnOk result (All IsValidClause (target_clauses (target_parts target.now))) }
-    ensures faults { IfErr result (λ e. e ≡ TableFault.NoMemory) }
-{
-    match target {
-        Target::Bounds(clauses) => meet_all(alloc, versions, clauses.as_slice()),
-        Target::Direct(_) => Ok(()),
-    }
+    ghost view = { λ g. entry_with (kept_others (option_map (λ b. b.value) g.others)) g.versions };
 }
 
 // Takes what a requirement demands besides versions.
@@ -150,7 +92,7 @@ impl PackageDemands {
         ensures { result ≡ bare_entry }
     {
         PackageDemands {
-            versions: Vec::new(alloc),
+            versions: KeptVersions::all(alloc),
             others: None,
         }
     }
@@ -166,7 +108,7 @@ impl PackageDemands {
         // Its clause tells that the name is in its normalized form.
         let _ = requirement.name().text();
         take_others(alloc, &mut self.others, requirement)?;
-        meet_target(alloc, &mut self.versions, requirement.target())
+        self.versions.meet_target(alloc, requirement.target())
     }
 
     /// Takes what an entry demands, whose ranges are moved. The only fault is `NoMemory`, 42; what
@@ -179,7 +121,21 @@ impl PackageDemands {
         // Its clause tells that the entry is valid.
         let _ = entry.versions();
         join_others(alloc, &mut self.others, &entry)?;
-        narrow(alloc, &mut self.versions, entry.into_versions())
+        self.versions.meet(alloc, entry.into_versions())
+    }
+
+    /// What is gathered, which has to be an entry, as for `entry`: two places, where nothing else was kept. The only fault is `NoMemory`, 42.
+    pub fn finish(self, alloc: Global) -> Result<Finished, TableFault>
+        requires { IsValidEntry self }
+        ensures same { IfOk result (λ f. finished_entry f ≡ self) }
+        ensures faults { IfErr result (λ e. e ≡ TableFault.NoMemory) }
+    {
+        if self.others.is_none() {
+            if let Some(bounds) = self.versions.bounds() {
+                return Ok(Finished::Bounded(bounds));
+            }
+        }
+        Ok(Finished::Listed(self.entry(alloc)?))
     }
 
     /// The entry of what is gathered, which has to be one: what `take` and `join` made of `bare` is,
@@ -190,7 +146,7 @@ impl PackageDemands {
         ensures faults { IfErr result (λ e. e ≡ TableFault.NoMemory) }
     {
         let PackageDemands { versions, others } = self;
-        let versions = joined_of(alloc, versions)?;
+        let versions = versions.into_set(alloc)?;
         match others {
             Some(others) => Box::into_inner(others).entry(alloc, versions),
             None => Ok(Entry::of(

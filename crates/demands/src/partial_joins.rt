@@ -25,8 +25,12 @@ fn all_versions(alloc: Global) -> Result<VersionSet, TableFault>
     }
 }
 
-// The versions that are in both sets, which are used up.
-fn common(alloc: Global, kept: VersionSet, others: VersionSet) -> Result<VersionSet, TableFault>
+/// The versions that are in both sets, which are used up.
+pub(crate) fn common(
+    alloc: Global,
+    kept: VersionSet,
+    others: VersionSet,
+) -> Result<VersionSet, TableFault>
     ensures ok { IfOk result (IsIntersection kept others) }
     ensures faults { IfErr result (λ e. e ≡ TableFault.NoMemory) }
 {

@@ -23,48 +23,17 @@ pub refused_version : (text : List ℕ) (reason : VersionFault) → Reads text (
     (fault_of_argument (argument.Version reason) ≡ no_memory)
     ⊎ RefusesVersion text (fault_of_argument (argument.Version reason))
 refused_version text version_fault.NoMemory h = inl refl
-refused_version text version_fault.NotAVersion h =
-    inr (no_version version_fault.NotAVersion (λ e. cc e) h refl)
-refused_version text version_fault.NumberTooLarge h =
-    inr (no_version version_fault.NumberTooLarge (λ e. cc e) h refl)
+refused_version text reason h = inr (no_version reason (λ e. cc e) h refl)
 
 -- a text that is read as no clause
 pub refused_clause : (text : List ℕ) → IsUtf8 text → (reason : ClauseFault) → ReadsClause text (Err reason) →
     (refused_line (fault_of_clause reason) ≡ no_memory)
     ⊎ IsNoClause text (refused_line (fault_of_clause reason))
 refused_clause text u clause_fault.NoMemory h = inl refl
-refused_clause text u clause_fault.NoOperator h =
-    inr (faulty_clause u clause_fault.NoOperator (λ e. cc e) h refl)
-refused_clause text u clause_fault.BadVersion h =
-    inr (faulty_clause u clause_fault.BadVersion (λ e. cc e) h refl)
-refused_clause text u clause_fault.StarNotAllowed h =
-    inr (faulty_clause u clause_fault.StarNotAllowed (λ e. cc e) h refl)
-refused_clause text u clause_fault.LocalNotAllowed h =
-    inr (faulty_clause u clause_fault.LocalNotAllowed (λ e. cc e) h refl)
-refused_clause text u clause_fault.OneNumber h =
-    inr (faulty_clause u clause_fault.OneNumber (λ e. cc e) h refl)
-refused_clause text u clause_fault.NumberTooLarge h =
-    inr (faulty_clause u clause_fault.NumberTooLarge (λ e. cc e) h refl)
+refused_clause text u reason h = inr (faulty_clause u reason (λ e. cc e) h refl)
 
 -- a text that is no requirement
 pub refused_requirement : (text : List ℕ) → IsUtf8 text → (reason : RequireFault) → RefusesLine text reason →
     (refused_line reason ≡ no_memory) ⊎ RefusesRequirement text (refused_line reason)
 refused_requirement text u require.NoMemory h = inl refl
-refused_requirement text u require.BadName h =
-    inr (faulty_requirement u require.BadName (λ e. cc e) h refl)
-refused_requirement text u require.BadExtras h =
-    inr (faulty_requirement u require.BadExtras (λ e. cc e) h refl)
-refused_requirement text u (require.BadClause f) h =
-    inr (faulty_requirement u (require.BadClause f) (λ e. cc e) h refl)
-refused_requirement text u require.BadUrl h =
-    inr (faulty_requirement u require.BadUrl (λ e. cc e) h refl)
-refused_requirement text u (require.BadMarker f) h =
-    inr (faulty_requirement u (require.BadMarker f) (λ e. cc e) h refl)
-refused_requirement text u require.Trailing h =
-    inr (faulty_requirement u require.Trailing (λ e. cc e) h refl)
-refused_requirement text u require.OptionLine h =
-    inr (faulty_requirement u require.OptionLine (λ e. cc e) h refl)
-refused_requirement text u require.LineTooLong h =
-    inr (faulty_requirement u require.LineTooLong (λ e. cc e) h refl)
-refused_requirement text u require.UrlOverflow h =
-    inr (faulty_requirement u require.UrlOverflow (λ e. cc e) h refl)
+refused_requirement text u reason h = inr (faulty_requirement u reason (λ e. cc e) h refl)

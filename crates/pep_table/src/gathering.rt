@@ -10,8 +10,8 @@ ghost use Rattle.demands.specs.declared.verdict.Verdict.{Verdict};
 ghost use Rattle.pep_table.specs.TableText.{IsTableText, Shows, entry_text};
 
 use crate::table::Table;
-use crate::text::{header_of, push_entry};
-use demands::{Entry, Kept, PackageDemands, TableFault};
+use crate::text::{header_of, push_bounded, push_entry};
+use demands::{Entry, Finished, Kept, PackageDemands, TableFault};
 use pep_marker::{Environment, MarkerFault, Name};
 use pep_require::Requirement;
 use std::alloc::Global;
@@ -47,8 +47,10 @@ fn push_gathered(
         ++ entry_text name.now verdict gathered)) }
     ensures faults { IfErr result (λ e. e ≡ TableFault.NoMemory) }
 {
-    let entry = gathered.entry(alloc)?;
-    push_entry(alloc, text, name, &entry)
+    match gathered.finish(alloc)? {
+        Finished::Bounded(bounds) => push_bounded(text, name, bounds),
+        Finished::Listed(entry) => push_entry(alloc, text, name, &entry),
+    }
 }
 
 impl Gathering {

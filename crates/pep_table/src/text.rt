@@ -11,12 +11,14 @@ ghost use Rattle.pep_table.specs.TableText.{
   line,
   range_text,
 };
+ghost use Rattle.demands.specs.Finished.{bounded_entry};
 ghost use Rattle.demands.specs.Verdict.{verdict_word};
 
 use crate::table::Table;
-use demands::{Entry, Kept, TableFault, Verdict};
+use demands::{Entry, Kept, TableFault, Verdict, verdict_between};
 use pep_clause::{Cut, Range};
 use pep_marker::{Environment, Name};
+use places::{Bounds, Place};
 use std::alloc::Global;
 
 fn push_line(text: &mut String, kind: &str, value: &str) -> Result<(), TableFault>
@@ -121,6 +123,49 @@ pub(crate) fn push_entry(
 {
     let verdict = entry.verdict(alloc)?;
     push_lines(text, name, verdict, entry)
+}
+
+fn push_place(text: &mut String, place: Place) -> Result<(), TableFault>
+    ensures ok { OnOk result (string_bytes text.new ≡ string_bytes text.old ++ cut_text place) }
+    ensures faults { IfErr result (λ e. e ≡ TableFault.NoMemory) }
+{
+    match place.push_text(text) {
+        Ok(()) => Ok(()),
+        Err(_) => Err(TableFault::NoMemory),
+    }
+}
+
+// Appends the line of the range between two places.
+fn push_bounds(text: &mut String, bounds: Bounds) -> Result<(), TableFault>
+    ensures ok { OnOk result (string_bytes text.new ≡ string_bytes text.old
+        ++ line (codes "  range " ++ range_text (record {
+          low = bounds.low;
+          high = bounds.high;
+        }))) }
+    ensures faults { IfErr result (λ e. e ≡ TableFault.NoMemory) }
+{
+    text.push_str("  range ")?;
+    push_place(text, bounds.low)?;
+    text.push_str(" to ")?;
+    push_place(text, bounds.high)?;
+    text.push_str("\n")?;
+    Ok(())
+}
+
+/// Appends the lines of a name of which the versions between two places are demanded, and nothing else.
+pub(crate) fn push_bounded(text: &mut String, name: &Name, bounds: Bounds) -> Result<(), TableFault>
+    ensures ok { OnOk result ((verdict : Verdict)
+        × Shows (bounded_entry bounds.low bounds.high) verdict
+        × (string_bytes text.new ≡ string_bytes text.old
+        ++ entry_text name.now verdict (bounded_entry bounds.low bounds.high))) }
+    ensures faults { IfErr result (λ e. e ≡ TableFault.NoMemory) }
+{
+    let verdict = verdict_between(&bounds);
+    push_head(text, name.text(), verdict)?;
+    if verdict == Verdict::Possible {
+        push_bounds(text, bounds)?;
+    }
+    Ok(())
 }
 
 /// The header of the environment.

@@ -1,5 +1,6 @@
 //! One module a subject.
 
+mod bounds;
 mod codes;
 mod headers;
 mod large_tables;

@@ -63,23 +63,52 @@ pub(crate) fn entry<'t>(
     table.get(&name(alloc, text)?).ok_or(TableFault::NoMemory)
 }
 
+// What stands behind the header of the machine.
+fn behind_header(alloc: Global, text: &str) -> Result<String, TableFault> {
+    let lines = text.strip_prefix(MACHINE_HEADER);
+    Ok(String::from_str(alloc, lines.unwrap_or("no header"))?)
+}
+
 /// What stands behind the header of the machine in the text of a table that was made there.
 pub(crate) fn lines_of(alloc: Global, table: &Table) -> Result<String, TableFault> {
-    let text = table.text(alloc, &machine(alloc)?)?;
-    let lines = text.as_str().strip_prefix(MACHINE_HEADER);
-    Ok(String::from_str(alloc, lines.unwrap_or("no header"))?)
+    behind_header(alloc, table.text(alloc, &machine(alloc)?)?.as_str())
+}
+
+// The same, where no table is made of what is gathered.
+fn gathered_lines(alloc: Global, lines: &[&str]) -> Result<String, TableFault> {
+    let machine = machine(alloc)?;
+    let mut gathering = Gathering::new(alloc);
+    for line in lines {
+        let requirement = requirement(alloc, line)?;
+        let Ok(more) = gathering.take_applying(alloc, &requirement, &machine) else {
+            return Err(TableFault::NoMemory);
+        };
+        gathering = more;
+    }
+    behind_header(alloc, gathering.text(alloc, &machine)?.as_str())
 }
 
 // The lines of the table of the requirement lines, or why there is none.
 fn table_line(alloc: Global, lines: &[&str]) -> Result<String, TableFault> {
     match table(alloc, lines) {
-        Ok(table) => lines_of(alloc, &table),
+        Ok(table) => both_lines(alloc, &table, lines),
         Err(fault) => Ok(format!(in alloc; "refused {}: {fault}", fault.code())?),
     }
 }
 
+// The lines of the table, which are those of what is gathered of the requirement lines.
+fn both_lines(alloc: Global, table: &Table, lines: &[&str]) -> Result<String, TableFault> {
+    let text = lines_of(alloc, table)?;
+    let gathered = gathered_lines(alloc, lines)?;
+    if text.as_str() == gathered.as_str() {
+        Ok(text)
+    } else {
+        Ok(format!(in alloc; "{text}, gathered as {gathered}")?)
+    }
+}
+
 // Requirement lines, and the lines of their table.
-const TEXTS: [(&[&str], &str); 19] = [
+const TEXTS: [(&[&str], &str); 22] = [
     (&[], ""),
     (
         &["flask>=2.0", "Flask<3"],
@@ -95,6 +124,15 @@ const TEXTS: [(&[&str], &str); 19] = [
         "a open\n  range before 0.dev0 to before 1\n  range before 1.post0.dev0 to end\n",
     ),
     (&["a==1.0+x", "a!=1.0+x"], "a none\n"),
+    (&["a>1", "a<2"], "a open\n  range past 1 to before 2.dev0\n"),
+    (
+        &["a>=1", "a>=1.0.0.0.1", "a<=2", "a>0.5"],
+        "a open\n  range before 1.0.0.0.1 to before 2.post0.dev0\n",
+    ),
+    (
+        &["a<1!0", "a>=33554432", "a<33554433", "a!=33554432.1"],
+        "a open\n  range before 33554432 to before 33554432.1\n  range before 33554432.1.post0.dev0 to before 33554433.dev0\n",
+    ),
     (
         &["b>=1.1", "a<2", "b<1.1"],
         "a open\n  range before 0.dev0 to before 2.dev0\nb none\n",

@@ -1,13 +1,21 @@
-use Rattle.std.proofs.Common.{◌≡◌, ◌++◌, string_bytes, subst}
+use Rattle.std.proofs.Common.{◌≡◌, ◌++◌, ◌∙◌, ap, string_bytes, subst, sym}
 use Rattle.std.specs.Prelude.{OnOk}
-use Rattle.demands.specs.declared.verdict.Verdict.{Verdict}
+use Rattle.demands.specs.Finished.{finished_entry}
 use Rattle.demands.specs.Table.{EntryParts}
+use Rattle.demands.specs.declared.verdict.Verdict.{Verdict}
 use Rattle.pep_table.specs.TableText.{Shows, entry_text}
 use Rattle.pep_table.proofs.gathering.push_gathered.Goals as goal
 
-pub returns-clause-ok : goal.returns-clause-ok
-returns-clause-ok c =
+pub returns-in-Bounded-clause-ok : goal.returns-in-Bounded-clause-ok
+returns-in-Bounded-clause-ok c =
+    subst (λ (e : EntryParts). OnOk c.push_bounded.result ((x : Verdict) × Shows e x
+    × (string_bytes c.push_bounded.new.text
+    ≡ string_bytes c.args.text.now ++ entry_text c.args.name.now x e)))
+    (sym (ap finished_entry c.in-Bounded.is) ∙ c.in_ok-bounds.ensures.same) c.push_bounded.ensures.ok
+
+pub returns-in-Listed-clause-ok : goal.returns-in-Listed-clause-ok
+returns-in-Listed-clause-ok c =
     subst (λ (e : EntryParts). OnOk c.push_entry.result ((x : Verdict) × Shows e x
     × (string_bytes c.push_entry.new.text
     ≡ string_bytes c.args.text.now ++ entry_text c.args.name.now x e)))
-    c.in_ok-entry.ensures.same c.push_entry.ensures.ok
+    (sym (ap finished_entry c.in-Listed.is) ∙ c.in_ok-bounds.ensures.same) c.push_entry.ensures.ok

@@ -1,18 +1,17 @@
-use Rattle.std.proofs.Common.{◌+◌, rules, take, arith}
+use Rattle.std.proofs.Common.{◌+◌, rules, take, arith, subst}
 use Rattle.specifiers.specs.Valid.{IsValidClause}
-use Rattle.demands.specs.PartialJoins.{joined_sets}
+use Rattle.pep_clause.specs.VersionSet.{IsNormal}
 use Rattle.demands.proofs.KeptSets.{next_taken, one_holds}
-use Rattle.demands.proofs.PartialJoins.{normal_sets}
+use Rattle.demands.proofs.KeptVersions.{kept-normal}
 use Rattle.demands.proofs.TakenClauses.{meets_more, meets_none}
-use Rattle.demands.proofs.package_demands.meet_all.Goals as goal
+use Rattle.demands.proofs.kept_versions.KeptVersions.meet_clauses.Goals as goal
 
 pub loop-clause-init : goal.loop-clause-init
-loop-clause-init c = (
-  meets_none (joined_sets c.args.versions.now.items)
-      (normal_sets c.args.versions.now.items c.requires),
-  c.requires,
-  λ k d lt. absurd (omega (arith, lt)),
-)
+loop-clause-init c =
+    let i = c.self.inside in (
+      meets_none c.args.self.now (subst IsNormal c.self.view_is (kept-normal i.low i.high i.sets.items c.self.invariant)),
+      λ k d lt. absurd (omega (arith, lt)),
+    )
 
 pub loop-clause-preserved : goal.loop-clause-preserved
 loop-clause-preserved c =
@@ -20,8 +19,7 @@ loop-clause-preserved c =
     let i = c.loop-clause.clause-index in
     let step = next_taken clauses i c.clause-item.result c.clause-item.is (search rules) in (
       meets_more _ _ _ (take i clauses) (take (i + 1) clauses) c.clause-item.result
-          c.loop-clause.invariant.0 c.in_ok-meet.ensures.ok step,
-      c.in_ok-meet.ensures.normal,
+          c.loop-clause.invariant.0 c.in_ok-meet_clause.ensures.ok step,
       one_holds IsValidClause (take i clauses) (take (i + 1) clauses) c.clause-item.result
-          c.loop-clause.invariant.2 c.in_ok-meet.ensures.valid step,
+          c.loop-clause.invariant.1 c.in_ok-meet_clause.ensures.valid step,
     )

@@ -1,0 +1,16 @@
+use Rattle.std.proofs.Common.{subst}
+use Rattle.pep_clause.specs.OperatorTable.{range}
+use Rattle.demands.specs.Join.{IsIntersection}
+use Rattle.demands.specs.PartialJoins.{kept_versions}
+use Rattle.demands.proofs.KeptVersions.{narrowed-versions}
+use Rattle.demands.proofs.kept_versions.KeptVersions.narrow_to.Goals as goal
+
+pub returns : goal.returns
+returns c =
+    let i = c.self.inside in
+    let b = c.args.bounds in
+    let low = c.later-self-inside in
+    let high = c.earlier-self-inside in
+    subst (λ old. IsIntersection old (range b.low b.high) (kept_versions low.result high.result i.sets.items)) c.self.view_is
+    (narrowed-versions i.low i.high b.low b.high low.result high.result i.sets.items c.self.invariant
+    c.requires.low c.requires.high low.ensures high.ensures)

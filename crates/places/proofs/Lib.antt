@@ -1,0 +1,3 @@
+pub mod PlaceOrder
+pub mod PlacesRead
+pub mod RaisedReleases

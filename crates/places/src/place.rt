@@ -1,0 +1,194 @@
+//! Cuts as numbers of sixteen bytes.
+
+ghost use Rattle.std.specs.Prelude.{◌≡◌, ◌++◌, ◌↔◌, refl, IfErr, IfOk, IfSome, IsSome, IsTrue, OnErr, OnOk, string_bytes};
+ghost use Rattle.std.specs.Cmp.{
+  eq_by_cmp_equiv,
+  partial_equiv_from_equiv,
+  partial_order_from_total,
+};
+ghost use Rattle.std.specs.Ordering.{as_partial_cmp, eq_by_cmp};
+ghost use Rattle.pep_version.specs.Order.{with_suffixes};
+ghost use Rattle.pep_version.specs.Text.{KeepsFront};
+ghost use Rattle.pep_clause.specs.Cut.{IsCut, cut_cmp, cut_text, end, least};
+ghost use Rattle.pep_clause.specs.Laws.{cut_total};
+ghost use Rattle.pep_clause.specs.OperatorTable.{before_dev, before_place};
+ghost use Rattle.places.specs.Place.{AreShortNumbers, IsShortVersion};
+ghost use Rattle.texts.specs.Lists.{is_empty};
+
+use crate::read::version_at;
+use crate::word::{four, suffixed, word_of};
+use pep_clause::{ClauseFault, Cut};
+use pep_version::{Phase, Version};
+use std::alloc::Global;
+use std::cmp::Ordering;
+use std::marker::Model;
+
+/// A cut as one number of sixteen bytes, which most cuts have: the end of all versions, and those before a version of epoch 0
+/// without a label, whose release is written with at most four numbers, each of at most 25 bits, whose pre-release number is below
+/// 128, and whose post- and developmental release numbers are below 127. Clauses see the cut.
+///
+/// The number has four times 25 bits for the release and four times 7 for what stands behind it; the end has all bits. So
+/// numbers stand as the cuts do (PEP 440, "Summary of permitted suffixes and relative ordering").
+#[derive(Clone, Copy)]
+pub struct Place {
+    word: u128,
+}
+
+impl Model for Place {
+    ghost use Rattle.std.specs.Prelude.{◌≡◌};
+    ghost use Rattle.pep_clause.specs.Cut.{Cut};
+    ghost use Rattle.places.specs.Place.{IsPlace, cut_at, place_word};
+
+    ghost Value = { Cut };
+
+    ghost view = { λ p. cut_at p.word };
+
+    ghost invariant = { λ p. IsPlace p.word };
+
+    ghost inverse = { λ c. record { word = place_word c } };
+
+    ghost inverse_ok = { λ p h. λ i. record { word = h.word i } };
+}
+
+// Whether the version has no local version label.
+fn is_public(version: &Version) -> bool
+    ensures { result ≡ is_empty version.now.label }
+{
+    version.label().is_empty()
+}
+
+impl Place {
+    /// The place of the cut under all versions.
+    pub fn least() -> Place
+        ensures least { result ≡ least }
+        ensures spelled { IsCut result }
+    {
+        Place { word: 0 }
+    }
+
+    /// The place of the end of all versions.
+    pub fn end() -> Place
+        ensures end { result ≡ end }
+        ensures spelled { IsCut result }
+    {
+        Place { word: u128::MAX }
+    }
+
+    /// The place directly before the version with these suffixes in place of its own, or `None` where its epoch isn't 0, its
+    /// numbers are too large or too many, or it has a label.
+    pub(crate) fn before(
+        version: &Version,
+        pre: Option<(Phase, u64)>,
+        post: Option<u64>,
+        dev: Option<u64>,
+    ) -> Option<Place>
+        ensures place { IfSome result (λ p.
+            p ≡ before_place (with_suffixes version.now pre post dev)) }
+        ensures exactly { IsSome result
+            ↔ IsShortVersion (with_suffixes version.now pre post dev) }
+    {
+        if version.epoch() != 0 || !is_public(version) {
+            return None;
+        }
+        let release = word_of(four(version.release())?)?;
+        let word = suffixed(release, pre, post, dev)?;
+        Some(Place { word })
+    }
+
+    /// The place before the first developmental release of the release with these numbers, or `None` where one is too large.
+    pub(crate) fn before_dev(numbers: [u64; 4]) -> Option<Place>
+        ensures place { IfSome result (λ p. p ≡ before_dev 0 numbers) }
+        ensures exactly { IsSome result ↔ AreShortNumbers numbers }
+    {
+        let word = suffixed(word_of(numbers)?, None, None, Some(0))?;
+        Some(Place { word })
+    }
+
+    /// The cut. The only fault is `NoMemory`.
+    pub fn cut(self, alloc: Global) -> Result<Cut, ClauseFault>
+        ensures same { IfOk result (λ c. c ≡ self) }
+        ensures faults { IfErr result (λ e. e ≡ ClauseFault.NoMemory) }
+    {
+        if self.word == u128::MAX {
+            return Ok(Cut::end());
+        }
+        if self.word == 0 {
+            return Cut::least(alloc);
+        }
+        Cut::before(alloc, &version_at(alloc, self.word)?)
+    }
+
+    /// Appends the text of the cut, as `Cut::push_text`. The only fault is `NoMemory`; a refusal leaves what stood in the text,
+    /// with perhaps a part behind it.
+    pub fn push_text(self, text: &mut String) -> Result<(), ClauseFault>
+        ensures ok { OnOk result (string_bytes text.new
+            ≡ string_bytes text.old ++ cut_text self) }
+        ensures faults { IfErr result (λ e. e ≡ ClauseFault.NoMemory) }
+        ensures kept { OnErr result (KeepsFront (string_bytes text.old) (string_bytes text.new)) }
+    {
+        if self.word == u128::MAX {
+            text.push_str("end")?;
+            return Ok(());
+        }
+        text.push_str("before ")?;
+        let version = version_at(*text.allocator(), self.word)?;
+        version.push_text(text)?;
+        Ok(())
+    }
+
+    // How the cuts stand: as their numbers.
+    fn order_to(&self, other: &Place) -> Ordering
+        ensures order { result ≡ cut_cmp self.now other.now }
+        ensures spelled { IsCut self.now }
+        ensures other_spelled { IsCut other.now }
+    {
+        self.word.cmp(&other.word)
+    }
+}
+
+impl PartialEq for Place {
+    ghost eq = { eq_by_cmp cut_cmp };
+
+    ghost laws = { partial_equiv_from_equiv (eq_by_cmp_equiv cut_total) };
+
+    /// Whether both are the same cut.
+    fn eq(&self, other: &Place) -> bool
+        ensures test { result ≡ eq_by_cmp cut_cmp self.now other.now }
+        ensures one { IsTrue result ↔ (self.now ≡ other.now) }
+    {
+        self.word == other.word
+    }
+}
+
+impl Eq for Place {
+    ghost laws = { eq_by_cmp_equiv cut_total };
+}
+
+impl PartialOrd for Place {
+    ghost partial_cmp = { as_partial_cmp cut_cmp };
+
+    ghost laws = { partial_order_from_total cut_total };
+
+    fn partial_cmp(&self, other: &Place) -> Option<Ordering> {
+        Some(self.order_to(other))
+    }
+}
+
+impl Ord for Place {
+    ghost cmp = { cut_cmp };
+
+    ghost total = { cut_total };
+
+    ghost matches_partial_cmp = { λ a b. refl };
+
+    ghost matches_eq = { λ a b. refl };
+
+    /// One place is less than another exactly if its cut is.
+    fn cmp(&self, other: &Place) -> Ordering
+        ensures order { result ≡ cut_cmp self.now other.now }
+        ensures spelled { IsCut self.now }
+        ensures other_spelled { IsCut other.now }
+    {
+        self.order_to(other)
+    }
+}

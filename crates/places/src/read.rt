@@ -1,0 +1,101 @@
+// The version before which the cut of a place stands, from its number.
+
+ghost use Rattle.std.specs.Prelude.{◌≡◌, ◌<◌, ◌≤◌, ◌^◌, ◌%◌, take, IfErr, IfOk};
+ghost use Rattle.pep_version.specs.Order.{short_release};
+ghost use Rattle.places.specs.Place.{
+  dev_at,
+  digit_unit,
+  numbers_at,
+  post_at,
+  pre_at,
+  version_at,
+};
+
+use crate::word::{DIGIT, NUMBER};
+use pep_clause::ClauseFault;
+use pep_version::{Phase, Version};
+use std::alloc::Global;
+
+// The pre-release of a stage.
+fn pre_at(stage: u64, number: u64) -> Option<(Phase, u64)>
+    ensures { result ≡ pre_at stage number }
+{
+    match stage {
+        1 => Some((Phase::Alpha, number)),
+        2 => Some((Phase::Beta, number)),
+        3 => Some((Phase::Rc, number)),
+        _ => None,
+    }
+}
+
+fn post_at(digit: u64) -> Option<u64>
+    ensures { result ≡ post_at digit }
+{
+    if digit == 0 { None } else { Some(digit - 1) }
+}
+
+fn dev_at(digit: u64) -> Option<u64>
+    ensures { result ≡ dev_at digit }
+{
+    if digit == DIGIT - 1 {
+        None
+    } else {
+        Some(digit)
+    }
+}
+
+// The last digit.
+fn digit(word: u128) -> u64
+    ensures { result ≡ word % digit_unit }
+{
+    (word % DIGIT as u128) as u64
+}
+
+// The four numbers of a release's word.
+fn numbers_at(word: u128) -> [u64; 4]
+    requires { word < 2 ^ 100 }
+    ensures { result ≡ numbers_at word }
+{
+    let unit = NUMBER as u128;
+    let (three, fourth) = (word / unit, word % unit);
+    let (two, third) = (three / unit, three % unit);
+    let (first, second) = (two / unit, two % unit);
+    [first as u64, second as u64, third as u64, fourth as u64]
+}
+
+// How many of four numbers are left without the zeros at their end, the first of which stays.
+fn short_count(numbers: [u64; 4]) -> usize
+    ensures numbers { take result numbers ≡ short_release numbers }
+    ensures some { 0 < result }
+    ensures most { result ≤ 4 }
+{
+    let [_, second, third, fourth] = numbers;
+    if fourth != 0 {
+        4
+    } else if third != 0 {
+        3
+    } else if second != 0 {
+        2
+    } else {
+        1
+    }
+}
+
+/// The version with the release and the suffixes of the word.
+pub(crate) fn version_at(alloc: Global, word: u128) -> Result<Version, ClauseFault>
+    ensures version { IfOk result (λ v. v ≡ version_at word) }
+    ensures faults { IfErr result (λ e. e ≡ ClauseFault.NoMemory) }
+{
+    let unit = DIGIT as u128;
+    let behind_post = word / unit;
+    let behind_pre = behind_post / unit;
+    let behind_stage = behind_pre / unit;
+    let pre = pre_at(digit(behind_stage), digit(behind_pre));
+    let (post, dev) = (post_at(digit(behind_post)), dev_at(digit(word)));
+    let numbers = numbers_at(behind_stage / unit);
+    let release = Vec::from_slice(alloc, &numbers[..short_count(numbers)])?;
+    match Version::of_parts(0, release, pre, post, dev, Vec::new(alloc)) {
+        Some(version) => Ok(version),
+        None => unreachable!(),
+    }
+}
