@@ -1,27 +1,51 @@
--- Entries that demand the versions between two cuts, and nothing else.
-use Rattle.std.proofs.Common.{◌≡◌, ◌∷◌, List, [], inl, refl, sym, ◌∙◌, arith}
+-- Entries that demand the versions in some ranges, and nothing else.
+use Rattle.std.proofs.Common.{◌≡◌, ◌∷◌, List, [], inl, refl, sym, ◌∙◌, arith, length}
 use Rattle.std.specs.Ordering.{is_lt}
 use Rattle.std.specs.Prelude.{◌≢◌, if◌then◌else◌}
 use Rattle.std.specs.declared.cmp.Ordering.{Ordering}
 use Rattle.std.specs.declared.cmp.Ordering.TheVariants.{Less, Equal, Greater}
 use Rattle.pep_clause.specs.Cut.{Cut, IsCut, cut_cmp}
 use Rattle.pep_clause.specs.OperatorTable.{range}
-use Rattle.pep_clause.specs.VersionSet.{Range}
+use Rattle.pep_clause.specs.VersionSet.{IsNormal, Range}
 use Rattle.pep_clause.proofs.NormalJoined.{IsNormal-range}
-use Rattle.demands.specs.Finished.{bounded_entry}
+use Rattle.demands.specs.Finished.{bounded_entry, ranges_entry}
 use Rattle.demands.specs.Table.{EntryDemands, IsValidEntry}
 use Rattle.demands.specs.Verdict.{IsVerdict}
 use Rattle.demands.specs.declared.verdict.Verdict.TheVariants.{Possible, Nothing}
+use Rattle.places.specs.LeftOut.{spans}
+use Rattle.places.specs.declared.bounds.Bounds.{Bounds}
 use Rattle.demands.proofs.ValidEntries.{bare_valid}
 use Rattle.demands.proofs.Verdicts.{verdict_of_entry}
 
-pub bounded_valid : (l h : Cut) → IsCut l → IsCut h → IsValidEntry (bounded_entry l h)
-bounded_valid l h f g = record {
+pub ranges_valid : (ranges : List Range) → IsNormal ranges → IsValidEntry (ranges_entry ranges)
+ranges_valid ranges n = record {
   extras = bare_valid.extras;
   urls = bare_valid.urls;
   texts = bare_valid.texts;
-  versions = IsNormal-range l h f g;
+  versions = n;
 }
+
+pub possible_in : (ranges : List Range) → IsNormal ranges → ranges ≢ [] →
+    IsVerdict (EntryDemands (ranges_entry ranges)) Possible
+possible_in ranges n some =
+    verdict_of_entry (ranges_entry ranges) Possible (ranges_valid ranges n) (omega arith, some, inl refl)
+
+pub nothing_in : (ranges : List Range) → IsNormal ranges → ranges ≡ [] →
+    IsVerdict (EntryDemands (ranges_entry ranges)) Nothing
+nothing_in ranges n none =
+    verdict_of_entry (ranges_entry ranges) Nothing (ranges_valid ranges n) (omega arith, inl none)
+
+-- ---- by the places of the ranges
+
+pub no_spans : (bounds : List Bounds) → length bounds ≡ 0 → spans bounds ≡ []
+no_spans [] e = refl
+no_spans (b ∷ rest) e = absurd (omega (arith, e))
+
+pub some_spans : (bounds : List Bounds) → length bounds ≢ 0 → spans bounds ≢ []
+some_spans [] other e = other refl
+some_spans (b ∷ rest) other e = cc e
+
+-- ---- between two cuts
 
 pub one_range : (l h : Cut) → cut_cmp l h ≡ Less → range l h ≡ record { low = l; high = h } ∷ []
 one_range l h e = rw e refl
@@ -40,12 +64,8 @@ no_range l h other = by (cut_cmp l h) other
 
 pub possible_between : (l h : Cut) → IsCut l → IsCut h → cut_cmp l h ≡ Less →
     IsVerdict (EntryDemands (bounded_entry l h)) Possible
-possible_between l h f g e =
-    verdict_of_entry (bounded_entry l h) Possible (bounded_valid l h f g)
-    (omega arith, some_range l h e, inl refl)
+possible_between l h f g e = possible_in (range l h) (IsNormal-range l h f g) (some_range l h e)
 
 pub none_between : (l h : Cut) → IsCut l → IsCut h → cut_cmp l h ≢ Less →
     IsVerdict (EntryDemands (bounded_entry l h)) Nothing
-none_between l h f g e =
-    verdict_of_entry (bounded_entry l h) Nothing (bounded_valid l h f g)
-    (omega arith, inl (no_range l h e))
+none_between l h f g e = nothing_in (range l h) (IsNormal-range l h f g) (no_range l h e)

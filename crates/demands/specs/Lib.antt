@@ -7,6 +7,7 @@ pub mod Join
 pub mod JoinLaws
 pub mod Code
 pub mod Gathering
+pub mod Collected
 pub mod Others
 pub mod PartialJoins
 pub mod IntersectionLaws

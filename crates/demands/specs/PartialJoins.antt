@@ -1,6 +1,6 @@
--- The versions of a package as the code keeps them: two cuts, and sets of which the join counts. No meaning rests
--- on this.
-use Rattle.std.specs.Prelude.{List, [], ◌∷◌}
+-- The versions of a package as the code keeps them: two cuts, and beside them what is left over and sets of which the join
+-- counts. No meaning rests on this.
+use Rattle.std.specs.Prelude.{List, [], ◌∷◌, Option, Some, None}
 use Rattle.std.specs.List.{AllByRecursion}
 use Rattle.pep_clause.specs.Cut.{Cut, IsCut}
 use Rattle.pep_clause.specs.Joined.{joined}
@@ -15,12 +15,17 @@ joined_sets (s ∷ rest) = joined s (joined_sets rest)
 abbrev pub AreNormal : List (List Range) → Type 0
 AreNormal sets = AllByRecursion IsNormal sets
 
--- the versions between two cuts that all the sets hold
-abbrev pub kept_versions : Cut → Cut → List (List Range) → List Range
-kept_versions low high sets = joined (range low high) (joined_sets sets)
+-- what is kept beside two cuts: every version, where it is nothing
+abbrev pub beside_versions : Option (List Range) → List Range
+beside_versions None = all_versions
+beside_versions (Some ranges) = ranges
 
--- both cuts are in their one spelling, and the sets are normal lists
-pub record AreKept (l h : Cut) (s : List (List Range)) : Type 0 where
+-- the versions between two cuts that are kept beside them
+abbrev pub kept_versions : Cut → Cut → List Range → List Range
+kept_versions low high beside = joined (range low high) beside
+
+-- both cuts are in their one spelling, and what is kept beside them is a normal list
+pub record AreKept (l h : Cut) (s : List Range) : Type 0 where
   pub low : IsCut l
   pub high : IsCut h
-  pub sets : AreNormal s
+  pub beside : IsNormal s

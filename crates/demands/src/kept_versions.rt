@@ -1,84 +1,68 @@
 //! The versions that are demanded of a package so far.
 
-ghost use Rattle.std.specs.Prelude.{◌≡◌, ◌∷◌, [], All, IfErr, IfOk, IfSome, OnOk};
+ghost use Rattle.std.specs.Prelude.{◌≡◌, ◌∷◌, [], All, IfErr, IfOk, OnOk, option_map};
 ghost use Rattle.specifiers.specs.Valid.{IsValidClause};
-ghost use Rattle.pep_clause.specs.Cut.{IsCut, cut_cmp};
-ghost use Rattle.pep_clause.specs.Joined.{earlier, later};
-ghost use Rattle.pep_clause.specs.OperatorTable.{range};
+ghost use Rattle.pep_clause.specs.Cut.{IsCut};
+ghost use Rattle.pep_clause.specs.OperatorTable.{outside, range};
 ghost use Rattle.pep_clause.specs.VersionSet.{all_versions};
 ghost use Rattle.pep_require.specs.View.{target_parts};
+ghost use Rattle.demands.specs.Finished.{kept_ranges};
 ghost use Rattle.demands.specs.Gathering.{MeetsClauses, target_clauses};
 ghost use Rattle.demands.specs.Join.{IsIntersection};
+ghost use Rattle.demands.specs.PartialJoins.{beside_versions};
 
+use crate::beside::{Beside, KeptRanges};
 use crate::fault::TableFault;
-use crate::partial_joins::{common, joined_of, narrow};
-use pep_clause::{Clause, Range, VersionSet};
+use pep_clause::{Clause, VersionSet};
 use pep_require::Target;
 use places::{Bounds, Place};
 use std::alloc::Global;
 use std::marker::Model;
 
-/// The versions between two places, which move inwards clause by clause, that are in each of a few sets: those of clauses without
-/// bounds, and of tables. Clauses see the ranges of all this.
+/// The versions between two places, which move inwards clause by clause, that are kept beside them too: what `!=`
+/// leaves over, and the sets of clauses without places and of tables. Clauses see the ranges of all this.
 #[derive(Drop)]
 pub(crate) struct KeptVersions {
     low: Place,
     high: Place,
-    sets: Vec<VersionSet>,
+    // All versions, where it is `None`.
+    beside: Option<Box<Beside>>,
 }
 
 impl Model for KeptVersions {
-    ghost use Rattle.std.specs.Prelude.{List};
+    ghost use Rattle.std.specs.Prelude.{List, option_map};
     ghost use Rattle.pep_clause.specs.VersionSet.{Range};
-    ghost use Rattle.demands.specs.PartialJoins.{AreKept, kept_versions};
+    ghost use Rattle.demands.specs.PartialJoins.{AreKept, beside_versions, kept_versions};
 
     ghost Value = { List Range };
 
-    ghost view = { λ v. kept_versions v.low v.high v.sets.items };
+    ghost view = { λ v. kept_versions v.low v.high
+        (beside_versions (option_map (λ b. b.value) v.beside)) };
 
-    ghost invariant = { λ v. AreKept v.low v.high v.sets.items };
+    ghost invariant = { λ v. AreKept v.low v.high
+        (beside_versions (option_map (λ b. b.value) v.beside)) };
 }
 
-// The set of the versions between two places.
-fn between(alloc: Global, low: Place, high: Place) -> Result<VersionSet, TableFault>
-    ensures range { IfOk result (λ s. s ≡ range low high) }
+// What is kept beside two places: all versions, where there was nothing.
+fn taken(alloc: Global, beside: Option<Box<Beside>>) -> Result<Box<Beside>, TableFault>
+    ensures same { IfOk result (λ b. b.value ≡ beside_versions (option_map (λ b. b.value) beside)) }
     ensures faults { IfErr result (λ e. e ≡ TableFault.NoMemory) }
 {
-    let (Ok(low), Ok(high)) = (low.cut(alloc), high.cut(alloc)) else {
-        return Err(TableFault::NoMemory);
-    };
-    let Some(range) = Range::of(low, high) else {
-        return Ok(VersionSet::none(alloc));
-    };
-    match VersionSet::of_ranges(Vec::from_array(alloc, [range])?) {
-        Some(versions) => Ok(versions),
-        None => unreachable!(),
+    match beside {
+        Some(kept) => Ok(kept),
+        None => Ok(Box::new(alloc, Beside::all(alloc))?),
     }
-}
-
-// The later of two places.
-fn later(a: Place, b: Place) -> Place
-    ensures { result ≡ later cut_cmp a b }
-{
-    if a < b { b } else { a }
-}
-
-// The earlier of two places.
-fn earlier(a: Place, b: Place) -> Place
-    ensures { result ≡ earlier cut_cmp a b }
-{
-    if a < b { a } else { b }
 }
 
 impl KeptVersions {
     /// All versions.
-    pub(crate) fn all(alloc: Global) -> KeptVersions
+    pub(crate) fn all() -> KeptVersions
         ensures { result ≡ all_versions }
     {
         KeptVersions {
             low: Place::least(),
             high: Place::end(),
-            sets: Vec::new(alloc),
+            beside: None,
         }
     }
 
@@ -88,16 +72,30 @@ impl KeptVersions {
         requires high { IsCut bounds.high }
         ensures { IsIntersection self.old (range bounds.low bounds.high) self.new }
     {
-        self.low = later(self.low, bounds.low);
-        self.high = earlier(self.high, bounds.high);
+        self.low = self.low.later(bounds.low);
+        self.high = self.high.earlier(bounds.high);
     }
 
-    /// Keeps the versions that are in the set too, which is used up.
+    /// Keeps the versions that are in the set too, which is used up. The only fault is `NoMemory`.
     pub(crate) fn meet(&mut self, alloc: Global, others: VersionSet) -> Result<(), TableFault>
         ensures ok { OnOk result (IsIntersection self.old others self.new) }
         ensures faults { IfErr result (λ e. e ≡ TableFault.NoMemory) }
     {
-        narrow(alloc, &mut self.sets, others)
+        let mut beside = taken(alloc, self.beside.take())?;
+        beside.meet(alloc, others)?;
+        self.beside = Some(beside);
+        Ok(())
+    }
+
+    // Keeps the versions that don't lie between the bounds.
+    fn leave_out(&mut self, alloc: Global, bounds: Bounds) -> Result<(), TableFault>
+        ensures ok { OnOk result (IsIntersection self.old (outside bounds.low bounds.high) self.new) }
+        ensures faults { IfErr result (λ e. e ≡ TableFault.NoMemory) }
+    {
+        let mut beside = taken(alloc, self.beside.take())?;
+        beside.leave_out(alloc, bounds)?;
+        self.beside = Some(beside);
+        Ok(())
     }
 
     // Keeps the versions that the clause admits. A clause that demands a text admits all of them here.
@@ -111,6 +109,9 @@ impl KeptVersions {
         if let Some(bounds) = Bounds::of(clause) {
             self.narrow_to(bounds);
             return Ok(());
+        }
+        if let Some(bounds) = Bounds::left_out(clause) {
+            return self.leave_out(alloc, bounds);
         }
         match VersionSet::of(alloc, clause) {
             Ok(admitted) => self.meet(alloc, admitted),
@@ -132,7 +133,7 @@ impl KeptVersions {
         Ok(())
     }
 
-    /// Keeps the versions that the target admits.
+    /// Keeps the versions that the target admits. The only fault is `NoMemory`.
     pub(crate) fn meet_target(&mut self, alloc: Global, target: &Target) -> Result<(), TableFault>
         ensures ok { OnOk result (MeetsClauses self.old
             (target_clauses (target_parts target.now)) self.new) }
@@ -148,32 +149,16 @@ impl KeptVersions {
         }
     }
 
-    /// The two places, where there are no sets beside them.
-    pub(crate) fn bounds(&self) -> Option<Bounds>
-        ensures { IfSome result (λ b. range b.low b.high ≡ self.now) }
-    {
-        if !self.sets.is_empty() {
-            return None;
-        }
-        Some(Bounds {
-            low: self.low,
-            high: self.high,
-        })
-    }
-
-    /// The set of the versions.
-    pub(crate) fn into_set(self, alloc: Global) -> Result<VersionSet, TableFault>
-        ensures same { IfOk result (λ s. s ≡ self) }
+    /// The versions, in the form that holds them. The only fault is `NoMemory`.
+    pub(crate) fn finish(self, alloc: Global) -> Result<KeptRanges, TableFault>
+        ensures same { IfOk result (λ k. kept_ranges k ≡ self) }
         ensures faults { IfErr result (λ e. e ≡ TableFault.NoMemory) }
     {
-        let KeptVersions { low, high, sets } = self;
-        if sets.is_empty() {
-            return between(alloc, low, high);
+        let KeptVersions { low, high, beside } = self;
+        let bounds = Bounds { low, high };
+        match beside {
+            Some(beside) => Box::into_inner(beside).between(alloc, bounds),
+            None => Ok(KeptRanges::Bounded(bounds)),
         }
-        let joined = joined_of(alloc, sets)?;
-        if low == Place::least() && high == Place::end() {
-            return Ok(joined);
-        }
-        common(alloc, joined, between(alloc, low, high)?)
     }
 }

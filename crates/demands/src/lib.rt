@@ -2,6 +2,8 @@
 //! requirements, and what it says of versions.
 #![tactic(auto)]
 
+mod beside;
+mod collected;
 mod entry;
 mod fault;
 mod join;
@@ -18,4 +20,4 @@ pub use crate::fault::TableFault;
 pub use crate::join::{Join, join_all};
 pub use crate::package_demands::{Finished, PackageDemands};
 pub use crate::sorted::{Kept, Sorted};
-pub use crate::verdict::{Answer, Verdict, is_wanted, verdict_between};
+pub use crate::verdict::{Answer, Verdict, is_wanted, verdict_between, verdict_in};

@@ -10,8 +10,6 @@ ghost use Rattle.std.specs.Prelude.{
   IsTrue,
   OnOk,
   false,
-  map,
-  string_bytes,
 };
 ghost use Rattle.pep_require.specs.View.{requirement_parts, target_parts};
 ghost use Rattle.demands.specs.Gathering.{target_clauses, target_urls, texts_of};
@@ -25,48 +23,48 @@ ghost use Rattle.demands.specs.Others.{
 };
 ghost use Rattle.demands.specs.Table.{IsValidEntry, is_url_text};
 
+use crate::collected::Collected;
 use crate::entry::Entry;
 use crate::fault::TableFault;
-use crate::sorted::{Sorted, put, put_all};
 use pep_clause::{Clause, VersionSet};
 use pep_marker::Name;
 use pep_require::{Requirement, Target, UrlText};
 use std::alloc::Global;
-use std::collections::BTreeSet;
 use std::marker::Model;
 
-/// The extras, URLs and texts that requirements demand of one package. Most packages have none. The
-/// sets grow one by one, which the sorted lists of an [`Entry`] would not do well.
+/// The extras, URLs and texts that requirements demand of one package. Most packages have none. They
+/// come one by one, which the sorted lists of an [`Entry`] would not take well.
 #[derive(Drop)]
 pub(crate) struct Others {
-    extras: BTreeSet<Name>,
-    urls: BTreeSet<String>,
-    texts: BTreeSet<String>,
+    extras: Collected<Name>,
+    urls: Collected<String>,
+    texts: Collected<String>,
 }
 
 impl Model for Others {
-    ghost use Rattle.std.specs.Prelude.{map, string_bytes};
     ghost use Rattle.demands.specs.Others.{OtherParts};
 
     ghost Value = { OtherParts };
 
     ghost view = { λ o. record {
-      extras = map (λ n. n) o.extras.keys;
-      urls = map (λ x. string_bytes x) o.urls.keys;
-      texts = map (λ x. string_bytes x) o.texts.keys;
+      extras = o.extras;
+      urls = o.urls;
+      texts = o.texts;
     } };
 }
 
 // Takes the text that a clause demands, where it demands one.
-fn take_text(alloc: Global, texts: &mut BTreeSet<String>, clause: &Clause) -> Result<(), TableFault>
-    ensures texts { OnOk result (IsUnion (map (λ x. string_bytes x) texts.old.keys)
-        (texts_of (clause.now ∷ [])) (map (λ x. string_bytes x) texts.new.keys)) }
+fn take_text(
+    alloc: Global,
+    texts: &mut Collected<String>,
+    clause: &Clause,
+) -> Result<(), TableFault>
+    ensures texts { OnOk result (IsUnion texts.old (texts_of (clause.now ∷ [])) texts.new) }
     ensures faults { IfErr result (λ e. e ≡ TableFault.NoMemory) }
 {
-    // Its clause tells that the set is in order.
-    let _ = texts.len();
+    texts.in_order();
     match clause.exact_text() {
-        Some(text) => put(texts, String::from_str(alloc, text)?),
+        Some(text) => texts.put(String::from_str(alloc, text)?),
         None => Ok(()),
     }
 }
@@ -74,15 +72,13 @@ fn take_text(alloc: Global, texts: &mut BTreeSet<String>, clause: &Clause) -> Re
 // Takes the texts that clauses demand.
 fn take_texts(
     alloc: Global,
-    texts: &mut BTreeSet<String>,
+    texts: &mut Collected<String>,
     clauses: &[Clause],
 ) -> Result<(), TableFault>
-    ensures texts { OnOk result (IsUnion (map (λ x. string_bytes x) texts.old.keys)
-        (texts_of clauses.now) (map (λ x. string_bytes x) texts.new.keys)) }
+    ensures texts { OnOk result (IsUnion texts.old (texts_of clauses.now) texts.new) }
     ensures faults { IfErr result (λ e. e ≡ TableFault.NoMemory) }
 {
-    // Its clause tells that the set is in order.
-    let _ = texts.len();
+    texts.in_order();
     for clause in clauses {
         take_text(alloc, texts, clause)?;
     }
@@ -90,13 +86,12 @@ fn take_texts(
 }
 
 // Takes the text of a URL.
-fn take_url(alloc: Global, urls: &mut BTreeSet<String>, url: &UrlText) -> Result<(), TableFault>
-    ensures urls { OnOk result (IsUnion (map (λ x. string_bytes x) urls.old.keys)
-        (url.now.text ∷ []) (map (λ x. string_bytes x) urls.new.keys)) }
+fn take_url(alloc: Global, urls: &mut Collected<String>, url: &UrlText) -> Result<(), TableFault>
+    ensures urls { OnOk result (IsUnion urls.old (url.now.text ∷ []) urls.new) }
     ensures valid { IsTrue (is_url_text url.now.text) }
     ensures faults { IfErr result (λ e. e ≡ TableFault.NoMemory) }
 {
-    put(urls, String::from_str(alloc, url.text())?)
+    urls.put(String::from_str(alloc, url.text())?)
 }
 
 // Whether one of the clauses demands a text.
@@ -130,9 +125,9 @@ impl Others {
         ensures { result ≡ no_others }
     {
         Others {
-            extras: BTreeSet::new(alloc),
-            urls: BTreeSet::new(alloc),
-            texts: BTreeSet::new(alloc),
+            extras: Collected::new(alloc),
+            urls: Collected::new(alloc),
+            texts: Collected::new(alloc),
         }
     }
 
@@ -147,9 +142,8 @@ impl Others {
             (target_urls (target_parts target.now))) }
         ensures faults { IfErr result (λ e. e ≡ TableFault.NoMemory) }
     {
-        // Their clauses tell that the sets are in order.
-        let _ = self.urls.len();
-        let _ = self.texts.len();
+        self.urls.in_order();
+        self.texts.in_order();
         match target {
             Target::Bounds(clauses) => take_texts(alloc, &mut self.texts, clauses.as_slice()),
             Target::Direct(url) => take_url(alloc, &mut self.urls, url),
@@ -166,7 +160,7 @@ impl Others {
             self.new) }
         ensures faults { IfErr result (λ e. e ≡ TableFault.NoMemory) }
     {
-        put_all(alloc, &mut self.extras, requirement.extras())?;
+        self.extras.put_all(alloc, requirement.extras())?;
         self.take_target(alloc, requirement.target())
     }
 
@@ -175,27 +169,26 @@ impl Others {
         ensures joined { OnOk result (JoinsOthers self.old entry.now self.new) }
         ensures faults { IfErr result (λ e. e ≡ TableFault.NoMemory) }
     {
-        put_all(alloc, &mut self.extras, entry.extras().items())?;
-        put_all(alloc, &mut self.urls, entry.urls().items())?;
-        put_all(alloc, &mut self.texts, entry.texts().items())
+        self.extras.put_all(alloc, entry.extras().items())?;
+        self.urls.put_all(alloc, entry.urls().items())?;
+        self.texts.put_all(alloc, entry.texts().items())
     }
 
     /// The entry of these and of the versions.
-    pub(crate) fn entry(self, alloc: Global, versions: VersionSet) -> Result<Entry, TableFault>
+    pub(crate) fn entry(self, versions: VersionSet) -> Entry
         requires { IsValidEntry (entry_with self versions) }
-        ensures same { IfOk result (λ e. e ≡ entry_with self versions) }
-        ensures faults { IfErr result (λ e. e ≡ TableFault.NoMemory) }
+        ensures { result ≡ entry_with self versions }
     {
         let Others {
             extras,
             urls,
             texts,
         } = self;
-        Ok(Entry::of(
-            Sorted::of(alloc, extras)?,
-            Sorted::of(alloc, urls)?,
-            Sorted::of(alloc, texts)?,
+        Entry::of(
+            extras.into_sorted(),
+            urls.into_sorted(),
+            texts.into_sorted(),
             versions,
-        ))
+        )
     }
 }

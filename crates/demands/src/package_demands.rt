@@ -5,16 +5,18 @@ ghost use Rattle.pep_require.specs.View.{requirement_parts};
 ghost use Rattle.demands.specs.Gathering.{HasValidParts, TakesEntry, bare_entry};
 ghost use Rattle.demands.specs.Join.{JoinsEntries};
 ghost use Rattle.demands.specs.Others.{JoinsOthers, TakesOthers, kept_others};
-ghost use Rattle.demands.specs.Finished.{finished_entry};
+ghost use Rattle.demands.specs.Finished.{finished_entry, kept_ranges, ranges_entry};
 ghost use Rattle.demands.specs.Table.{IsValidEntry};
 
+use crate::beside::KeptRanges;
 use crate::entry::Entry;
 use crate::fault::TableFault;
 use crate::kept_versions::KeptVersions;
 use crate::others::{Others, demands_others};
 use crate::sorted::Sorted;
+use pep_clause::VersionSet;
 use pep_require::Requirement;
-use places::Bounds;
+use places::{Bounds, PlaceRanges};
 use std::alloc::Global;
 use std::marker::Model;
 
@@ -23,6 +25,8 @@ use std::marker::Model;
 pub enum Finished {
     /// The versions between two places, and nothing else.
     Bounded(Bounds),
+    /// The versions in ranges between places, and nothing else.
+    Placed(PlaceRanges),
     /// What the entry demands.
     Listed(Entry),
 }
@@ -86,13 +90,38 @@ fn join_others(
     Ok(())
 }
 
+// The entry of these versions, and nothing else.
+fn entry_of(alloc: Global, versions: VersionSet) -> Entry
+    ensures { result ≡ ranges_entry versions }
+{
+    // Its clause tells that the ranges are a normal list.
+    let _ = versions.ranges();
+    Entry::of(
+        Sorted::new(alloc),
+        Sorted::new(alloc),
+        Sorted::new(alloc),
+        versions,
+    )
+}
+
+// What is demanded where it is these versions, and nothing else.
+fn versions_alone(alloc: Global, versions: KeptRanges) -> Finished
+    ensures { finished_entry result ≡ ranges_entry (kept_ranges versions) }
+{
+    match versions {
+        KeptRanges::Bounded(bounds) => Finished::Bounded(bounds),
+        KeptRanges::Placed(ranges) => Finished::Placed(ranges),
+        KeptRanges::Set(versions) => Finished::Listed(entry_of(alloc, versions)),
+    }
+}
+
 impl PackageDemands {
     /// What is demanded of a package by its name alone: nothing.
-    pub fn bare(alloc: Global) -> PackageDemands
+    pub fn bare() -> PackageDemands
         ensures { result ≡ bare_entry }
     {
         PackageDemands {
-            versions: KeptVersions::all(alloc),
+            versions: KeptVersions::all(),
             others: None,
         }
     }
@@ -124,18 +153,20 @@ impl PackageDemands {
         self.versions.meet(alloc, entry.into_versions())
     }
 
-    /// What is gathered, which has to be an entry, as for `entry`: two places, where nothing else was kept. The only fault is `NoMemory`, 42.
+    /// What is gathered, which has to be an entry, as for `entry`: places, where nothing else was kept. The only
+    /// fault is `NoMemory`, 42.
     pub fn finish(self, alloc: Global) -> Result<Finished, TableFault>
         requires { IsValidEntry self }
         ensures same { IfOk result (λ f. finished_entry f ≡ self) }
         ensures faults { IfErr result (λ e. e ≡ TableFault.NoMemory) }
     {
-        if self.others.is_none() {
-            if let Some(bounds) = self.versions.bounds() {
-                return Ok(Finished::Bounded(bounds));
-            }
-        }
-        Ok(Finished::Listed(self.entry(alloc)?))
+        let PackageDemands { versions, others } = self;
+        let versions = versions.finish(alloc)?;
+        let Some(others) = others else {
+            return Ok(versions_alone(alloc, versions));
+        };
+        let versions = versions.into_set(alloc)?;
+        Ok(Finished::Listed(Box::into_inner(others).entry(versions)))
     }
 
     /// The entry of what is gathered, which has to be one: what `take` and `join` made of `bare` is,
@@ -146,15 +177,10 @@ impl PackageDemands {
         ensures faults { IfErr result (λ e. e ≡ TableFault.NoMemory) }
     {
         let PackageDemands { versions, others } = self;
-        let versions = versions.into_set(alloc)?;
+        let versions = versions.finish(alloc)?.into_set(alloc)?;
         match others {
-            Some(others) => Box::into_inner(others).entry(alloc, versions),
-            None => Ok(Entry::of(
-                Sorted::new(alloc),
-                Sorted::new(alloc),
-                Sorted::new(alloc),
-                versions,
-            )),
+            Some(others) => Ok(Box::into_inner(others).entry(versions)),
+            None => Ok(entry_of(alloc, versions)),
         }
     }
 }

@@ -1,29 +1,15 @@
 //! Values in the order of their texts, each once.
 
-ghost use Rattle.std.specs.Prelude.{
-  ◌≡◌,
-  ◌∷◌,
-  ⊤,
-  All,
-  List,
-  ℕ,
-  IfErr,
-  IfOk,
-  OnOk,
-  [],
-  map,
-  string_bytes,
-};
+ghost use Rattle.std.specs.Prelude.{◌≡◌, ⊤, List, ℕ, IfErr, IfOk, [], map};
 ghost use Rattle.std.specs.Cmp.Lexicographic.{slice_cmp};
 ghost use Rattle.std.specs.Ordering.{nat_cmp};
 ghost use Rattle.pep_require.specs.Requirement.{IsAscending};
-ghost use Rattle.demands.specs.Join.{IsUnion};
 
+use crate::collected::Collected;
 use crate::fault::TableFault;
 use crate::join::Join;
 use pep_marker::Name;
 use std::alloc::Global;
-use std::collections::BTreeSet;
 use std::marker::Model;
 
 /// What is kept in the order of its text.
@@ -103,37 +89,6 @@ impl<T: Kept> Model for Sorted<T> {
     ghost invariant = { λ s. IsAscending (map T.text s.items.items) };
 }
 
-// Puts the value into the set, if it isn't there.
-pub(crate) fn put<T: Kept>(set: &mut BTreeSet<T>, value: T) -> Result<(), TableFault>
-    ensures put { OnOk result (IsUnion (map T.text set.old.keys) (T.text value ∷ [])
-        (map T.text set.new.keys)) }
-    ensures faults { IfErr result (λ e. e ≡ TableFault.NoMemory) }
-{
-    // Its clause tells that the set is in order.
-    let _ = set.len();
-    set.insert(value)?;
-    Ok(())
-}
-
-// Puts copies of the values into the set.
-pub(crate) fn put_all<T: Kept>(
-    alloc: Global,
-    set: &mut BTreeSet<T>,
-    values: &[T],
-) -> Result<(), TableFault>
-    ensures put { OnOk result (IsUnion (map T.text set.old.keys) (map T.text values.now)
-        (map T.text set.new.keys)) }
-    ensures values { OnOk result (All T.is_value values.now) }
-    ensures faults { IfErr result (λ e. e ≡ TableFault.NoMemory) }
-{
-    // Its clause tells that the set is in order.
-    let _ = set.len();
-    for value in values {
-        put(set, value.kept(alloc)?)?;
-    }
-    Ok(())
-}
-
 impl<T: Kept> Sorted<T> {
     /// No value.
     pub fn new(alloc: Global) -> Self
@@ -151,18 +106,6 @@ impl<T: Kept> Sorted<T> {
         ensures { result ≡ map T.text items.items }
     {
         Sorted { items }
-    }
-
-    /// The values of a set.
-    pub(crate) fn of(alloc: Global, set: BTreeSet<T>) -> Result<Self, TableFault>
-        ensures ok { IfOk result (λ s. s ≡ map T.text set.keys) }
-        ensures faults { IfErr result (λ e. e ≡ TableFault.NoMemory) }
-    {
-        let mut items = Vec::with_capacity(alloc, set.len())?;
-        for item in set {
-            items.push(item)?;
-        }
-        Ok(Sorted { items })
     }
 
     /// The values.
@@ -199,9 +142,9 @@ impl<T: Kept> Join for Sorted<T> {
 
     fn joined(&self, alloc: Global, other: &Self) -> Result<Self, TableFault> {
         let (items, others) = (self.items(), other.items());
-        let mut set = BTreeSet::new(alloc);
-        put_all(alloc, &mut set, items)?;
-        put_all(alloc, &mut set, others)?;
-        Sorted::of(alloc, set)
+        let mut all = Collected::new(alloc);
+        all.put_all(alloc, items)?;
+        all.put_all(alloc, others)?;
+        Ok(all.into_sorted())
     }
 }

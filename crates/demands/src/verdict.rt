@@ -24,7 +24,7 @@ ghost use Rattle.std.specs.declared.cmp.Ordering.TheVariants.{Less};
 ghost use Rattle.pep_clause.specs.Cut.{cut_cmp};
 ghost use Rattle.pep_clause.specs.VersionSet.{In, is_in};
 ghost use Rattle.demands.specs.Answer.{IsAnswer};
-ghost use Rattle.demands.specs.Finished.{bounded_entry};
+ghost use Rattle.demands.specs.Finished.{bounded_entry, ranges_entry};
 ghost use Rattle.demands.specs.Table.{EntryDemands, IsValidEntry};
 ghost use Rattle.demands.specs.Verdict.{
   FitsEntry,
@@ -38,7 +38,7 @@ use crate::entry::Entry;
 use crate::fault::TableFault;
 use pep_clause::VersionSet;
 use pep_version::{Key, Version, VersionFault};
-use places::Bounds;
+use places::{Bounds, PlaceRanges};
 use std::alloc::Global;
 use std::cmp::Ordering;
 
@@ -149,6 +149,18 @@ pub fn verdict_between(bounds: &Bounds) -> Verdict
         Verdict::Possible
     } else {
         Verdict::Nothing
+    }
+}
+
+/// The verdict where the versions in these ranges are demanded, and nothing else.
+pub fn verdict_in(ranges: &PlaceRanges) -> Verdict
+    ensures demands { IsVerdict (EntryDemands (ranges_entry ranges.now)) result }
+    ensures possible { (result ≡ Verdict.Possible) ↔ (ranges.now ≢ []) }
+{
+    if ranges.as_slice().is_empty() {
+        Verdict::Nothing
+    } else {
+        Verdict::Possible
     }
 }
 

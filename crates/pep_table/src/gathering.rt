@@ -10,7 +10,7 @@ ghost use Rattle.demands.specs.declared.verdict.Verdict.{Verdict};
 ghost use Rattle.pep_table.specs.TableText.{IsTableText, Shows, entry_text};
 
 use crate::table::Table;
-use crate::text::{header_of, push_bounded, push_entry};
+use crate::text::{header_of, push_bounded, push_entry, push_placed};
 use demands::{Entry, Finished, Kept, PackageDemands, TableFault};
 use pep_marker::{Environment, MarkerFault, Name};
 use pep_require::Requirement;
@@ -49,6 +49,7 @@ fn push_gathered(
 {
     match gathered.finish(alloc)? {
         Finished::Bounded(bounds) => push_bounded(text, name, bounds),
+        Finished::Placed(ranges) => push_placed(text, name, &ranges),
         Finished::Listed(entry) => push_entry(alloc, text, name, &entry),
     }
 }
@@ -75,7 +76,7 @@ impl Gathering {
             entry.take(alloc, requirement)?;
             return Ok(self);
         }
-        let mut entry = PackageDemands::bare(alloc);
+        let mut entry = PackageDemands::bare();
         entry.take(alloc, requirement)?;
         self.entries.insert(name.kept(alloc)?, entry)?;
         Ok(self)
@@ -135,7 +136,7 @@ impl Gathering {
         let _ = name.text();
         // One look finds the name's place, where it is there and where it is new.
         let place = self.entries.entry(name)?;
-        let kept = place.or_insert(PackageDemands::bare(alloc));
+        let kept = place.or_insert(PackageDemands::bare());
         kept.join(alloc, entry)?;
         Ok(self)
     }

@@ -11,14 +11,15 @@ ghost use Rattle.pep_table.specs.TableText.{
   line,
   range_text,
 };
-ghost use Rattle.demands.specs.Finished.{bounded_entry};
+ghost use Rattle.demands.specs.Finished.{bounded_entry, ranges_entry};
+ghost use Rattle.places.specs.LeftOut.{spans};
 ghost use Rattle.demands.specs.Verdict.{verdict_word};
 
 use crate::table::Table;
-use demands::{Entry, Kept, TableFault, Verdict, verdict_between};
+use demands::{Entry, Kept, TableFault, Verdict, verdict_between, verdict_in};
 use pep_clause::{Cut, Range};
 use pep_marker::{Environment, Name};
-use places::{Bounds, Place};
+use places::{Bounds, Place, PlaceRanges};
 use std::alloc::Global;
 
 fn push_line(text: &mut String, kind: &str, value: &str) -> Result<(), TableFault>
@@ -166,6 +167,34 @@ pub(crate) fn push_bounded(text: &mut String, name: &Name, bounds: Bounds) -> Re
         push_bounds(text, bounds)?;
     }
     Ok(())
+}
+
+// Appends the lines of ranges between places.
+fn push_spans(text: &mut String, ranges: &[Bounds]) -> Result<(), TableFault>
+    ensures ok { OnOk result (string_bytes text.new ≡ string_bytes text.old
+        ++ kind_lines (codes "range") (map range_text (spans ranges.now))) }
+    ensures faults { IfErr result (λ e. e ≡ TableFault.NoMemory) }
+{
+    for bounds in ranges {
+        push_bounds(text, *bounds)?;
+    }
+    Ok(())
+}
+
+/// Appends the lines of a name of which the versions in some ranges are demanded, and nothing else.
+pub(crate) fn push_placed(
+    text: &mut String,
+    name: &Name,
+    ranges: &PlaceRanges,
+) -> Result<(), TableFault>
+    ensures ok { OnOk result ((verdict : Verdict) × Shows (ranges_entry ranges.now) verdict
+        × (string_bytes text.new ≡ string_bytes text.old
+        ++ entry_text name.now verdict (ranges_entry ranges.now))) }
+    ensures faults { IfErr result (λ e. e ≡ TableFault.NoMemory) }
+{
+    let verdict = verdict_in(ranges);
+    push_head(text, name.text(), verdict)?;
+    push_spans(text, ranges.as_slice())
 }
 
 /// The header of the environment.

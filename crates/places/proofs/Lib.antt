@@ -1,3 +1,5 @@
 pub mod PlaceOrder
 pub mod PlacesRead
 pub mod RaisedReleases
+pub mod LeftOver
+pub mod Swept

@@ -7,6 +7,7 @@ use Rattle.std.specs.Option.{option_cmp}
 use Rattle.std.specs.Ordering.{MatchOrdering, nat_cmp, ordering_then}
 use Rattle.std.specs.declared.cmp.Ordering.{Ordering}
 use Rattle.std.specs.declared.cmp.Ordering.TheVariants.{Less, Equal, Greater}
+use Rattle.pep_version.proofs.ByteOrderLemmas.{then_assoc, then_last}
 use Rattle.pep_version.proofs.NumberBytes.{first_digit, is_greater, is_less}
 use Rattle.pep_version.specs.Laws.{release_cmp-lists}
 use Rattle.pep_version.specs.Order.{dev_cmp, pre_number, release_cmp, segment_cmp, stage, stage_of, without_end_zeros}
@@ -20,34 +21,21 @@ use Rattle.places.specs.Place.{HasPlace, IsShortRelease, IsShortSuffix, IsShortV
 
 four_steps : (a b c d : Ordering) → ordering_then (ordering_then (ordering_then a b) c) d
     ≡ ordering_then a (ordering_then b (ordering_then c (ordering_then d Equal)))
-four_steps Less b c d = refl
-four_steps Greater b c d = refl
-four_steps Equal Less c d = refl
-four_steps Equal Greater c d = refl
-four_steps Equal Equal Less d = refl
-four_steps Equal Equal Greater d = refl
-four_steps Equal Equal Equal Less = refl
-four_steps Equal Equal Equal Equal = refl
-four_steps Equal Equal Equal Greater = refl
+four_steps a b c d =
+    then_assoc (ordering_then a b) c d ∙ then_assoc a b (ordering_then c d)
+    ∙ ap (λ (x : Ordering). ordering_then a (ordering_then b (ordering_then c x))) (sym (then_last d))
 
--- those of the suffixes, as versions take them
-suffix_steps : (s p q e : Ordering) → ordering_then (ordering_then (ordering_then s p) q) e
-    ≡ ordering_then (ordering_then (ordering_then s p) (ordering_then q (ordering_then e Equal))) Equal
-suffix_steps Less p q e = refl
-suffix_steps Greater p q e = refl
-suffix_steps Equal Less q e = refl
-suffix_steps Equal Greater q e = refl
-suffix_steps Equal Equal Less e = refl
-suffix_steps Equal Equal Greater e = refl
-suffix_steps Equal Equal Equal Less = refl
-suffix_steps Equal Equal Equal Equal = refl
-suffix_steps Equal Equal Equal Greater = refl
-
-all_steps : (r s p q e : Ordering) → ordering_then (ordering_then (ordering_then (ordering_then r s) p) q) e
+-- those of the suffixes behind that of the release, as versions take them
+suffix_steps : (r s p q e : Ordering) → ordering_then (ordering_then (ordering_then (ordering_then r s) p) q) e
     ≡ ordering_then r (ordering_then (ordering_then (ordering_then s p) (ordering_then q (ordering_then e Equal))) Equal)
-all_steps Less s p q e = refl
-all_steps Greater s p q e = refl
-all_steps Equal s p q e = suffix_steps s p q e
+suffix_steps r s p q e =
+    let t = ordering_then s p in
+    ap (λ (x : Ordering). ordering_then (ordering_then x q) e) (then_assoc r s p)
+    ∙ ap (λ (x : Ordering). ordering_then x e) (then_assoc r t q)
+    ∙ then_assoc r (ordering_then t q) e
+    ∙ ap (ordering_then r) (then_assoc t q e
+    ∙ ap (λ (x : Ordering). ordering_then t (ordering_then q x)) (sym (then_last e))
+    ∙ sym (then_last (ordering_then t (ordering_then q (ordering_then e Equal)))))
 
 -- ---- releases
 
@@ -156,7 +144,7 @@ between_versions v w p q =
     suffixed-cmp _ _ _ _ _ _ _ _ _ _ (version-digits v p.suffix) (version-digits w q.suffix)
     ∙ (λ i. ordering_then (ordering_then (ordering_then (ordering_then (release_word-cmp v.release w.release p.release q.release i)
     (nat_cmp (stage v) (stage w))) (nat_cmp (pre_number v) (pre_number w))) (post-cmp v.post w.post i)) (dev-cmp v.dev w.dev p.suffix.dev q.suffix.dev i))
-    ∙ all_steps (release_cmp v.release w.release) (nat_cmp (stage v) (stage w)) (nat_cmp (pre_number v) (pre_number w)) (option_cmp nat_cmp v.post w.post) (dev_cmp v.dev w.dev)
+    ∙ suffix_steps (release_cmp v.release w.release) (nat_cmp (stage v) (stage w)) (nat_cmp (pre_number v) (pre_number w)) (option_cmp nat_cmp v.post w.post) (dev_cmp v.dev w.dev)
     ∙ sym (λ i. ordering_then (nat_cmp (p.release.epoch i) (q.release.epoch i)) (ordering_then (release_cmp v.release w.release)
     (ordering_then (ordering_then (ordering_then (nat_cmp (stage v) (stage w)) (nat_cmp (pre_number v) (pre_number w)))
     (ordering_then (option_cmp nat_cmp v.post w.post) (ordering_then (dev_cmp v.dev w.dev) (slice_cmp segment_cmp (p.label i) (q.label i))))) Equal)))

@@ -1,6 +1,7 @@
 -- A cut is read back from the number of its place.
 use Rattle.std.proofs.Common.{◌≡◌, ◌<◌, ◌≤◌, ◌+◌, ◌*◌, ◌/◌, ◌^◌, ◌%◌, ◌==◌, ℕ, zero, suc, true, false, List, [], ◌∷◌, Option, Some, None, IfSome, get_or, length, refl, sym, ap, ◌∙◌, arith, subst}
 use Rattle.std.proofs.lemmas.Cmp.{ranked}
+use Rattle.std.proofs.lemmas.Nat.{div-mul-add, mod-mul-add}
 use Rattle.std.specs.Ordering.{MatchOrdering, eq_by_cmp, is_eq, nat_cmp}
 use Rattle.std.specs.Prelude.{nat_eq}
 use Rattle.std.specs.declared.cmp.Ordering.{Ordering}
@@ -21,12 +22,6 @@ use Rattle.places.proofs.PlaceOrder.{AreDigits, places-order, version-below, ver
 
 -- ---- digits
 
-front-is : (x e : ℕ) → e < digit_unit → front_of (x * digit_unit + e) ≡ x
-front-is x e h = omega (arith, h)
-
-digit-is : (x e : ℕ) → e < digit_unit → (x * digit_unit + e) % digit_unit ≡ e
-digit-is x e h = omega (arith, h)
-
 -- the digits of a word
 record ReadsDigits (w x s p q e : ℕ) : Type 0 where
   pub release : release_word_at w ≡ x
@@ -38,35 +33,29 @@ record ReadsDigits (w x s p q e : ℕ) : Type 0 where
 digits-read : (x s p q e : ℕ) → AreDigits s p q e → ReadsDigits (suffixed_word x s p q e) x s p q e
 digits-read x s p q e h =
     let u = digit_unit in
-    let one : front_of (suffixed_word x s p q e) ≡ ((x * u + s) * u + p) * u + q = front-is (((x * u + s) * u + p) * u + q) e h.dev in
-    let two : front_of (front_of (suffixed_word x s p q e)) ≡ (x * u + s) * u + p = ap front_of one ∙ front-is ((x * u + s) * u + p) q h.post in
-    let three : front_of (front_of (front_of (suffixed_word x s p q e))) ≡ x * u + s = ap front_of two ∙ front-is (x * u + s) p h.pre in record {
-      release = ap front_of three ∙ front-is x s h.stage;
-      stage = ap (λ n. n % digit_unit) three ∙ digit-is x s h.stage;
-      pre = ap (λ n. n % digit_unit) two ∙ digit-is (x * u + s) p h.pre;
-      post = ap (λ n. n % digit_unit) one ∙ digit-is ((x * u + s) * u + p) q h.post;
-      dev = digit-is (((x * u + s) * u + p) * u + q) e h.dev;
+    let one : front_of (suffixed_word x s p q e) ≡ ((x * u + s) * u + p) * u + q = div-mul-add (((x * u + s) * u + p) * u + q) digit_unit e h.dev in
+    let two : front_of (front_of (suffixed_word x s p q e)) ≡ (x * u + s) * u + p = ap front_of one ∙ div-mul-add ((x * u + s) * u + p) digit_unit q h.post in
+    let three : front_of (front_of (front_of (suffixed_word x s p q e))) ≡ x * u + s = ap front_of two ∙ div-mul-add (x * u + s) digit_unit p h.pre in record {
+      release = ap front_of three ∙ div-mul-add x digit_unit s h.stage;
+      stage = ap (λ n. n % digit_unit) three ∙ mod-mul-add x digit_unit s h.stage;
+      pre = ap (λ n. n % digit_unit) two ∙ mod-mul-add (x * u + s) digit_unit p h.pre;
+      post = ap (λ n. n % digit_unit) one ∙ mod-mul-add ((x * u + s) * u + p) digit_unit q h.post;
+      dev = mod-mul-add (((x * u + s) * u + p) * u + q) digit_unit e h.dev;
     }
 
 -- ---- releases
-
-number-front : (x e : ℕ) → e < number_unit → (x * number_unit + e) / number_unit ≡ x
-number-front x e h = omega (arith, h)
-
-number-is : (x e : ℕ) → e < number_unit → (x * number_unit + e) % number_unit ≡ e
-number-is x e h = omega (arith, h)
 
 four-read : (a b c d : ℕ) → b < number_unit → c < number_unit → d < number_unit →
     release_at (four_word a b c d) ≡ short_release (a ∷ b ∷ c ∷ d ∷ [])
 four-read a b c d hb hc hd =
     let u = number_unit in
     let w = four_word a b c d in
-    let one : w / u ≡ (a * u + b) * u + c = number-front ((a * u + b) * u + c) d hd in
-    let two : w / u / u ≡ a * u + b = ap (λ n. n / number_unit) one ∙ number-front (a * u + b) c hc in
-    let three : w / u / u / u ≡ a = ap (λ n. n / number_unit) two ∙ number-front a b hb in
-    let first : w % u ≡ d = number-is ((a * u + b) * u + c) d hd in
-    let second : w / u % u ≡ c = ap (λ n. n % number_unit) one ∙ number-is (a * u + b) c hc in
-    let third : w / u / u % u ≡ b = ap (λ n. n % number_unit) two ∙ number-is a b hb in
+    let one : w / u ≡ (a * u + b) * u + c = div-mul-add ((a * u + b) * u + c) number_unit d hd in
+    let two : w / u / u ≡ a * u + b = ap (λ n. n / number_unit) one ∙ div-mul-add (a * u + b) number_unit c hc in
+    let three : w / u / u / u ≡ a = ap (λ n. n / number_unit) two ∙ div-mul-add a number_unit b hb in
+    let first : w % u ≡ d = mod-mul-add ((a * u + b) * u + c) number_unit d hd in
+    let second : w / u % u ≡ c = ap (λ n. n % number_unit) one ∙ mod-mul-add (a * u + b) number_unit c hc in
+    let third : w / u / u % u ≡ b = ap (λ n. n % number_unit) two ∙ mod-mul-add a number_unit b hb in
     λ i. short_release (three i ∷ third i ∷ second i ∷ first i ∷ [])
 
 pub short-four : (r : List ℕ) → 0 < length r → length r ≤ 4 → short_release (four r) ≡ short_release r

@@ -53,3 +53,17 @@ HasBounds (matching_prefix p) = IsShortRelease p.epoch p.release × EndsShort p
 HasBounds (excluding_prefix p) = ⊥
 HasBounds (compatible v) = IsShortVersion v × EndsShort (compatible_prefix v)
 HasBounds (demanded text) = Unit {0}
+
+-- Of which clauses two places tell what they leave out: those with `!=`, where one with `==` of the same version, as it is
+-- written, has bounds.
+abbrev pub LeavesOut : Clause → Type 0
+LeavesOut (excluding v) = HasBounds (matching v)
+LeavesOut (excluding_prefix p) = HasBounds (matching_prefix p)
+LeavesOut (at_least v) = ⊥
+LeavesOut (at_most v) = ⊥
+LeavesOut (greater_than v) = ⊥
+LeavesOut (less_than v) = ⊥
+LeavesOut (matching v) = ⊥
+LeavesOut (matching_prefix p) = ⊥
+LeavesOut (compatible v) = ⊥
+LeavesOut (demanded text) = ⊥

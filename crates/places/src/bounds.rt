@@ -7,10 +7,12 @@ ghost use Rattle.pep_clause.specs.Cut.{IsCut, end, least};
 ghost use Rattle.pep_clause.specs.OperatorTable.{
   before_dev,
   before_place,
+  before_prefix,
   greater_from,
   less_to,
   matching_to,
   next,
+  outside,
   prefix_end,
   range,
   set_of,
@@ -19,6 +21,7 @@ ghost use Rattle.places.specs.Bounds.{
   BeginsShort,
   EndsShort,
   HasBounds,
+  LeavesOut,
   less_version,
   next_version,
   raised_last,
@@ -68,7 +71,8 @@ fn next(version: &Version) -> Option<Place>
     Place::before(version, pre, Some(number.checked_add(1)?), Some(0))
 }
 
-// Where `<` ends: a version that is no pre-release leaves its own pre-releases out (PEP 440, "Exclusive ordered comparison").
+// Where `<` ends: a version that is no pre-release leaves its own pre-releases out (PEP 440, "Exclusive ordered
+// comparison").
 fn less_to(version: &Version) -> Option<Place>
     ensures place { IfSome result (λ p. p ≡ less_to version.now) }
     ensures exactly { IsSome result ↔ IsShortVersion (less_version version.now) }
@@ -144,8 +148,8 @@ fn raised(release: &[u64]) -> Option<[u64; 4]>
     }
 }
 
-// The place directly after all versions whose epoch is this and whose release begins with these numbers (PEP 440, "Version
-// matching").
+// The place directly after all versions whose epoch is this and whose release begins with these numbers (PEP 440,
+// "Version matching").
 fn prefix_end(epoch: u64, release: &[u64]) -> Option<Place>
     ensures place { IfSome result (λ p. p ≡ prefix_end (record {
       epoch = epoch;
@@ -178,8 +182,8 @@ fn prefix_start(epoch: u64, release: &[u64]) -> Option<Place>
 
 // `==` with a prefix
 fn with_prefix(prefix: &Version) -> Option<Bounds>
-    ensures range { IfSome result (λ b.
-        range b.low b.high ≡ set_of (matching_prefix (prefix_of prefix.now))) }
+    ensures low { IfSome result (λ b. b.low ≡ before_prefix (prefix_of prefix.now)) }
+    ensures high { IfSome result (λ b. b.high ≡ prefix_end (prefix_of prefix.now)) }
     ensures exactly { IsSome result ↔ HasBounds (matching_prefix (prefix_of prefix.now)) }
 {
     let (epoch, release) = (prefix.epoch(), prefix.release());
@@ -201,7 +205,8 @@ fn compatible(version: &Version) -> Option<Bounds>
 
 // `==`
 fn matching(version: &Version) -> Option<Bounds>
-    ensures range { IfSome result (λ b. range b.low b.high ≡ set_of (matching version.now)) }
+    ensures low { IfSome result (λ b. b.low ≡ before_place version.now) }
+    ensures high { IfSome result (λ b. b.high ≡ matching_to version.now) }
     ensures exactly { IsSome result ↔ HasBounds (matching version.now) }
 {
     let low = before(version)?;
@@ -251,16 +256,49 @@ fn of_form(form: &ClauseForm) -> Option<Bounds>
     }
 }
 
+// What `!=` leaves out: what `==` admits.
+fn left_out_of(form: &ClauseForm) -> Option<Bounds>
+    ensures set { IfSome result (λ b. outside b.low b.high ≡ set_of (clause_of form.now)) }
+    ensures exactly { IsSome result ↔ LeavesOut (clause_of form.now) }
+{
+    match form {
+        ClauseForm::Excluding(version) => matching(version),
+        ClauseForm::ExcludingPrefix(prefix) => with_prefix(prefix),
+        ClauseForm::AtLeast(_)
+        | ClauseForm::AtMost(_)
+        | ClauseForm::GreaterThan(_)
+        | ClauseForm::LessThan(_)
+        | ClauseForm::Matching(_)
+        | ClauseForm::MatchingPrefix(_)
+        | ClauseForm::Compatible(_)
+        | ClauseForm::Demanded(_) => None,
+    }
+}
+
 impl Bounds {
-    /// What the clause admits (PEP 440, "Version specifiers"), between two places; `None` for `!=`, for `>` of a version without
-    /// suffixes, and where the epoch isn't 0, there is a label, the release is written with more than four numbers, or a number is
-    /// too large for a place (see [`Place`]). A clause with `===` admits all versions here: its text stands beside the ranges.
+    /// What the clause admits (PEP 440, "Version specifiers"), between two places; `None` for `!=`, for `>` of a
+    /// version without suffixes, and where the epoch isn't 0, there is a label, the release is written with more
+    /// than four numbers, or a number is too large for a place (see [`Place`]). A clause with `===` admits all
+    /// versions here: its text stands beside the ranges.
     pub fn of(clause: &Clause) -> Option<Bounds>
         ensures range { IfSome result (λ b. range b.low b.high ≡ set_of clause.now) }
         ensures spelled { IfSome result (λ b. IsCut b.low × IsCut b.high) }
         ensures exactly { IsSome result ↔ HasBounds clause.now }
     {
         let bounds = of_form(clause.form())?;
+        // Its clauses tell that both cuts are in their one spelling.
+        let _ = bounds.low.cmp(&bounds.high);
+        Some(bounds)
+    }
+
+    /// What a clause with `!=` leaves out (PEP 440, "Version exclusion"), between two places; `None` for other
+    /// operators, and where a clause with `==` in its place has no bounds (see [`Bounds::of`]).
+    pub fn left_out(clause: &Clause) -> Option<Bounds>
+        ensures set { IfSome result (λ b. outside b.low b.high ≡ set_of clause.now) }
+        ensures spelled { IfSome result (λ b. IsCut b.low × IsCut b.high) }
+        ensures exactly { IsSome result ↔ LeavesOut clause.now }
+    {
+        let bounds = left_out_of(clause.form())?;
         // Its clauses tell that both cuts are in their one spelling.
         let _ = bounds.low.cmp(&bounds.high);
         Some(bounds)

@@ -2,7 +2,8 @@
 
 ghost use Rattle.places.specs.Place.{PlacesKeepOrder};
 
-/// The numbers of places have sixteen bytes and the order of their cuts, and a cut in its one spelling is read back from its number.
+/// The numbers of places have sixteen bytes and the order of their cuts, and a cut in its one spelling is read back
+/// from its number.
 pub fn places_keep_order()
     ensures { PlacesKeepOrder }
 {}

@@ -1,6 +1,19 @@
 //! Cuts as numbers of sixteen bytes.
 
-ghost use Rattle.std.specs.Prelude.{◌≡◌, ◌++◌, ◌↔◌, refl, IfErr, IfOk, IfSome, IsSome, IsTrue, OnErr, OnOk, string_bytes};
+ghost use Rattle.std.specs.Prelude.{
+  ◌≡◌,
+  ◌++◌,
+  ◌↔◌,
+  refl,
+  IfErr,
+  IfOk,
+  IfSome,
+  IsSome,
+  IsTrue,
+  OnErr,
+  OnOk,
+  string_bytes,
+};
 ghost use Rattle.std.specs.Cmp.{
   eq_by_cmp_equiv,
   partial_equiv_from_equiv,
@@ -10,9 +23,10 @@ ghost use Rattle.std.specs.Ordering.{as_partial_cmp, eq_by_cmp};
 ghost use Rattle.pep_version.specs.Order.{with_suffixes};
 ghost use Rattle.pep_version.specs.Text.{KeepsFront};
 ghost use Rattle.pep_clause.specs.Cut.{IsCut, cut_cmp, cut_text, end, least};
+ghost use Rattle.pep_clause.specs.Joined.{earlier, later};
 ghost use Rattle.pep_clause.specs.Laws.{cut_total};
 ghost use Rattle.pep_clause.specs.OperatorTable.{before_dev, before_place};
-ghost use Rattle.places.specs.Place.{AreShortNumbers, IsShortVersion};
+ghost use Rattle.places.specs.Place.{AreShortNumbers, IsShortVersion, word_before};
 ghost use Rattle.texts.specs.Lists.{is_empty};
 
 use crate::read::version_at;
@@ -23,12 +37,13 @@ use std::alloc::Global;
 use std::cmp::Ordering;
 use std::marker::Model;
 
-/// A cut as one number of sixteen bytes, which most cuts have: the end of all versions, and those before a version of epoch 0
-/// without a label, whose release is written with at most four numbers, each of at most 25 bits, whose pre-release number is below
-/// 128, and whose post- and developmental release numbers are below 127. Clauses see the cut.
+/// A cut as one number of sixteen bytes, which most cuts have: the end of all versions, and those before a version
+/// of epoch 0 without a label, whose release is written with at most four numbers, each of at most 25 bits, whose
+/// pre-release number is below 128, and whose post- and developmental release numbers are below 127. Clauses see the
+/// cut.
 ///
-/// The number has four times 25 bits for the release and four times 7 for what stands behind it; the end has all bits. So
-/// numbers stand as the cuts do (PEP 440, "Summary of permitted suffixes and relative ordering").
+/// The number has four times 25 bits for the release and four times 7 for what stands behind it; the end has all
+/// bits. So numbers stand as the cuts do (PEP 440, "Summary of permitted suffixes and relative ordering").
 #[derive(Clone, Copy)]
 pub struct Place {
     word: u128,
@@ -57,6 +72,24 @@ fn is_public(version: &Version) -> bool
     version.label().is_empty()
 }
 
+// The number of the place directly before the version with these suffixes in place of its own, where it has one.
+fn word_before(
+    version: &Version,
+    pre: Option<(Phase, u64)>,
+    post: Option<u64>,
+    dev: Option<u64>,
+) -> Option<u128>
+    ensures word { IfSome result (λ w.
+        w ≡ word_before (with_suffixes version.now pre post dev)) }
+    ensures exactly { IsSome result ↔ IsShortVersion (with_suffixes version.now pre post dev) }
+{
+    if version.epoch() != 0 || !is_public(version) {
+        return None;
+    }
+    let release = word_of(four(version.release())?)?;
+    suffixed(release, pre, post, dev)
+}
+
 impl Place {
     /// The place of the cut under all versions.
     pub fn least() -> Place
@@ -74,8 +107,8 @@ impl Place {
         Place { word: u128::MAX }
     }
 
-    /// The place directly before the version with these suffixes in place of its own, or `None` where its epoch isn't 0, its
-    /// numbers are too large or too many, or it has a label.
+    /// The place directly before the version with these suffixes in place of its own, or `None` where its epoch
+    /// isn't 0, its numbers are too large or too many, or it has a label.
     pub(crate) fn before(
         version: &Version,
         pre: Option<(Phase, u64)>,
@@ -87,15 +120,14 @@ impl Place {
         ensures exactly { IsSome result
             ↔ IsShortVersion (with_suffixes version.now pre post dev) }
     {
-        if version.epoch() != 0 || !is_public(version) {
-            return None;
-        }
-        let release = word_of(four(version.release())?)?;
-        let word = suffixed(release, pre, post, dev)?;
+        // Its clause tells that the parts make a version.
+        let _ = version.release();
+        let word = word_before(version, pre, post, dev)?;
         Some(Place { word })
     }
 
-    /// The place before the first developmental release of the release with these numbers, or `None` where one is too large.
+    /// The place before the first developmental release of the release with these numbers, or `None` where one is
+    /// too large.
     pub(crate) fn before_dev(numbers: [u64; 4]) -> Option<Place>
         ensures place { IfSome result (λ p. p ≡ before_dev 0 numbers) }
         ensures exactly { IsSome result ↔ AreShortNumbers numbers }
@@ -118,8 +150,8 @@ impl Place {
         Cut::before(alloc, &version_at(alloc, self.word)?)
     }
 
-    /// Appends the text of the cut, as `Cut::push_text`. The only fault is `NoMemory`; a refusal leaves what stood in the text,
-    /// with perhaps a part behind it.
+    /// Appends the text of the cut, as `Cut::push_text`. The only fault is `NoMemory`; a refusal leaves what stood
+    /// in the text, with perhaps a part behind it.
     pub fn push_text(self, text: &mut String) -> Result<(), ClauseFault>
         ensures ok { OnOk result (string_bytes text.new
             ≡ string_bytes text.old ++ cut_text self) }
@@ -134,6 +166,20 @@ impl Place {
         let version = version_at(*text.allocator(), self.word)?;
         version.push_text(text)?;
         Ok(())
+    }
+
+    /// The later of two places.
+    pub fn later(self, other: Place) -> Place
+        ensures { result ≡ later cut_cmp self other }
+    {
+        if self < other { other } else { self }
+    }
+
+    /// The earlier of two places.
+    pub fn earlier(self, other: Place) -> Place
+        ensures { result ≡ earlier cut_cmp self other }
+    {
+        if self < other { self } else { other }
     }
 
     // How the cuts stand: as their numbers.

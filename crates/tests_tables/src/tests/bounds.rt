@@ -1,8 +1,8 @@
-//! Which clauses have bounds of two places, and which.
+//! Which clauses have bounds of two places, and which; and what is left over where some are left out.
 
 use crate::tests::lines::expect_row;
-use pep_clause::{Clause, ClauseFault};
-use places::{Bounds, Place};
+use pep_clause::{Clause, ClauseFault, VersionSet};
+use places::{Bounds, LeftOut, Place, PlaceRanges};
 use std::alloc::Global;
 use std::test::Fail;
 
@@ -18,20 +18,29 @@ fn place_text(alloc: Global, place: Place) -> Result<String, ClauseFault> {
     }
 }
 
-// The cuts between which the clause of this text admits versions, where both have a place.
-fn bounds_line(alloc: Global, text: &str) -> Result<String, ClauseFault> {
-    let clause = Clause::read(alloc, text)?;
-    let Some(bounds) = Bounds::of(&clause) else {
-        return Ok(String::from_str(alloc, "none")?);
-    };
+// The two places.
+fn bounds_text(alloc: Global, bounds: Bounds) -> Result<String, ClauseFault> {
     let low = place_text(alloc, bounds.low)?;
     let high = place_text(alloc, bounds.high)?;
     Ok(format!(in alloc; "{low} to {high}")?)
 }
 
-// Clauses, and the cuts between which they admit versions. No place is past a release, after a label, in another epoch, written
-// with five numbers, of a number over 25 bits or of a digit over 7.
-const BOUNDS: [(&str, &str); 41] = [
+// The cuts between which the clause of this text admits versions, or leaves them out, where both have a place.
+fn bounds_line(alloc: Global, text: &str) -> Result<String, ClauseFault> {
+    let clause = Clause::read(alloc, text)?;
+    if let Some(bounds) = Bounds::of(&clause) {
+        return bounds_text(alloc, bounds);
+    }
+    let Some(bounds) = Bounds::left_out(&clause) else {
+        return Ok(String::from_str(alloc, "none")?);
+    };
+    let text = bounds_text(alloc, bounds)?;
+    Ok(format!(in alloc; "not {text}")?)
+}
+
+// Clauses, and the cuts between which they admit versions. No place is past a release, after a label, in another
+// epoch, written with five numbers, of a number over 25 bits or of a digit over 7.
+const BOUNDS: [(&str, &str); 46] = [
     (">=1.2.3", "before 1.2.3 to end"),
     (">=1.0", "before 1 to end"),
     ("<2", "before 0.dev0 to before 2.dev0"),
@@ -77,8 +86,13 @@ const BOUNDS: [(&str, &str); 41] = [
     ("==1!1.*", "none"),
     ("==1.0+x", "none"),
     (">1.0", "none"),
-    ("!=1.0", "none"),
-    ("!=1.*", "none"),
+    ("!=1.0", "not before 1 to before 1.post0.dev0"),
+    ("!=1.0.*", "not before 1.dev0 to before 1.1.dev0"),
+    ("!=1.0+x", "none"),
+    ("!=1!1.0", "none"),
+    ("!=1.dev126", "none"),
+    ("!=1.2.3.4.0", "none"),
+    ("!=33554431.*", "none"),
 ];
 
 #[test]
@@ -86,6 +100,98 @@ fn bounds(rt: HostRuntime) -> Result<(), Fail> {
     for &(text, want) in &BOUNDS {
         let line = bounds_line(rt.alloc(), text)?;
         expect_row(&rt, text, line.as_str(), want);
+    }
+    Ok(())
+}
+
+// What clauses with `!=` leave over of all versions.
+fn left_over_by(alloc: Global, clauses: &[&str]) -> Result<LeftOut, ClauseFault> {
+    let mut left_out = LeftOut::none(alloc);
+    for text in clauses {
+        let clause = Clause::read(alloc, text)?;
+        if let Some(bounds) = Bounds::left_out(&clause) {
+            left_out.leave_out(alloc, bounds)?;
+        }
+    }
+    Ok(left_out)
+}
+
+// The cuts of each range.
+fn ranges_text(alloc: Global, ranges: &PlaceRanges) -> Result<String, ClauseFault> {
+    let mut text = String::new(alloc);
+    for bounds in ranges.as_slice() {
+        let range = bounds_text(alloc, *bounds)?;
+        text.push_str(range.as_str())?;
+        text.push_str(";")?;
+    }
+    Ok(text)
+}
+
+fn set_text(alloc: Global, set: &VersionSet) -> Result<String, ClauseFault> {
+    let mut text = String::new(alloc);
+    for range in set.ranges() {
+        range.low().push_text(&mut text)?;
+        text.push_str(" to ")?;
+        range.high().push_text(&mut text)?;
+        text.push_str(";")?;
+    }
+    Ok(text)
+}
+
+// The ranges of what is left over between the bounds of a clause, by their places and by the set of them.
+fn left_line(alloc: Global, within: &str, clauses: &[&str]) -> Result<String, ClauseFault> {
+    let clause = Clause::read(alloc, within)?;
+    let Some(bounds) = Bounds::of(&clause) else {
+        return Ok(String::from_str(alloc, "none")?);
+    };
+    let ranges = left_over_by(alloc, clauses)?.between(alloc, bounds)?;
+    let text = ranges_text(alloc, &ranges)?;
+    let set = set_text(alloc, &ranges.into_set(alloc)?)?;
+    if text.as_str() == set.as_str() {
+        Ok(text)
+    } else {
+        Ok(format!(in alloc; "{text} as a set {set}")?)
+    }
+}
+
+// A clause with bounds, clauses with `!=`, and the ranges between the bounds of what these leave over.
+const LEFT: [(&str, &[&str], &str); 10] = [
+    (">=1", &[], "before 1 to end;"),
+    (
+        "===1",
+        &["!=2"],
+        "before 0.dev0 to before 2;before 2.post0.dev0 to end;",
+    ),
+    (
+        "<3",
+        &["!=2.*", "!=1.5", "!=2.1", "!=1.5"],
+        "before 0.dev0 to before 1.5;before 1.5.post0.dev0 to before 2.dev0;",
+    ),
+    ("==1.*", &["!=1.*"], ""),
+    (
+        "==1.*",
+        &["!=1.1.*", "!=1", "!=1.0.*"],
+        "before 1.2.dev0 to before 2.dev0;",
+    ),
+    // more parts than are kept as they come, some of which meet
+    (
+        ">=1",
+        &[
+            "!=1.3.*", "!=1.1.*", "!=3", "!=1.2.5", "!=1.2.*", "!=1.1", "!=5",
+        ],
+        "before 1 to before 1.1.dev0;before 1.4.dev0 to before 3;before 3.post0.dev0 to before 5;before 5.post0.dev0 to end;",
+    ),
+    ("~=1.4", &["!=2"], "before 1.4 to before 2.dev0;"),
+    ("<0", &["!=1"], ""),
+    ("==1", &["!=1.post1"], "before 1 to before 1.post0.dev0;"),
+    (">=1", &["!=1", "!=0.5"], "before 1.post0.dev0 to end;"),
+];
+
+#[test]
+fn left_over(rt: HostRuntime) -> Result<(), Fail> {
+    for &(within, clauses, want) in &LEFT {
+        let line = left_line(rt.alloc(), within, clauses)?;
+        expect_row(&rt, within, line.as_str(), want);
     }
     Ok(())
 }

@@ -1,13 +1,10 @@
-use Rattle.std.proofs.Common.{◌+◌, rules, take, refl, string_bytes}
-use Rattle.std.specs.String.{string_cmp}
-use Rattle.demands.proofs.KeptSets.{kept_none, next_taken}
+use Rattle.std.proofs.Common.{◌+◌, rules, take}
+use Rattle.demands.proofs.KeptSets.{next_taken, union_none}
 use Rattle.demands.proofs.TakenClauses.{texts_more}
 use Rattle.demands.proofs.others.take_texts.Goals as goal
 
 pub loop-clause-init : goal.loop-clause-init
-loop-clause-init c =
-    kept_none string_cmp (λ x. string_bytes x) (λ x y. refl) c.args.texts.now.keys
-    c.len.ensures.ordered
+loop-clause-init c = union_none c.args.texts.now c.in_order.ensures
 
 pub loop-clause-preserved : goal.loop-clause-preserved
 loop-clause-preserved c =

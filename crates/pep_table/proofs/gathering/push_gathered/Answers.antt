@@ -19,3 +19,10 @@ returns-in-Listed-clause-ok c =
     × (string_bytes c.push_entry.new.text
     ≡ string_bytes c.args.text.now ++ entry_text c.args.name.now x e)))
     (sym (ap finished_entry c.in-Listed.is) ∙ c.in_ok-bounds.ensures.same) c.push_entry.ensures.ok
+
+pub returns-in-Placed-clause-ok : goal.returns-in-Placed-clause-ok
+returns-in-Placed-clause-ok c =
+    subst (λ (e : EntryParts). OnOk c.push_placed.result ((x : Verdict) × Shows e x
+    × (string_bytes c.push_placed.new.text
+    ≡ string_bytes c.args.text.now ++ entry_text c.args.name.now x e)))
+    (sym (ap finished_entry c.in-Placed.is) ∙ c.in_ok-bounds.ensures.same) c.push_placed.ensures.ok

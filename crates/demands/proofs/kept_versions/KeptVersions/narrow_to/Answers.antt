@@ -1,7 +1,8 @@
 use Rattle.std.proofs.Common.{subst}
+use Rattle.std.specs.Prelude.{option_map}
 use Rattle.pep_clause.specs.OperatorTable.{range}
 use Rattle.demands.specs.Join.{IsIntersection}
-use Rattle.demands.specs.PartialJoins.{kept_versions}
+use Rattle.demands.specs.PartialJoins.{beside_versions, kept_versions}
 use Rattle.demands.proofs.KeptVersions.{narrowed-versions}
 use Rattle.demands.proofs.kept_versions.KeptVersions.narrow_to.Goals as goal
 
@@ -9,8 +10,9 @@ pub returns : goal.returns
 returns c =
     let i = c.self.inside in
     let b = c.args.bounds in
+    let s = beside_versions (option_map (λ x. x.value) i.beside) in
     let low = c.later-self-inside in
     let high = c.earlier-self-inside in
-    subst (λ old. IsIntersection old (range b.low b.high) (kept_versions low.result high.result i.sets.items)) c.self.view_is
-    (narrowed-versions i.low i.high b.low b.high low.result high.result i.sets.items c.self.invariant
+    subst (λ old. IsIntersection old (range b.low b.high) (kept_versions low.result high.result s)) c.self.view_is
+    (narrowed-versions i.low i.high b.low b.high low.result high.result s c.self.invariant
     c.requires.low c.requires.high low.ensures high.ensures)

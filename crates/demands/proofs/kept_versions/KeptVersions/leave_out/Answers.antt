@@ -1,0 +1,20 @@
+use Rattle.std.proofs.Common.{◌≡◌, ◌∙◌, ap, subst}
+use Rattle.std.specs.Prelude.{option_map}
+use Rattle.pep_clause.specs.OperatorTable.{outside}
+use Rattle.demands.specs.Join.{IsIntersection}
+use Rattle.demands.specs.PartialJoins.{beside_versions, kept_versions}
+use Rattle.demands.proofs.KeptVersions.{met-versions}
+use Rattle.demands.proofs.kept_versions.KeptVersions.leave_out.Goals as goal
+
+pub returns-clause-ok : goal.returns-clause-ok
+returns-clause-ok c =
+    let i = c.self.inside in
+    let t = (outside c.args.bounds.low c.args.bounds.high) in
+    let new = c.leave_out.new.self in
+    let old = beside_versions (option_map (λ b. b.value) i.beside) in
+    let taken : c.deref_mut.result.now ≡ old =
+    c.deref_mut.ensures.value ∙ c.in_ok-beside.ensures.same
+    ∙ ap (λ b. beside_versions (option_map (λ x. x.value) b)) c.take.ensures.value in
+    subst (λ whole. IsIntersection whole t (kept_versions i.low i.high new)) c.self.view_is
+    (met-versions i.low i.high old new t c.self.invariant c.leave_out.ensures.normal
+    (subst (λ s. IsIntersection s t new) taken c.in_ok-leave_out.ensures.ok))

@@ -1,9 +1,0 @@
-use Rattle.std.proofs.Common.{map, take}
-use Rattle.std.specs.List.{All}
-use Rattle.demands.specs.Join.{IsUnion}
-use Rattle.demands.proofs.sorted.put_all.Given as goal
-
-abbrev pub invariant-loop-value : goal.invariant-loop-value
-invariant-loop-value g l = IsUnion (map g.T.Kept.text l.initial.set.keys)
-    (map g.T.Kept.text (take l.value-index l.values)) (map g.T.Kept.text l.set.keys)
-    × All g.T.Kept.is_value (take l.value-index l.values)

@@ -1,0 +1,163 @@
+//! What is kept of the versions of a package beside two places.
+
+ghost use Rattle.std.specs.Prelude.{◌≡◌, IfErr, IfOk, IsTrue, OnOk};
+ghost use Rattle.pep_clause.specs.Cut.{end, least};
+ghost use Rattle.pep_clause.specs.Joined.{joined};
+ghost use Rattle.pep_clause.specs.OperatorTable.{outside, range};
+ghost use Rattle.pep_clause.specs.VersionSet.{IsNormal, all_versions};
+ghost use Rattle.demands.specs.Finished.{kept_ranges};
+ghost use Rattle.demands.specs.Join.{IsIntersection};
+
+use crate::fault::TableFault;
+use crate::partial_joins::{common, joined_of, narrow};
+use pep_clause::{Range, VersionSet};
+use places::{Bounds, LeftOut, Place, PlaceRanges};
+use std::alloc::Global;
+use std::marker::Model;
+
+/// The versions that are kept, in the form that holds them.
+#[derive(Drop)]
+pub(crate) enum KeptRanges {
+    /// Those between two places.
+    Bounded(Bounds),
+    /// Those in ranges between places.
+    Placed(PlaceRanges),
+    /// Those of a set.
+    Set(VersionSet),
+}
+
+/// Versions that are left out between two places at a time, and sets, in each of which a version has to be. Clauses
+/// see the ranges of the versions that are left.
+#[derive(Drop)]
+pub(crate) struct Beside {
+    left_out: LeftOut,
+    sets: Vec<VersionSet>,
+}
+
+impl Model for Beside {
+    ghost use Rattle.std.specs.Prelude.{List};
+    ghost use Rattle.pep_clause.specs.Joined.{joined};
+    ghost use Rattle.pep_clause.specs.VersionSet.{IsNormal, Range};
+    ghost use Rattle.demands.specs.PartialJoins.{AreNormal, joined_sets};
+
+    ghost Value = { List Range };
+
+    ghost view = { λ v. joined v.left_out (joined_sets v.sets.items) };
+
+    ghost invariant = { λ v. IsNormal v.left_out × AreNormal v.sets.items };
+}
+
+// The set of the versions between two places.
+fn set_between(alloc: Global, bounds: Bounds) -> Result<VersionSet, TableFault>
+    ensures range { IfOk result (λ s. s ≡ range bounds.low bounds.high) }
+    ensures faults { IfErr result (λ e. e ≡ TableFault.NoMemory) }
+{
+    let (Ok(low), Ok(high)) = (bounds.low.cut(alloc), bounds.high.cut(alloc)) else {
+        return Err(TableFault::NoMemory);
+    };
+    let Some(range) = Range::of(low, high) else {
+        return Ok(VersionSet::none(alloc));
+    };
+    match VersionSet::of_ranges(Vec::from_array(alloc, [range])?) {
+        Some(versions) => Ok(versions),
+        None => unreachable!(),
+    }
+}
+
+// The versions in some ranges between places as a set.
+fn set_of(alloc: Global, ranges: PlaceRanges) -> Result<VersionSet, TableFault>
+    ensures same { IfOk result (λ s. s ≡ ranges) }
+    ensures faults { IfErr result (λ e. e ≡ TableFault.NoMemory) }
+{
+    match ranges.into_set(alloc) {
+        Ok(versions) => Ok(versions),
+        Err(_) => Err(TableFault::NoMemory),
+    }
+}
+
+// The versions between two places that are left over.
+fn left_between(alloc: Global, left_out: LeftOut, bounds: Bounds) -> Result<PlaceRanges, TableFault>
+    ensures ranges { IfOk result (λ r. r ≡ joined (range bounds.low bounds.high) left_out) }
+    ensures faults { IfErr result (λ e. e ≡ TableFault.NoMemory) }
+{
+    match left_out.between(alloc, bounds) {
+        Ok(ranges) => Ok(ranges),
+        Err(_) => Err(TableFault::NoMemory),
+    }
+}
+
+impl KeptRanges {
+    /// The versions as a set. The only fault is `NoMemory`.
+    pub(crate) fn into_set(self, alloc: Global) -> Result<VersionSet, TableFault>
+        ensures same { IfOk result (λ s. s ≡ kept_ranges self) }
+        ensures faults { IfErr result (λ e. e ≡ TableFault.NoMemory) }
+    {
+        match self {
+            KeptRanges::Bounded(bounds) => set_between(alloc, bounds),
+            KeptRanges::Placed(ranges) => set_of(alloc, ranges),
+            KeptRanges::Set(versions) => Ok(versions),
+        }
+    }
+}
+
+// Whether the two places bound nothing.
+fn is_unbounded(bounds: &Bounds) -> bool
+    ensures { IsTrue result → (bounds.now.low ≡ least) × (bounds.now.high ≡ end) }
+{
+    bounds.low == Place::least() && bounds.high == Place::end()
+}
+
+impl Beside {
+    /// All versions.
+    pub(crate) fn all(alloc: Global) -> Beside
+        ensures all { result ≡ all_versions }
+        ensures normal { IsNormal result }
+    {
+        Beside {
+            left_out: LeftOut::none(alloc),
+            sets: Vec::new(alloc),
+        }
+    }
+
+    /// Keeps the versions that don't lie between the bounds. The only fault is `NoMemory`.
+    pub(crate) fn leave_out(&mut self, alloc: Global, bounds: Bounds) -> Result<(), TableFault>
+        ensures ok { OnOk result (IsIntersection self.old (outside bounds.low bounds.high) self.new) }
+        ensures normal { IsNormal self.new }
+        ensures faults { IfErr result (λ e. e ≡ TableFault.NoMemory) }
+    {
+        let Ok(()) = self.left_out.leave_out(alloc, bounds) else {
+            return Err(TableFault::NoMemory);
+        };
+        Ok(())
+    }
+
+    /// Keeps the versions that are in the set too, which is used up. The only fault is `NoMemory`.
+    pub(crate) fn meet(&mut self, alloc: Global, others: VersionSet) -> Result<(), TableFault>
+        ensures ok { OnOk result (IsIntersection self.old others self.new) }
+        ensures normal { IsNormal self.new }
+        ensures faults { IfErr result (λ e. e ≡ TableFault.NoMemory) }
+    {
+        narrow(alloc, &mut self.sets, others)
+    }
+
+    /// The versions between two places that are kept. The only fault is `NoMemory`.
+    pub(crate) fn between(self, alloc: Global, bounds: Bounds) -> Result<KeptRanges, TableFault>
+        ensures ranges { IfOk result (λ k. kept_ranges k
+            ≡ joined (range bounds.low bounds.high) self) }
+        ensures faults { IfErr result (λ e. e ≡ TableFault.NoMemory) }
+    {
+        // Its clauses tell that both cuts are in their one spelling.
+        let _ = bounds.low.cmp(&bounds.high);
+        let Beside { left_out, sets } = self;
+        if sets.is_empty() {
+            return Ok(KeptRanges::Placed(left_between(alloc, left_out, bounds)?));
+        }
+        let joined = joined_of(alloc, sets)?;
+        if left_out.is_none() && is_unbounded(&bounds) {
+            return Ok(KeptRanges::Set(joined));
+        }
+        let ranges = left_between(alloc, left_out, bounds)?;
+        let both = common(alloc, joined, set_of(alloc, ranges)?)?;
+        Ok(KeptRanges::Set(both))
+    }
+}

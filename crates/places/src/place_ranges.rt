@@ -1,0 +1,75 @@
+//! Ranges between places.
+
+ghost use Rattle.std.specs.Prelude.{◌≡◌, IfErr, IfOk};
+ghost use Rattle.std.specs.declared.cmp.Ordering.TheVariants.{Less};
+ghost use Rattle.pep_clause.specs.Cut.{cut_cmp};
+ghost use Rattle.pep_clause.specs.VersionSet.{IsNormal};
+ghost use Rattle.places.specs.LeftOut.{span, spans};
+
+use crate::bounds::Bounds;
+use pep_clause::{ClauseFault, Range, VersionSet};
+use std::alloc::Global;
+use std::marker::Model;
+
+/// The versions in some ranges between places, each of which begins above the end of the one before it.
+#[derive(Drop)]
+pub struct PlaceRanges {
+    ranges: Vec<Bounds>,
+}
+
+impl Model for PlaceRanges {
+    ghost use Rattle.std.specs.Prelude.{List};
+    ghost use Rattle.pep_clause.specs.VersionSet.{IsNormal, Range};
+    ghost use Rattle.places.specs.LeftOut.{spans};
+
+    ghost Value = { List Range };
+
+    ghost view = { λ v. spans v.ranges.items };
+
+    ghost invariant = { λ v. IsNormal (spans v.ranges.items) };
+}
+
+// The range between two places, the first of which is below the second.
+fn range_of(alloc: Global, bounds: &Bounds) -> Result<Range, ClauseFault>
+    requires { cut_cmp bounds.now.low bounds.now.high ≡ Less }
+    ensures range { IfOk result (λ r. r ≡ span bounds.now) }
+    ensures faults { IfErr result (λ e. e ≡ ClauseFault.NoMemory) }
+{
+    match Range::of(bounds.low.cut(alloc)?, bounds.high.cut(alloc)?) {
+        Some(range) => Ok(range),
+        None => unreachable!(),
+    }
+}
+
+impl PlaceRanges {
+    // The ranges, which are in order.
+    pub(crate) fn of(ranges: Vec<Bounds>) -> PlaceRanges
+        requires { IsNormal (spans ranges.items) }
+        ensures { result ≡ spans ranges.items }
+    {
+        PlaceRanges { ranges }
+    }
+
+    /// The ranges, in order.
+    pub fn as_slice(&self) -> &[Bounds]
+        ensures ranges { spans result.now ≡ self.now }
+        ensures normal { IsNormal self.now }
+    {
+        self.ranges.as_slice()
+    }
+
+    /// The same versions as a set. The only fault is `NoMemory`.
+    pub fn into_set(self, alloc: Global) -> Result<VersionSet, ClauseFault>
+        ensures same { IfOk result (λ s. s ≡ self) }
+        ensures faults { IfErr result (λ e. e ≡ ClauseFault.NoMemory) }
+    {
+        let mut ranges = Vec::with_capacity(alloc, self.ranges.len())?;
+        for bounds in &self.ranges {
+            ranges.push(range_of(alloc, bounds)?)?;
+        }
+        match VersionSet::of_ranges(ranges) {
+            Some(versions) => Ok(versions),
+            None => unreachable!(),
+        }
+    }
+}
