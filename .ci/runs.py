@@ -85,8 +85,9 @@ def gathered():
     return table.encode()
 
 
-# More markers than twice the places in which texts of markers are remembered, none of which holds.
-MARKED = "".join(f"a<0; os_name=='{number}'\n" for number in range(600)) + "a>=1\n"
+# More markers than twice the places in which texts of markers are remembered, none of which holds, and as many clauses, for
+# which the memory of clauses grows twice.
+MARKED = "".join(f"a<{number}; os_name=='{number}'\n" for number in range(600)) + "a>=1\n"
 
 MERGE = ["merge", "--env", "env.toml"]
 FIRST_LINES = FILES["first.table"]

@@ -1,20 +1,30 @@
 -- The versions that are kept between two places and beside them: moved inwards, met with one set more, and as ranges.
-use Rattle.std.proofs.Common.{◌≡◌, ◌&&◌, Bool, true, false, List, [], ◌∷◌, refl, sym, ap, ◌∙◌, arith, length, subst}
+use Rattle.std.proofs.Common.{◌≡◌, ◌&&◌, ◌||◌, Bool, true, false, not, List, [], ◌∷◌, refl, sym, ap, ◌∙◌}
+use Rattle.std.proofs.Common.{arith, length, subst}
+use Rattle.std.specs.Prelude.{◌≢◌, IfSome, is_some, Option, Some, None}
+use Rattle.std.specs.declared.cmp.Ordering.TheVariants.{Less}
 use Rattle.std.proofs.Math.Bool.{and_assoc}
 use Rattle.std.specs.Ordering.{is_lt}
-use Rattle.texts.proofs.Connectives.{and_given}
+use Rattle.texts.proofs.Connectives.{and-false, and_given}
 use Rattle.pep_clause.specs.Cut.{Cut, IsCut, cut_cmp, end, least}
 use Rattle.pep_clause.specs.Joined.{earlier, joined, later}
-use Rattle.pep_clause.specs.OperatorTable.{range}
+use Rattle.pep_clause.specs.Laws.{cut_total}
+use Rattle.pep_clause.specs.OperatorTable.{outside, range}
 use Rattle.pep_clause.specs.VersionSet.{IsNormal, Range, all_versions, is_point}
-use Rattle.pep_clause.proofs.Between.{earlier-keeps, later-keeps}
+use Rattle.pep_clause.proofs.Between.{below-not_above, earlier-keeps, later-keeps, not_below_itself}
 use Rattle.pep_clause.proofs.JoinedPoints.{is_point-joined, is_point-range, is_point-range_joined}
-use Rattle.pep_clause.proofs.LeastCut.{IsNormal-all_versions, point-all_versions}
+use Rattle.pep_clause.proofs.LeastCut.{IsNormal-all_versions, end-below_none, point-all_versions}
 use Rattle.pep_clause.proofs.NormalJoined.{IsNormal-joined, IsNormal-range}
 use Rattle.pep_clause.proofs.OneList.{same_points}
+use Rattle.pep_clause.proofs.RangeRows.{IsNormal-outside}
+use Rattle.places.specs.LeftOut.{IsPart}
+use Rattle.places.specs.declared.bounds.Bounds.{Bounds}
+use Rattle.places.proofs.LeftOver.{all_points, is_below, outside_points}
 use Rattle.demands.specs.Join.{IsIntersection}
+use Rattle.demands.specs.LineVersions.{left_out_versions}
 use Rattle.demands.specs.PartialJoins.{AreKept, AreNormal, joined_sets, kept_versions}
 use Rattle.demands.proofs.PartialJoins.{normal_sets}
+use Rattle.demands.proofs.TakenClauses.{all_meets}
 
 pub kept-normal : (l h : Cut) (s : List Range) → AreKept l h s → IsNormal (kept_versions l h s)
 kept-normal l h s k = IsNormal-joined (range l h) s (IsNormal-range l h k.low k.high) k.beside
@@ -58,6 +68,17 @@ met-versions l h s new t k normal i = record {
       ∙ ap (λ b. is_point (range l h) cut && b) (i.points cut is)
       ∙ sym (and_assoc (is_point (range l h) cut) (is_point s cut) (is_point t cut))
       ∙ ap (λ b. b && is_point t cut) (sym (is_point-joined (range l h) s cut));
+}
+
+-- where two are met, one after the other
+pub met-both : (a r b s d : List Range) → IsIntersection a r b → IsIntersection b s d →
+    IsIntersection a (joined r s) d
+met-both a r b s d h g = record {
+  normal = g.normal;
+  points = λ cut is. g.points cut is
+      ∙ (λ i. h.points cut is i && is_point s cut)
+      ∙ and_assoc (is_point a cut) (is_point r cut) (is_point s cut)
+      ∙ ap (λ x. is_point a cut && x) (sym (is_point-joined r s cut));
 }
 
 -- ---- what is beside them: what is left over, and sets
@@ -152,3 +173,38 @@ kept-both l h left sets between both f g n m e i =
     ∙ turned (is_point sets cut) (is_point (range l h) cut) (is_point left cut)
     ∙ ap (λ b. is_point (range l h) cut && b) (sym (is_point-joined left sets cut))
     ∙ sym (is_point-joined (range l h) (joined left sets) cut))
+
+-- ---- where a part is left out
+
+pub part-kept : (l h m n : Cut) → AreKept l h all_versions → IsPart (record { low = m; high = n }) →
+    AreKept l h (outside m n)
+part-kept l h m n k p = record {
+  low = k.low;
+  high = k.high;
+  beside = IsNormal-outside m n p.low p.high p.in_order;
+}
+
+pub part-left_out : (l h m n : Cut) → AreKept l h all_versions → IsPart (record { low = m; high = n }) →
+    IsIntersection (kept_versions l h all_versions) (outside m n) (kept_versions l h (outside m n))
+part-left_out l h m n k p =
+    let normal = (part-kept l h m n k p).beside in
+    met-versions l h all_versions (outside m n) (outside m n) k normal (all_meets (outside m n) normal)
+
+-- not all versions are kept
+pub part-missing : (l h m n : Cut) → cut_cmp m n ≡ Less → kept_versions l h (outside m n) ≢ all_versions
+part-missing l h m n less e =
+    let under : is_below m end ≡ true = ap is_lt (below-not_above cut_total m n end less (end-below_none n)) in
+    let inside : is_point all_versions m ≡ true = all_points m ∙ under in
+    let out : is_point (outside m n) m ≡ false =
+    outside_points m n m
+    ∙ (λ i. (not_below_itself cut_total m i && true) || (under i && not (is_lt (less i)))) in
+    let missing : is_point (kept_versions l h (outside m n)) m ≡ false =
+    is_point-joined (range l h) (outside m n) m ∙ (λ i. is_point (range l h) m && out i)
+    ∙ and-false (is_point (range l h) m) in
+    let both : true ≡ false = sym inside ∙ (λ i. is_point (sym e i) m) ∙ missing in
+    cc both
+
+pub some-missing : (l h : Cut) (o : Option Bounds) → IfSome o IsPart → is_some o ≡ true →
+    kept_versions l h (left_out_versions o) ≢ all_versions
+some-missing l h None p e = cc e
+some-missing l h (Some b) p e = part-missing l h b.low b.high p.in_order

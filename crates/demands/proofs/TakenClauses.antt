@@ -67,6 +67,19 @@ all_meets a normal = record {
       (point-all_versions a cut);
 }
 
+-- what is kept of all versions, met with what was there
+pub meets_joined : (a ranges b : List Range) (cs : List Clause) → MeetsClauses all_versions cs ranges →
+    IsIntersection a ranges b → MeetsClauses a cs b
+meets_joined a ranges b cs h i = record {
+  normal = i.normal;
+  points = λ cut is. let pass = list_all (λ c. is_point (set_of c) cut) cs in
+      i.points cut is
+      ∙ (λ j. is_point a cut && h.points cut is j)
+      ∙ sym (and_assoc (is_point a cut) (is_point all_versions cut) pass)
+      ∙ ap (λ b. b && pass)
+      (sym (and_given (is_point a cut) (is_point all_versions cut) (point-all_versions a cut)));
+}
+
 meets_append : (a b d : List Range) (cs ds : List Clause) → MeetsClauses a cs b →
     MeetsClauses b ds d → MeetsClauses a (cs ++ ds) d
 meets_append a b d cs ds h g = record {

@@ -13,3 +13,4 @@ pub mod PartialJoins
 pub mod IntersectionLaws
 pub mod EntryLaws
 pub mod Finished
+pub mod LineVersions

@@ -1,6 +1,6 @@
 //! Values that come one by one, of which each counts once.
 
-ghost use Rattle.std.specs.Prelude.{◌≡◌, ◌∷◌, [], All, IfErr, OnOk, map};
+ghost use Rattle.std.specs.Prelude.{◌≡◌, ◌∷◌, [], All, Contains, IfErr, IsTrue, OnOk, map};
 ghost use Rattle.pep_require.specs.Requirement.{IsAscending};
 ghost use Rattle.demands.specs.Collected.{collected_texts};
 ghost use Rattle.demands.specs.Join.{IsUnion};
@@ -12,6 +12,9 @@ use std::marker::Model;
 
 // As many values may be kept above twice those that were left when they were last put in order.
 const SPARE: usize = 4;
+
+// Where no more values are kept, one that comes is looked for among them before it is copied.
+const FEW: usize = 8;
 
 /// Values of which each counts once. They are kept as they come, and put in order at the end, and
 /// where their number has doubled: so what repeats takes at most as much room again, and that of a
@@ -37,6 +40,18 @@ fn put_in_order<T: Kept>(items: &mut Vec<T>)
 {
     items.sort_unstable();
     items.dedup();
+}
+
+// Whether one of the values has the text.
+fn is_among<T: Kept>(items: &[T], text: &str) -> bool
+    ensures { IsTrue result → Contains (map T.text items.now) text.now }
+{
+    for item in items {
+        if item.as_text() == text {
+            return true;
+        }
+    }
+    false
 }
 
 impl<T: Kept> Collected<T> {
@@ -79,6 +94,27 @@ impl<T: Kept> Collected<T> {
         Ok(())
     }
 
+    /// Whether a value with the text is found, where few are kept. Its clause tells that taking one more with it
+    /// changes nothing.
+    pub(crate) fn has(&self, text: &str) -> bool
+        ensures { IsTrue result → IsUnion self.now (text.now ∷ []) self.now }
+    {
+        self.items.len() <= FEW && is_among(&self.items, text)
+    }
+
+    // Takes a copy of the value, unless it is found.
+    fn put_copy(&mut self, alloc: Global, value: &T) -> Result<(), TableFault>
+        ensures put { OnOk result (IsUnion self.old (T.text value.now ∷ []) self.new) }
+        ensures value { T.is_value value.now }
+        ensures faults { IfErr result (λ e. e ≡ TableFault.NoMemory) }
+    {
+        value.as_value();
+        if self.has(value.as_text()) {
+            return Ok(());
+        }
+        self.put(value.kept(alloc)?)
+    }
+
     /// Takes copies of the values. The only fault is `NoMemory`, 42.
     pub(crate) fn put_all(&mut self, alloc: Global, values: &[T]) -> Result<(), TableFault>
         ensures put { OnOk result (IsUnion self.old (map T.text values.now) self.new) }
@@ -87,7 +123,7 @@ impl<T: Kept> Collected<T> {
     {
         self.in_order();
         for value in values {
-            self.put(value.kept(alloc)?)?;
+            self.put_copy(alloc, value)?;
         }
         Ok(())
     }

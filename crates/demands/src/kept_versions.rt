@@ -13,6 +13,7 @@ ghost use Rattle.demands.specs.PartialJoins.{beside_versions};
 
 use crate::beside::{Beside, KeptRanges};
 use crate::fault::TableFault;
+use crate::line_versions::LineVersions;
 use pep_clause::{Clause, VersionSet};
 use pep_require::Target;
 use places::{Bounds, Place};
@@ -74,6 +75,23 @@ impl KeptVersions {
     {
         self.low = self.low.later(bounds.low);
         self.high = self.high.earlier(bounds.high);
+    }
+
+    /// Keeps the versions that a line admits too. Where none is left out of them, no memory is wanted. The only fault
+    /// is `NoMemory`.
+    pub(crate) fn meet_line(
+        &mut self,
+        alloc: Global,
+        versions: &LineVersions,
+    ) -> Result<(), TableFault>
+        ensures ok { OnOk result (IsIntersection self.old versions.now self.new) }
+        ensures faults { IfErr result (λ e. e ≡ TableFault.NoMemory) }
+    {
+        self.narrow_to(versions.bounds);
+        match versions.left_out {
+            Some(bounds) => self.leave_out(alloc, bounds),
+            None => Ok(()),
+        }
     }
 
     /// Keeps the versions that are in the set too, which is used up. The only fault is `NoMemory`.

@@ -12,7 +12,7 @@ ghost use Rattle.std.specs.Prelude.{
   false,
 };
 ghost use Rattle.pep_require.specs.View.{requirement_parts, target_parts};
-ghost use Rattle.demands.specs.Gathering.{target_clauses, target_urls, texts_of};
+ghost use Rattle.demands.specs.Gathering.{bare_entry, target_clauses, target_urls, texts_of};
 ghost use Rattle.demands.specs.Join.{IsUnion};
 ghost use Rattle.demands.specs.Others.{
   JoinsOthers,
@@ -53,6 +53,17 @@ impl Model for Others {
     } };
 }
 
+// Takes a copy of the text, unless it is found.
+fn put_text(alloc: Global, texts: &mut Collected<String>, text: &str) -> Result<(), TableFault>
+    ensures put { OnOk result (IsUnion texts.old (text.now ∷ []) texts.new) }
+    ensures faults { IfErr result (λ e. e ≡ TableFault.NoMemory) }
+{
+    if texts.has(text) {
+        return Ok(());
+    }
+    texts.put(String::from_str(alloc, text)?)
+}
+
 // Takes the text that a clause demands, where it demands one.
 fn take_text(
     alloc: Global,
@@ -64,7 +75,7 @@ fn take_text(
 {
     texts.in_order();
     match clause.exact_text() {
-        Some(text) => texts.put(String::from_str(alloc, text)?),
+        Some(text) => put_text(alloc, texts, text),
         None => Ok(()),
     }
 }
@@ -91,7 +102,7 @@ fn take_url(alloc: Global, urls: &mut Collected<String>, url: &UrlText) -> Resul
     ensures valid { IsTrue (is_url_text url.now.text) }
     ensures faults { IfErr result (λ e. e ≡ TableFault.NoMemory) }
 {
-    urls.put(String::from_str(alloc, url.text())?)
+    put_text(alloc, urls, url.text())
 }
 
 // Whether one of the clauses demands a text.
@@ -129,6 +140,15 @@ impl Others {
             urls: Collected::new(alloc),
             texts: Collected::new(alloc),
         }
+    }
+
+    /// Does nothing. Its clause tells that nothing more is demanded by an entry without extras, URLs and texts.
+    pub(crate) fn in_order(&self)
+        ensures { JoinsOthers self.now bare_entry self.now }
+    {
+        self.extras.in_order();
+        self.urls.in_order();
+        self.texts.in_order();
     }
 
     // Takes the URL or the texts that a target demands.

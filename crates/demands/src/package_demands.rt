@@ -12,6 +12,7 @@ use crate::beside::KeptRanges;
 use crate::entry::Entry;
 use crate::fault::TableFault;
 use crate::kept_versions::KeptVersions;
+use crate::line_versions::LineVersions;
 use crate::others::{Others, demands_others};
 use crate::sorted::Sorted;
 use pep_clause::VersionSet;
@@ -90,6 +91,16 @@ fn join_others(
     Ok(())
 }
 
+// Does nothing. Its clause tells that these stay as they are where nothing more is demanded.
+fn in_order(others: &Option<Box<Others>>)
+    ensures { JoinsOthers (kept_others (option_map (λ b. b.value) others.now)) bare_entry
+        (kept_others (option_map (λ b. b.value) others.now)) }
+{
+    if let Some(kept) = others {
+        kept.in_order();
+    }
+}
+
 // The entry of these versions, and nothing else.
 fn entry_of(alloc: Global, versions: VersionSet) -> Entry
     ensures { result ≡ ranges_entry versions }
@@ -151,6 +162,25 @@ impl PackageDemands {
         let _ = entry.versions();
         join_others(alloc, &mut self.others, &entry)?;
         self.versions.meet(alloc, entry.into_versions())
+    }
+
+    /// Takes what demands these versions, and nothing else. The only fault is `NoMemory`, 42; what is gathered is then
+    /// of no more use: it may lack what it had.
+    pub fn take_versions(
+        &mut self,
+        alloc: Global,
+        versions: &LineVersions,
+    ) -> Result<(), TableFault>
+        ensures joined { OnOk result
+            (JoinsEntries self.old (ranges_entry versions.now) self.new) }
+        ensures valid { IsValidEntry (ranges_entry versions.now) }
+        ensures faults { IfErr result (λ e. e ≡ TableFault.NoMemory) }
+    {
+        // Where a field is read, the invariant is at hand.
+        let _ = &versions.bounds;
+        // Its clause tells that what else is demanded may stay as it is.
+        in_order(&self.others);
+        self.versions.meet_line(alloc, versions)
     }
 
     /// What is gathered, which has to be an entry, as for `entry`: places, where nothing else was kept. The only

@@ -24,6 +24,10 @@ pub trait Kept: Ord + Drop {
     fn as_text(&self) -> &str
         ensures { result.now ≡ text self.now };
 
+    /// Does nothing. Its clause tells that what holds of every value holds of this one.
+    fn as_value(&self)
+        ensures { is_value self.now };
+
     /// An equal value in storage of its own. The only fault is `NoMemory`, 42.
     fn kept(&self, alloc: Global) -> Result<Self, TableFault>
         ensures same { IfOk result (λ r. text r ≡ text self.now) }
@@ -48,6 +52,10 @@ impl Kept for Name {
         self.text()
     }
 
+    fn as_value(&self) {
+        let _ = self.text();
+    }
+
     fn kept(&self, alloc: Global) -> Result<Name, TableFault> {
         match self.copied(alloc) {
             Ok(name) => Ok(name),
@@ -66,6 +74,8 @@ impl Kept for String {
     fn as_text(&self) -> &str {
         self.as_str()
     }
+
+    fn as_value(&self) {}
 
     fn kept(&self, alloc: Global) -> Result<String, TableFault> {
         Ok(String::from_str(alloc, self.as_str())?)

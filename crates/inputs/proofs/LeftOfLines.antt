@@ -8,9 +8,12 @@ use Rattle.pep_marker.specs.Judged.{RefusesText, TextSays}
 use Rattle.pep_marker.specs.Marker.{MarkerParts, NoMarker}
 use Rattle.pep_marker.specs.declared.fault.MarkerFault.{MarkerFault}
 use Rattle.pep_marker.specs.declared.fault.MarkerFault.TheVariants as marker_fault
-use Rattle.pep_require.specs.LineParts.{ReadsFront, RefusesEnding, with_marker}
+use Rattle.pep_require.specs.Faults.{beginning_fault}
+use Rattle.pep_require.specs.LineParts.{ReadsFront, RefusesEnding, RefusesLine, with_marker}
+use Rattle.pep_require.specs.LineParts.{bad_beginning, no_memory}
 use Rattle.pep_require.specs.Reads.{ReadsMarker, when}
 use Rattle.pep_require.specs.Requirement.{RequirementParts}
+use Rattle.pep_require.specs.declared.fault.RequireFault.{RequireFault}
 use Rattle.pep_require.specs.declared.fault.RequireFault.TheVariants as require
 use Rattle.demands.specs.Gathering.{TakesIf, TakesRequirement}
 use Rattle.demands.specs.Table.{TableParts}
@@ -56,6 +59,12 @@ left_refused e left text f is (inr (inr (inr deep, none))) =
     )))
 
 -- ---- the text of a line
+
+-- a line is refused as its beginning is
+pub start_refused : (text : List ℕ) (f : RequireFault) →
+    (f ≡ require.NoMemory) ⊎ (beginning_fault text ≡ Some f) → RefusesLine text f
+start_refused text f (inl memory) = no_memory memory
+start_refused text f (inr bad) = bad_beginning bad
 
 -- with another marker a requirement demands the same
 marked : (m : Option MarkerParts) (r : RequirementParts) (old new : TableParts) →

@@ -2,7 +2,6 @@
 -- other.
 use Rattle.std.proofs.Common.{◌≡◌, ◌≢◌, ℕ, ◌==◌, Bool, true, false, List, [], ◌∷◌, ◌++◌, length, ap, refl}
 use Rattle.std.proofs.Common.{sym, ◌∙◌, inl, inr, Option, Some, None, Result, Ok, arith}
-use Rattle.std.specs.Prelude.{All}
 use Rattle.std.proofs.lemmas.Bool.Decides.{nat_tests}
 use Rattle.std.proofs.lemmas.List.Elements.{All-weaker}
 use Rattle.texts.specs.Bytes.{is_separator}

@@ -8,11 +8,14 @@ ghost use Rattle.std.specs.Prelude.{
   All,
   IfErr,
   IfOk,
+  List,
   None,
   Some,
+  ℕ,
   map,
   option_copied,
 };
+ghost use Rattle.pep_require.specs.LineParts.{StartsLine};
 ghost use Rattle.pep_require.specs.Requirement.{HasUndefinedMarker};
 ghost use Rattle.pep_require.specs.View.{requirement_parts};
 ghost use Rattle.demands.specs.Table.{HasExactPoints, IsTable};
@@ -24,6 +27,8 @@ ghost use Rattle.inputs.specs.GatheredLines.{
 ghost use Rattle.inputs.specs.Gathered.{Gathered, IsAccepted};
 ghost use Rattle.inputs.specs.LeftOfLines.{LeftSays, RefusesLeft, judged_fault};
 ghost use Rattle.inputs.specs.Refusal.{IsUndefinedAt, RefusesInputs, no_memory};
+ghost use Rattle.clause_memory.specs.Behind.{DemandsBehind};
+ghost use Rattle.inputs.specs.TakenTexts.{GathersText, RefusesTextIn};
 ghost use Rattle.inputs.specs.Wanted.{
   TakesWanted,
   Wanted,
@@ -35,6 +40,7 @@ use crate::input::{Input, Kind};
 use crate::lines::{Taker, take_lines};
 use crate::project::project_requirements;
 use crate::table_file::table_in;
+use clause_memory::{Behind, ClauseMemory};
 use faults::{Cause, Fault, LineFault, Place, fault_in};
 use pep_marker::{Environment, JudgedMarkers, MarkerFault, Name};
 use pep_require::{RequireFault, Requirement, marker_text};
@@ -42,11 +48,12 @@ use pep_table::Gathering;
 use std::alloc::Global;
 
 // Takes each text as a requirement, whose demands count if it applies in the environment, and, where
-// one name alone is wanted, is on that. Markers are remembered.
+// one name alone is wanted, is on that. Markers are remembered, and clauses.
 #[derive(Drop)]
 pub(crate) struct DemandTaker<'a> {
     pub(crate) alloc: Global,
     pub(crate) markers: JudgedMarkers<'a>,
+    pub(crate) clauses: ClauseMemory,
     pub(crate) wanted: Option<&'a Name>,
 }
 
@@ -61,17 +68,11 @@ impl Taker for DemandTaker<'_> {
     ghost refuses = { λ j text fault. RefusesTextIn j.markers text fault };
 
     fn take(&mut self, gathering: Gathering, text: &str) -> Result<Gathering, LineFault> {
-        let front = Requirement::front(self.alloc, text)?;
-        let applies = self.is_applied(front.left)?;
-        if !applies {
-            return Ok(gathering);
-        }
-        if !self.wants(front.requirement.name()) {
-            return Ok(gathering);
-        }
-        match gathering.take(self.alloc, &front.requirement) {
-            Ok(new) => Ok(new),
-            Err(_) => Err(LineFault::Requirement(RequireFault::NoMemory)),
+        let start = Requirement::start(self.alloc, text)?;
+        let found = self.clauses.read(self.alloc, start.rest)?;
+        match found {
+            Some(behind) => self.take_known(gathering, start.name, behind),
+            None => self.take_whole(gathering, start.name, start.rest),
         }
     }
 }
@@ -92,6 +93,7 @@ impl<'a> DemandTaker<'a> {
             Ok(markers) => Ok(DemandTaker {
                 alloc,
                 markers,
+                clauses: ClauseMemory::new(alloc),
                 wanted,
             }),
             Err(_) => Err(Fault::no_memory()),
@@ -121,6 +123,61 @@ impl<'a> DemandTaker<'a> {
         match self.markers.judge(self.alloc, text) {
             Ok(truth) => Ok(truth),
             Err(fault) => Err(judged_fault(fault)),
+        }
+    }
+
+    // What is demanded so far and by a line with this name, behind which clauses stand that demand versions alone.
+    fn take_known(
+        &mut self,
+        gathering: Gathering,
+        name: Name,
+        behind: Behind,
+    ) -> Result<Gathering, LineFault>
+        ensures same { self.new ≡ self.old }
+        ensures ok { IfOk result (λ new. (line : List ℕ)
+            → DemandsBehind line name behind.entry.versions behind.entry.left.now
+            → GathersText self.old.markers (wanted_name self.old.wanted) line gathering new) }
+        ensures refused { IfErr result (λ fault. (line : List ℕ)
+            → DemandsBehind line name behind.entry.versions behind.entry.left.now
+            → RefusesTextIn self.old.markers line fault) }
+    {
+        let applies = self.is_applied(behind.left)?;
+        if !applies {
+            return Ok(gathering);
+        }
+        if !self.wants(&name) {
+            return Ok(gathering);
+        }
+        match gathering.take_versions(self.alloc, name, &behind.versions) {
+            Ok(new) => Ok(new),
+            Err(_) => Err(LineFault::Requirement(RequireFault::NoMemory)),
+        }
+    }
+
+    // What is demanded so far and by a line with this name, behind which this stands.
+    fn take_whole(
+        &mut self,
+        gathering: Gathering,
+        name: Name,
+        rest: &str,
+    ) -> Result<Gathering, LineFault>
+        ensures same { self.new ≡ self.old }
+        ensures ok { IfOk result (λ new. (line : List ℕ) → StartsLine line name rest.now
+            → GathersText self.old.markers (wanted_name self.old.wanted) line gathering new) }
+        ensures refused { IfErr result (λ fault. (line : List ℕ) → StartsLine line name rest.now
+            → RefusesTextIn self.old.markers line fault) }
+    {
+        let front = Requirement::front_behind(self.alloc, name, rest)?;
+        let applies = self.is_applied(front.left)?;
+        if !applies {
+            return Ok(gathering);
+        }
+        if !self.wants(front.requirement.name()) {
+            return Ok(gathering);
+        }
+        match gathering.take(self.alloc, &front.requirement) {
+            Ok(new) => Ok(new),
+            Err(_) => Err(LineFault::Requirement(RequireFault::NoMemory)),
         }
     }
 

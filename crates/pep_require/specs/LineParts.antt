@@ -199,6 +199,12 @@ pub data RefusesLine (x : List ℕ) (f : RequireFault) : Type 0 where
 
 -- ---- a line up to its marker
 
+-- the line begins with the name, and this stands behind it, without white space before it
+pub record StartsLine (x name rest : List ℕ) : Type 0 where
+  pub beginning : beginning_fault x ≡ None
+  pub named : name_of (name_run x) ≡ Some name
+  pub behind : rest ≡ after_name x
+
 abbrev pub with_marker : Option MarkerParts → RequirementParts → RequirementParts
 with_marker m r = record { name = r.name; extras = r.extras; target = r.target; marker = m }
 

@@ -14,16 +14,18 @@ ghost use Rattle.texts.specs.Runs.{begins, without_leading_blanks};
 
 use texts::blank_run;
 
-// The text without the white space in front.
-pub(crate) fn stripped(text: &str) -> &str
+/// The text without the white space in front (PEP 508, "Grammar"). Public for those alone who remember clauses by their
+/// texts.
+pub fn stripped(text: &str) -> &str
     ensures { result.now ≡ without_leading_blanks text.now }
 {
     let (_, rest) = text.split_at(blank_run(text.as_bytes()));
     rest
 }
 
-// What stands behind this ASCII character in front.
-pub(crate) fn behind(text: &str, character: char) -> Option<&str>
+/// What stands behind this ASCII character in front, where it stands there. Public for those alone who remember clauses
+/// by their texts.
+pub fn behind(text: &str, character: char) -> Option<&str>
     requires { character < 128 }
     ensures { MatchOption result (begins (λ b. b == character) text.now ≡ false)
         (λ behind. text.now ≡ character ∷ behind.now) }

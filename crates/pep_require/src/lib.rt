@@ -12,7 +12,9 @@ mod target;
 mod text;
 mod url_text;
 
+pub use crate::clauses::clause_at;
 pub use crate::fault::RequireFault;
-pub use crate::read::{Front, marker_text};
+pub use crate::front::{behind, stripped};
+pub use crate::read::{Front, Start, marker_text};
 pub use crate::requirement::{Requirement, Target};
 pub use crate::url_text::UrlText;

@@ -18,8 +18,8 @@ use std::alloc::Global;
 use texts::{LINE_LIMIT, name_run};
 
 impl Requirement {
-    ghost use Rattle.std.specs.Prelude.{IfErr, IfOk};
-    ghost use Rattle.pep_require.specs.LineParts.{ReadsFront, RefusesLine};
+    ghost use Rattle.std.specs.Prelude.{IfErr, IfOk, List, ℕ};
+    ghost use Rattle.pep_require.specs.LineParts.{ReadsFront, RefusesLine, StartsLine};
     ghost use Rattle.pep_require.specs.Reads.{Reads};
     ghost use Rattle.pep_require.specs.View.{requirement_parts};
 
@@ -47,21 +47,49 @@ impl Requirement {
         })
     }
 
-    /// Reads a requirement line up to its marker: the requirement without it, and what is left of the
-    /// line, which is nothing, or `;` and a marker, or else a fault of the line as
-    /// [`Requirement::read`] tells it. The refusals are among those of `read`.
+    // A requirement line up to its marker.
     #[inline(always)]
-    pub fn front<'a>(alloc: Global, line: &'a str) -> Result<Front<'a>, RequireFault>
+    fn front<'a>(alloc: Global, line: &'a str) -> Result<Front<'a>, RequireFault>
         ensures ok { IfOk result (λ front.
             ReadsFront line.now (requirement_parts front.requirement) front.left.now) }
         ensures refused { IfErr result (RefusesLine line.now) }
     {
-        let start = name_at(alloc, line)?;
-        let extras = extras_at(alloc, start.rest)?;
+        let start = Requirement::start(alloc, line)?;
+        Requirement::front_behind(alloc, start.name, start.rest)
+    }
+
+    /// Reads the name that a requirement line begins with (PEP 508, "Grammar"), for
+    /// [`Requirement::front_behind`]. The refusals are `LineTooLong`, 38, `OptionLine`, 37, and `BadName`, 31, in
+    /// this order, and want of memory, 40. Public for those alone who look first whether they know what stands
+    /// behind the name.
+    pub fn start<'a>(alloc: Global, line: &'a str) -> Result<Start<'a>, RequireFault>
+        ensures ok { IfOk result (λ start. StartsLine line.now start.name start.rest.now) }
+        ensures refused { IfErr result (λ e. (e ≡ RequireFault.NoMemory)
+            ⊎ (beginning_fault line.now ≡ Some e)) }
+    {
+        name_at(alloc, line)
+    }
+
+    /// Reads on behind the name of a requirement line, without white space before it, up to its marker (PEP 508,
+    /// "Grammar"): the requirement without it, and what is left of the line, which is nothing, or `;` and a marker,
+    /// or else a fault of the line as [`Requirement::read`] tells it. So it is for each line that begins with the
+    /// name and has this text behind it. The refusals are among those of `read`. Public for the crates above alone.
+    #[inline(always)]
+    pub fn front_behind<'a>(
+        alloc: Global,
+        name: Name,
+        rest: &'a str,
+    ) -> Result<Front<'a>, RequireFault>
+        ensures ok { IfOk result (λ front. (line : List ℕ) → StartsLine line name rest.now
+            → ReadsFront line (requirement_parts front.requirement) front.left.now) }
+        ensures refused { IfErr result (λ e. (line : List ℕ) → StartsLine line name rest.now
+            → RefusesLine line e) }
+    {
+        let extras = extras_at(alloc, rest)?;
         let target = target_at(alloc, stripped(extras.rest))?;
         Ok(Front {
             requirement: Requirement {
-                name: start.name,
+                name,
                 extras: extras.names,
                 target: target.target,
                 marker: None,
@@ -80,11 +108,13 @@ pub struct Front<'a> {
     pub left: &'a str,
 }
 
-// The name that a line begins with, and the text behind it.
+/// The name that a requirement line begins with, and what stands behind it.
 #[derive(Drop)]
-struct Start<'a> {
-    name: Name,
-    rest: &'a str,
+pub struct Start<'a> {
+    /// The name.
+    pub name: Name,
+    /// What stands behind the name, without white space before it.
+    pub rest: &'a str,
 }
 
 // The name at the front of a line, with the white space before and behind it.

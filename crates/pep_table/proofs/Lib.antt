@@ -11,6 +11,7 @@ pub mod MergeLaws
 pub mod SameDemands
 pub mod Members
 pub mod Taking
+pub mod TakenVersions
 pub mod EntryRanges
 pub mod CutTexts
 pub mod TableLines

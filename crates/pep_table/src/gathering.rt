@@ -1,9 +1,10 @@
 //! What requirements and tables demand, gathered one by one.
 
 ghost use Rattle.std.specs.Prelude.{◌≡◌, ◌⊎◌, ◌++◌, ◌∷◌, [], IfErr, IfOk, OnOk, string_bytes};
-ghost use Rattle.pep_require.specs.Requirement.{HasUndefinedMarker};
+ghost use Rattle.pep_require.specs.Requirement.{HasUndefinedMarker, RequirementParts};
 ghost use Rattle.pep_require.specs.View.{requirement_parts};
-ghost use Rattle.demands.specs.Gathering.{TakesApplying, TakesRequirement};
+ghost use Rattle.demands.specs.Finished.{ranges_entry};
+ghost use Rattle.demands.specs.Gathering.{DemandsVersions, TakesApplying, TakesRequirement};
 ghost use Rattle.demands.specs.Join.{JoinsTables};
 ghost use Rattle.demands.specs.Table.{IsValidEntry, IsValidTable};
 ghost use Rattle.demands.specs.declared.verdict.Verdict.{Verdict};
@@ -11,7 +12,7 @@ ghost use Rattle.pep_table.specs.TableText.{IsTableText, Shows, entry_text};
 
 use crate::table::Table;
 use crate::text::{header_of, push_bounded, push_entry, push_placed};
-use demands::{Entry, Finished, Kept, PackageDemands, TableFault};
+use demands::{Entry, Finished, Kept, LineVersions, PackageDemands, TableFault};
 use pep_marker::{Environment, MarkerFault, Name};
 use pep_require::Requirement;
 use std::alloc::Global;
@@ -138,6 +139,29 @@ impl Gathering {
         let place = self.entries.entry(name)?;
         let kept = place.or_insert(PackageDemands::bare());
         kept.join(alloc, entry)?;
+        Ok(self)
+    }
+
+    /// What is demanded so far, and of one package these versions: what a requirement of this name demands that
+    /// demands nothing else. The only fault is `NoMemory`, 42.
+    pub fn take_versions(
+        mut self,
+        alloc: Global,
+        name: Name,
+        versions: &LineVersions,
+    ) -> Result<Gathering, TableFault>
+        ensures joined { IfOk result (λ new.
+            JoinsTables self ((name, ranges_entry versions.now) ∷ []) new) }
+        ensures taken { IfOk result (λ new. (r : RequirementParts) → r.name ≡ name
+            → DemandsVersions r versions.now → TakesRequirement self r new) }
+        ensures faults { IfErr result (λ e. e ≡ TableFault.NoMemory) }
+    {
+        // Its clause tells that the name is in its normalized form.
+        let _ = name.text();
+        // One look finds the name's place, where it is there and where it is new.
+        let place = self.entries.entry(name)?;
+        let kept = place.or_insert(PackageDemands::bare());
+        kept.take_versions(alloc, versions)?;
         Ok(self)
     }
 

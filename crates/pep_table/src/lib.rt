@@ -11,4 +11,4 @@ mod verdict;
 
 pub use crate::gathering::Gathering;
 pub use crate::table::Table;
-pub use demands::{Answer, Entry, Join, Kept, Sorted, TableFault, Verdict, join_all};
+pub use demands::{Answer, Entry, Join, Kept, LineVersions, Sorted, TableFault, Verdict, join_all};

@@ -1,4 +1,4 @@
-use Rattle.std.proofs.Common.{◌+◌, rules, take, arith}
+use Rattle.std.proofs.Common.{◌+◌, refl, rules, take, arith}
 use Rattle.demands.proofs.KeptSets.{kept_next, next_taken, one_holds, union_none}
 use Rattle.demands.proofs.collected.Collected.put_all.Goals as goal
 
@@ -12,8 +12,7 @@ loop-value-preserved g c =
     let i = c.loop-value.value-index in
     let step = next_taken values i c.value-item.result c.value-item.is (search rules) in (
       kept_next g.T.Kept.text _ _ _ (take i values) (take (i + 1) values) c.value-item.result
-          (g.T.Kept.text c.in_ok-kept.field-0) c.loop-value.invariant.0 c.in_ok-put.ensures.put
-          c.in_ok-kept.ensures.same step,
+          (g.T.Kept.text c.value-item.result) c.loop-value.invariant.0 c.in_ok-put_copy.ensures.put refl step,
       one_holds g.T.Kept.is_value (take i values) (take (i + 1) values) c.value-item.result
-          c.loop-value.invariant.1 c.in_ok-kept.ensures.value step,
+          c.loop-value.invariant.1 c.in_ok-put_copy.ensures.value step,
     )

@@ -1,0 +1,72 @@
+-- Clauses that are found in a text, and what they demand.
+use Rattle.std.proofs.Common.{◌≡◌, ℕ, ◌==◌, Bool, true, length, List, [], ◌∷◌, ◌++◌, Option, Some, None, refl, sym}
+use Rattle.std.proofs.Common.{subst, ◌∙◌, append-nil}
+use Rattle.std.specs.Prelude.{IfSome}
+use Rattle.std.proofs.lemmas.List.Elements.{All-nil, All-push}
+use Rattle.specifiers.specs.Clause.{Clause, demanded_text}
+use Rattle.specifiers.specs.Valid.{IsValidClause}
+use Rattle.pep_clause.specs.OperatorTable.{set_of}
+use Rattle.pep_clause.specs.VersionSet.{Range, all_versions}
+use Rattle.pep_clause.proofs.LeastCut.{IsNormal-all_versions}
+use Rattle.texts.proofs.ListLemmas.{nothing_in}
+use Rattle.pep_require.specs.LineParts.{BoundFrom}
+use Rattle.pep_require.specs.Reads.{IsBound}
+use Rattle.pep_require.proofs.BoundPieces.{bound_read, bound_whole, found_piece}
+use Rattle.demands.specs.Join.{IsIntersection}
+use Rattle.demands.proofs.TakenClauses.{meets_more, meets_none, meets_one, text_of_none, texts_append}
+use Rattle.clause_memory.specs.Behind.{DemandThese, TakesClause}
+use Rattle.clause_memory.specs.Demand.{IsDemandOf, KnowsDemand, ReadsDemand, demanded_ranges}
+use Rattle.clause_memory.specs.declared.demand.Demand.{Demand}
+
+-- a clause that all of a text is
+pub whole_clause : (x rest : List ℕ) (c : Clause) (ranges : List Range) → BoundFrom x c rest → rest ≡ [] →
+    IsValidClause c → demanded_text c ≡ None → ranges ≡ set_of c → ReadsDemand x ranges
+whole_clause x rest c ranges found nothing valid none versions =
+    let piece = found_piece x c rest found in
+    let same : piece ≡ x =
+    sym (append-nil piece) ∙ (λ i. piece ++ sym nothing i) ∙ sym (bound_whole x c rest found) in
+    record {
+      clause = c;
+      read = subst (λ t. IsBound t c) same (bound_read x c rest found);
+      valid = valid;
+      no_text = none;
+      versions = versions;
+    }
+
+-- its versions are kept
+pub takes_demand : (x : List ℕ) (old ranges new : List Range) → ReadsDemand x ranges →
+    IsIntersection old ranges new → TakesClause x old new
+takes_demand x old ranges new d i = record {
+  clause = d.clause;
+  read = d.read;
+  valid = d.valid;
+  no_text = d.no_text;
+  versions = meets_one old new ranges d.clause d.versions i;
+}
+
+-- no clause demands all versions
+pub none_demand : DemandThese [] all_versions
+none_demand = record {
+  valid = All-nil IsValidClause;
+  texts = refl;
+  versions = meets_none all_versions IsNormal-all_versions;
+}
+
+-- one clause more
+pub more_demand : (cs : List Clause) (x : List ℕ) (old new : List Range) → DemandThese cs old →
+    (t : TakesClause x old new) → DemandThese (cs ++ t.clause ∷ []) new
+more_demand cs x old new d t =
+    let c = t.clause in
+    record {
+      valid = All-push IsValidClause cs c d.valid t.valid;
+      texts = texts_append cs (cs ++ c ∷ []) c refl
+          ∙ (λ i. d.texts i ++ text_of_none c t.no_text i);
+      versions = meets_more all_versions old new cs (cs ++ c ∷ []) c d.versions t.versions refl;
+    }
+
+pub demanded_here : (x rest : List ℕ) (c : Clause) (found : Option Demand) → BoundFrom x c rest → {b : Bool} →
+    b ≡ (length rest == 0) → b ≡ true → IsValidClause c → IfSome found (IsDemandOf c) →
+    KnowsDemand x found
+demanded_here x rest c None here tests empty valid h = tt
+demanded_here x rest c (Some d) here tests empty valid h =
+    whole_clause x rest c (demanded_ranges d) here (nothing_in rest (sym tests ∙ empty)) valid h.no_text h.versions

@@ -1,0 +1,13 @@
+use Rattle.std.proofs.Common.{subst}
+use Rattle.std.specs.Prelude.{IfSome}
+use Rattle.clause_memory.specs.Behind.{ClausesFrom}
+use Rattle.clause_memory.proofs.BehindLaws.{closed_clauses}
+use Rattle.clause_memory.proofs.memory.ClauseMemory.closed_at.Goals as goal
+
+pub returns-clause-read : goal.returns-clause-read
+returns-clause-read c =
+    let inside = c.in-Some.inside in
+    let found = subst (λ o. IfSome o (λ b. ClausesFrom c.args.text.now b.versions b.left.now)) c.in-Some.is
+    c.in_ok-found.ensures.read in
+    closed_clauses c.args.text.now inside.left.now c.in-Some-behind.left.now c.stripped.result.now inside.versions
+    found c.in-Some-behind.ensures c.stripped.ensures

@@ -1,0 +1,42 @@
+-- What a clause demands of versions, and texts that are such clauses.
+use Rattle.std.specs.Prelude.{◌≡◌, ℕ, List, Option, Some, None, IfSome, if◌then◌else◌, take}
+use Rattle.specifiers.specs.Clause.{Clause, demanded_text}
+use Rattle.specifiers.specs.Valid.{IsValidClause}
+use Rattle.pep_clause.specs.OperatorTable.{outside, range, set_of}
+use Rattle.pep_clause.specs.VersionSet.{Range}
+use Rattle.pep_require.specs.Reads.{IsBound}
+use Rattle.clause_memory.specs.declared.demand.Demand.{Demand}
+use Rattle.clause_memory.specs.declared.memory.Slot.{Slot}
+
+-- the ranges in which the versions lie
+abbrev pub demanded_ranges : Demand → List Range
+demanded_ranges d =
+    if d.outside then outside d.bounds.low d.bounds.high else range d.bounds.low d.bounds.high
+
+-- the clause demands this, and no text
+pub record IsDemandOf (c : Clause) (d : Demand) : Type 0 where
+  pub no_text : demanded_text c ≡ None
+  pub versions : demanded_ranges d ≡ set_of c
+
+-- the text is a clause, with white space round it, that demands the versions in these ranges, and no text
+pub record ReadsDemand (x : List ℕ) (ranges : List Range) : Type 0 where
+  pub clause : Clause
+  pub read : IsBound x clause
+  pub valid : IsValidClause clause
+  pub no_text : demanded_text clause ≡ None
+  pub versions : ranges ≡ set_of clause
+
+-- what is known of a text: what it demands, or nothing
+abbrev pub KnowsDemand : List ℕ → Option Demand → Type 0
+KnowsDemand x found = IfSome found (λ d. ReadsDemand x (demanded_ranges d))
+
+-- the text of a slot, and what is known of it
+abbrev pub slot_text : Slot → List ℕ
+slot_text slot = take slot.len slot.text
+
+abbrev pub slot_demand : Slot → Option Demand
+slot_demand slot =
+    if slot.is_known then Some (record { bounds = slot.bounds; outside = slot.outside }) else None
+
+abbrev pub IsRemembered : Slot → Type 0
+IsRemembered slot = KnowsDemand (slot_text slot) (slot_demand slot)

@@ -1,0 +1,51 @@
+// What one clause demands.
+
+ghost use Rattle.std.specs.Prelude.{◌≡◌, IfErr, IfOk, IfSome};
+ghost use Rattle.specifiers.specs.Valid.{IsValidClause};
+ghost use Rattle.clause_memory.specs.Demand.{IsDemandOf, KnowsDemand};
+
+use pep_clause::{Clause, Op};
+use pep_require::{RequireFault, clause_at};
+use places::Bounds;
+use std::alloc::Global;
+
+/// What a clause demands: a version between two places, or one outside of them.
+#[derive(Clone, Copy)]
+pub(crate) struct Demand {
+    pub(crate) bounds: Bounds,
+    pub(crate) outside: bool,
+}
+
+// What the clause demands, but for clauses that demand a text, and versions without places.
+fn demand_of(clause: &Clause) -> Option<Demand>
+    ensures demand { IfSome result (IsDemandOf clause.now) }
+    ensures valid { IsValidClause clause.now }
+{
+    if clause.op() == Op::Exact {
+        return None;
+    }
+    if let Some(bounds) = Bounds::of(clause) {
+        return Some(Demand {
+            bounds,
+            outside: false,
+        });
+    }
+    let bounds = Bounds::left_out(clause)?;
+    Some(Demand {
+        bounds,
+        outside: true,
+    })
+}
+
+/// What the clause demands that the text is, white space round it apart. `None` where it is no clause, or one that
+/// demands a text, or versions without places. The only fault is `NoMemory`.
+pub(crate) fn demand_in(alloc: Global, text: &str) -> Result<Option<Demand>, RequireFault>
+    ensures read { IfOk result (KnowsDemand text.now) }
+    ensures faults { IfErr result (λ e. e ≡ RequireFault.NoMemory) }
+{
+    match clause_at(alloc, text) {
+        Ok((clause, rest)) if rest.is_empty() => Ok(demand_of(&clause)),
+        Err(RequireFault::NoMemory) => Err(RequireFault::NoMemory),
+        _ => Ok(None),
+    }
+}
