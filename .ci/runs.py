@@ -86,8 +86,8 @@ def gathered():
 
 
 # More markers than twice the places in which texts of markers are remembered, none of which holds, and as many clauses, for
-# which the memory of clauses grows twice.
-MARKED = "".join(f"a<{number}; os_name=='{number}'\n" for number in range(600)) + "a>=1\n"
+# which the memory of clauses grows twice: with a suffix, since others aren't remembered.
+MARKED = "".join(f"a<{number}.post1; os_name=='{number}'\n" for number in range(600)) + "a>=1\n"
 
 MERGE = ["merge", "--env", "env.toml"]
 FIRST_LINES = FILES["first.table"]

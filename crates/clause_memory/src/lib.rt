@@ -4,6 +4,7 @@
 
 mod demand;
 mod memory;
+mod plain;
 mod reading;
 
 pub use crate::memory::ClauseMemory;

@@ -9,6 +9,7 @@ ghost use Rattle.clause_memory.specs.Demand.{
 };
 
 use crate::demand::{Demand, demand_in};
+use crate::plain::plain_demand;
 use pep_require::RequireFault;
 use places::{Bounds, Place};
 use std::alloc::Global;
@@ -174,6 +175,9 @@ impl ClauseMemory {
         ensures read { IfOk result (KnowsDemand text.now) }
         ensures faults { IfErr result (λ e. e ≡ RequireFault.NoMemory) }
     {
+        if let Some(found) = plain_demand(text.as_bytes()) {
+            return Ok(found);
+        }
         if text.len() > LONGEST {
             return demand_in(alloc, text);
         }

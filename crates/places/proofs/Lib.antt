@@ -3,3 +3,4 @@ pub mod PlacesRead
 pub mod RaisedReleases
 pub mod LeftOver
 pub mod Swept
+pub mod ReleaseBounds

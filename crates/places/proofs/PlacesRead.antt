@@ -10,6 +10,7 @@ use Rattle.texts.specs.Lists.{is_empty}
 use Rattle.pep_version.specs.Laws.{positive, with_first}
 use Rattle.pep_version.proofs.PlaceLemmas.{suffixed}
 use Rattle.pep_version.specs.Order.{place_of, pre_number, pre_number_of, short_release, stage, stage_of, with_suffixes, without_end_zeros}
+use Rattle.std.specs.List.{AllByRecursion}
 use Rattle.pep_version.specs.Version.{Fits, IsVersion, Version}
 use Rattle.pep_version.specs.declared.parts.Phase.{Phase}
 use Rattle.pep_version.specs.declared.parts.Phase.TheVariants.{Alpha, Beta, Rc}
@@ -17,7 +18,7 @@ use Rattle.pep_clause.specs.Cut.{Cut, IsCut, before, after, past, end, cut_cmp}
 use Rattle.pep_clause.proofs.PlaceCuts.{IsCut-least}
 use Rattle.pep_clause.proofs.Rows.{IsCut-before_place}
 use Rattle.pep_clause.specs.OperatorTable.{before_dev, before_place}
-use Rattle.places.specs.Place.{AreShortNumbers, HasPlace, IsPlace, IsShortRelease, IsShortSuffix, IsShortVersion, PlacesKeepOrder, cut_at, dev_at, dev_digit, digit_unit, end_word, four, four_word, front_of, last_digit, number_unit, place_word, post_at, post_digit, pre_at, release_at, release_word, release_word_at, stage_at, suffixed_word, version_at, word_before}
+use Rattle.places.specs.Place.{AreShortNumbers, HasPlace, IsPlace, IsShortRelease, IsShortSuffix, IsShortVersion, PlacesKeepOrder, cut_at, dev_at, dev_digit, digit_unit, end_word, four, four_word, front_of, last_digit, number_unit, place_word, post_at, post_digit, pre_at, release_alone, release_at, release_word, release_word_at, stage_at, suffixed_word, version_at, word_before}
 use Rattle.places.proofs.PlaceOrder.{AreDigits, places-order, version-below, version-digits}
 
 -- ---- digits
@@ -196,6 +197,31 @@ place-before v is h =
       spelled = subst IsCut (sym read) (IsCut-before_place v is);
       word = ap place_word read ∙ (λ i. suffixed_word (short-word v.release i) (stage v) (pre_number v) (post_digit v.post) (dev_digit v.dev));
     }
+
+short-fit : (r : List ℕ) → length r ≤ 4 → AreShortNumbers r → AllByRecursion Fits r
+short-fit [] few h = tt
+short-fit (a ∷ []) few h = (omega (arith, h.first), tt)
+short-fit (a ∷ b ∷ []) few h = (omega (arith, h.first), (omega (arith, h.second), tt))
+short-fit (a ∷ b ∷ c ∷ []) few h = (omega (arith, h.first), (omega (arith, h.second), (omega (arith, h.third), tt)))
+short-fit (a ∷ b ∷ c ∷ d ∷ []) few h =
+    (omega (arith, h.first), (omega (arith, h.second), (omega (arith, h.third), (omega (arith, h.fourth), tt))))
+short-fit (a ∷ b ∷ c ∷ d ∷ e ∷ rest) few h = absurd (omega (arith, few))
+
+-- a release that is short makes a version
+pub release-version : (r : List ℕ) (q d : Option ℕ) → 0 < length r →
+    IsShortVersion (with_suffixes (release_alone r) None q d) → IsVersion (with_suffixes (release_alone r) None q d)
+release-version r q d some h = record {
+  release = some;
+  label = tt;
+  numbers = record {
+    epoch = omega arith;
+    release = short-fit r h.release.few h.release.numbers;
+    pre = tt;
+    post = post_fits q h.suffix.post;
+    dev = dev_fits d h.suffix.dev;
+    label = tt;
+  };
+}
 
 pub place-end : IsPlace end_word
 place-end = record { short = tt; spelled = tt; word = refl }

@@ -1,13 +1,17 @@
 -- Which clauses have bounds of two places, by how their versions are written: a cut that is made of more than four numbers or of
--- a number that is too large is not looked at further, where it has a place too. Nothing else rests on this.
-use Rattle.std.specs.Prelude.{◌≡◌, ◌+◌, ◌<◌, ◌≤◌, ℕ, List, [], ◌∷◌, Option, Some, None, length, if◌then◌else◌}
+-- a number that is too large is not looked at further, where it has a place too. Nothing else rests on that. And whose places are
+-- told where a version is a release alone (`HoldsRelease`, `HoldsPrefix`).
+use Rattle.std.specs.Prelude.{◌≡◌, ◌+◌, ◌<◌, ◌≤◌, ℕ, List, [], ◌∷◌, Option, Some, None, Ok, length, if◌then◌else◌}
 use Rattle.pep_version.specs.Order.{with_suffixes}
 use Rattle.pep_version.specs.Version.{Version, is_pre_release}
 use Rattle.pep_version.specs.declared.parts.Phase.{Phase}
 use Rattle.specifiers.specs.Admits.{compatible_prefix}
-use Rattle.specifiers.specs.Clause.{Clause, Prefix, compatible, matching, matching_prefix, excluding, excluding_prefix, at_most, at_least, less_than, greater_than, demanded}
-use Rattle.pep_clause.specs.OperatorTable.{with_dev, with_post}
-use Rattle.places.specs.Place.{AreShortNumbers, IsShortRelease, IsShortVersion}
+use Rattle.specifiers.specs.Clause.{Clause, Prefix, compatible, matching, matching_prefix, excluding, excluding_prefix, at_most, at_least, less_than, greater_than, demanded, prefix_clause, version_clause}
+use Rattle.specifiers.specs.declared.op.Op.{Op}
+use Rattle.specifiers.specs.declared.op.Op.TheVariants as op
+use Rattle.pep_clause.specs.OperatorTable.{outside, range, set_of, with_dev, with_post}
+use Rattle.places.specs.Place.{AreShortNumbers, IsShortRelease, IsShortVersion, release_alone}
+use Rattle.places.specs.declared.bounds.Bounds.{Bounds}
 
 -- the version before which `<=` and `==` end
 abbrev pub next_version_at : Option ℕ → Option ℕ → Version → Version
@@ -67,3 +71,38 @@ LeavesOut (matching v) = ⊥
 LeavesOut (matching_prefix p) = ⊥
 LeavesOut (compatible v) = ⊥
 LeavesOut (demanded text) = ⊥
+
+-- ---- clauses whose version is a release alone
+
+-- what lies between the places, or with `!=` what lies outside of them, is what the clause admits
+abbrev pub IsBetween : Op → Bounds → Clause → Type 0
+IsBetween op.NotEqual b c = outside b.low b.high ≡ set_of c
+IsBetween _ b c = range b.low b.high ≡ set_of c
+
+-- the operator and this version make such a clause
+pub record HoldsRelease (o : Op) (r : List ℕ) (b : Bounds) : Type 0 where
+  pub clause : Clause
+  pub made : version_clause o (release_alone r) ≡ Ok clause
+  pub between : IsBetween o b clause
+
+-- the operator and this prefix make such a clause
+pub record HoldsPrefix (o : Op) (r : List ℕ) (b : Bounds) : Type 0 where
+  pub clause : Clause
+  pub made : prefix_clause o (record { epoch = 0; release = r }) ≡ Ok clause
+  pub between : IsBetween o b clause
+
+-- which operators and releases have bounds; `~=` wants two numbers
+abbrev pub ReleaseHasBounds : Op → List ℕ → Type 0
+ReleaseHasBounds op.Compatible r = (1 < length r) × HasBounds (compatible (release_alone r))
+ReleaseHasBounds op.Equal r = HasBounds (matching (release_alone r))
+ReleaseHasBounds op.NotEqual r = HasBounds (matching (release_alone r))
+ReleaseHasBounds op.AtMost r = HasBounds (at_most (release_alone r))
+ReleaseHasBounds op.AtLeast r = HasBounds (at_least (release_alone r))
+ReleaseHasBounds op.Less r = HasBounds (less_than (release_alone r))
+ReleaseHasBounds op.More r = ⊥
+ReleaseHasBounds op.Exact r = ⊥
+
+abbrev pub PrefixHasBounds : Op → List ℕ → Type 0
+PrefixHasBounds op.Equal r = HasBounds (matching_prefix (record { epoch = 0; release = r }))
+PrefixHasBounds op.NotEqual r = HasBounds (matching_prefix (record { epoch = 0; release = r }))
+PrefixHasBounds _ r = ⊥

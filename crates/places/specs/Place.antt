@@ -6,7 +6,7 @@ use Rattle.pep_version.specs.Order.{pre_number, pre_number_of, short_release, st
 use Rattle.pep_version.specs.Version.{Version}
 use Rattle.pep_version.specs.declared.parts.Phase.{Phase}
 use Rattle.pep_version.specs.declared.parts.Phase.TheVariants.{Alpha, Beta, Rc}
-use Rattle.pep_clause.specs.Cut.{Cut, IsCut, before, after, past, end, cut_cmp}
+use Rattle.pep_clause.specs.Cut.{Cut, IsCut, before, after, past, end, cut_cmp, final_version}
 
 -- ---- the number of a cut
 
@@ -85,6 +85,10 @@ pub record IsShortVersion (v : Version) : Type 0 where
   pub release : IsShortRelease v.epoch v.release
   pub suffix : IsShortSuffix v.pre v.post v.dev
   pub label : v.label ≡ []
+
+-- the version of epoch 0 that is this release and nothing more
+abbrev pub release_alone : List ℕ → Version
+release_alone r = final_version (record { epoch = 0; release = r })
 
 abbrev pub HasPlace : Cut → Type 0
 HasPlace (before v) = IsShortVersion v

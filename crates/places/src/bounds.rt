@@ -150,7 +150,7 @@ fn raised(release: &[u64]) -> Option<[u64; 4]>
 
 // The place directly after all versions whose epoch is this and whose release begins with these numbers (PEP 440,
 // "Version matching").
-fn prefix_end(epoch: u64, release: &[u64]) -> Option<Place>
+pub(crate) fn prefix_end(epoch: u64, release: &[u64]) -> Option<Place>
     ensures place { IfSome result (λ p. p ≡ prefix_end (record {
       epoch = epoch;
       release =
@@ -180,16 +180,33 @@ fn prefix_start(epoch: u64, release: &[u64]) -> Option<Place>
     Place::before_dev(four(release)?)
 }
 
+// `==` with a prefix of this epoch and release
+pub(crate) fn matching_prefix(epoch: u64, release: &[u64]) -> Option<Bounds>
+    requires { 0 < length release.now }
+    ensures low { IfSome result (λ b. b.low ≡ before_dev epoch release.now) }
+    ensures high { IfSome result (λ b. b.high ≡ prefix_end (record {
+      epoch = epoch;
+      release =
+          release.now;
+    })) }
+    ensures exactly { IsSome result ↔ HasBounds (matching_prefix (record {
+      epoch = epoch;
+      release =
+          release.now;
+    })) }
+{
+    let low = prefix_start(epoch, release)?;
+    let high = prefix_end(epoch, release)?;
+    Some(Bounds { low, high })
+}
+
 // `==` with a prefix
 fn with_prefix(prefix: &Version) -> Option<Bounds>
     ensures low { IfSome result (λ b. b.low ≡ before_prefix (prefix_of prefix.now)) }
     ensures high { IfSome result (λ b. b.high ≡ prefix_end (prefix_of prefix.now)) }
     ensures exactly { IsSome result ↔ HasBounds (matching_prefix (prefix_of prefix.now)) }
 {
-    let (epoch, release) = (prefix.epoch(), prefix.release());
-    let low = prefix_start(epoch, release)?;
-    let high = prefix_end(epoch, release)?;
-    Some(Bounds { low, high })
+    matching_prefix(prefix.epoch(), prefix.release())
 }
 
 // `~=`
@@ -215,7 +232,7 @@ fn matching(version: &Version) -> Option<Bounds>
 }
 
 // What lies under the place.
-fn under(high: Option<Place>) -> Option<Bounds>
+pub(crate) fn under(high: Option<Place>) -> Option<Bounds>
     ensures bounds { IfSome result (λ b. (b.low ≡ least) × (high ≡ Some b.high)) }
     ensures exactly { IsSome result ↔ IsSome high }
 {
@@ -227,7 +244,7 @@ fn under(high: Option<Place>) -> Option<Bounds>
 }
 
 // What doesn't lie under the place.
-fn from(low: Option<Place>) -> Option<Bounds>
+pub(crate) fn from(low: Option<Place>) -> Option<Bounds>
     ensures bounds { IfSome result (λ b. (low ≡ Some b.low) × (b.high ≡ end)) }
     ensures exactly { IsSome result ↔ IsSome low }
 {

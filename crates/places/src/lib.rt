@@ -8,6 +8,7 @@ mod left_out;
 mod place;
 mod place_ranges;
 mod read;
+mod release_bounds;
 mod word;
 
 pub use crate::bounds::Bounds;

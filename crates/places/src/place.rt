@@ -4,6 +4,9 @@ ghost use Rattle.std.specs.Prelude.{
   ◌≡◌,
   ◌++◌,
   ◌↔◌,
+  ◌<◌,
+  None,
+  length,
   refl,
   IfErr,
   IfOk,
@@ -26,7 +29,12 @@ ghost use Rattle.pep_clause.specs.Cut.{IsCut, cut_cmp, cut_text, end, least};
 ghost use Rattle.pep_clause.specs.Joined.{earlier, later};
 ghost use Rattle.pep_clause.specs.Laws.{cut_total};
 ghost use Rattle.pep_clause.specs.OperatorTable.{before_dev, before_place};
-ghost use Rattle.places.specs.Place.{AreShortNumbers, IsShortVersion, word_before};
+ghost use Rattle.places.specs.Place.{
+  AreShortNumbers,
+  IsShortVersion,
+  release_alone,
+  word_before,
+};
 ghost use Rattle.texts.specs.Lists.{is_empty};
 
 use crate::read::version_at;
@@ -90,6 +98,17 @@ fn word_before(
     suffixed(release, pre, post, dev)
 }
 
+// The same of the version of epoch 0 with this release and these suffixes, and nothing more.
+fn release_word_before(release: &[u64], post: Option<u64>, dev: Option<u64>) -> Option<u128>
+    ensures word { IfSome result (λ w.
+        w ≡ word_before (with_suffixes (release_alone release.now) None post dev)) }
+    ensures exactly { IsSome result
+        ↔ IsShortVersion (with_suffixes (release_alone release.now) None post dev) }
+{
+    let numbers = word_of(four(release)?)?;
+    suffixed(numbers, None, post, dev)
+}
+
 impl Place {
     /// The place of the cut under all versions.
     pub fn least() -> Place
@@ -123,6 +142,23 @@ impl Place {
         // Its clause tells that the parts make a version.
         let _ = version.release();
         let word = word_before(version, pre, post, dev)?;
+        Some(Place { word })
+    }
+
+    /// The place directly before the version of epoch 0 with this release and these suffixes, or `None` where its
+    /// numbers are too large or too many.
+    pub(crate) fn before_release(
+        release: &[u64],
+        post: Option<u64>,
+        dev: Option<u64>,
+    ) -> Option<Place>
+        requires { 0 < length release.now }
+        ensures place { IfSome result (λ p.
+            p ≡ before_place (with_suffixes (release_alone release.now) None post dev)) }
+        ensures exactly { IsSome result
+            ↔ IsShortVersion (with_suffixes (release_alone release.now) None post dev) }
+    {
+        let word = release_word_before(release, post, dev)?;
         Some(Place { word })
     }
 

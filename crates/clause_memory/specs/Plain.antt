@@ -1,0 +1,63 @@
+-- Clauses whose version is a release, as they are written.
+use Rattle.std.specs.Prelude.{◌≡◌, ◌≤◌, ℕ, ◌==◌, ◌||◌, Bool, true, false, List, [], ◌++◌, Ok, codes, take}
+use Rattle.std.specs.Char.{is_ascii_digit}
+use Rattle.std.specs.List.{AllByRecursion, list_all}
+use Rattle.pep_version.specs.Spelling.{NumberSpelling, ReleaseSpelling}
+use Rattle.pep_version.specs.Version.{Fits}
+use Rattle.specifiers.specs.Clause.{Clause, prefix_clause, version_clause}
+use Rattle.specifiers.specs.declared.op.Op.{Op}
+use Rattle.specifiers.specs.declared.op.Op.TheVariants as op
+use Rattle.pep_clause.specs.OperatorTable.{set_of}
+use Rattle.places.specs.Place.{release_alone}
+use Rattle.clause_memory.specs.Demand.{demanded_ranges}
+use Rattle.clause_memory.specs.declared.demand.Demand.{Demand}
+use Rattle.clause_memory.specs.declared.plain.Operand.{Operand}
+use Rattle.clause_memory.specs.declared.plain.Operand.TheVariants as operand
+use Rattle.clause_memory.specs.declared.plain.Release.{Release}
+
+-- the number stands in front of the text, and this behind it
+pub record NumberFrom (x : List ℕ) (n : ℕ) (rest : List ℕ) : Type 0 where
+  pub digits : List ℕ
+  pub whole : x ≡ digits ++ rest
+  pub spelled : NumberSpelling digits n
+  pub fits : Fits n
+
+-- a digit, or the dot between two numbers
+abbrev pub is_release_byte : ℕ → Bool
+is_release_byte b = is_ascii_digit b || b == 46
+
+abbrev pub star_text : Bool → List ℕ
+star_text true = codes ".*"
+star_text false = []
+
+-- the release stands in front of the text, `.*` behind it if it is starred, and this behind that
+pub record OperandFrom (x numbers : List ℕ) (starred : Bool) (rest : List ℕ) : Type 0 where
+  pub written : List ℕ
+  pub whole : x ≡ written ++ star_text starred ++ rest
+  pub bytes : list_all is_release_byte written ≡ true
+  pub spelled : ReleaseSpelling written numbers
+  pub fit : AllByRecursion Fits numbers
+
+abbrev pub numbers_of : Release → List ℕ
+numbers_of r = take r.count r.numbers
+
+-- what was read of the text, where it is a release
+abbrev pub ReadsOperand : List ℕ → Operand → Type 0
+ReadsOperand x (operand.Release r) = OperandFrom x (numbers_of r) r.starred r.rest.now × (r.count ≤ 4)
+ReadsOperand x _ = Unit {0}
+
+-- clauses with this operator leave versions out
+abbrev pub leaves_out : Op → Bool
+leaves_out op.NotEqual = true
+leaves_out _ = false
+
+-- the operator and the release make this clause, with `.*` behind it if it is starred
+abbrev pub MakesClause : Op → List ℕ → Bool → Clause → Type 0
+MakesClause o r true c = prefix_clause o (record { epoch = 0; release = r }) ≡ Ok c
+MakesClause o r false c = version_clause o (release_alone r) ≡ Ok c
+
+-- .. and it demands this
+pub record MakesDemand (o : Op) (r : List ℕ) (starred : Bool) (d : Demand) : Type 0 where
+  pub clause : Clause
+  pub made : MakesClause o r starred clause
+  pub versions : demanded_ranges d ≡ set_of clause

@@ -1,0 +1,157 @@
+//! Clauses whose version is a release, read at once: those of most lines.
+
+ghost use Rattle.std.specs.Prelude.{◌≡◌, ◌<◌, ◌∷◌, IfSome, length};
+ghost use Rattle.std.specs.List.{list_all};
+ghost use Rattle.texts.specs.Bytes.{is_blank_byte};
+ghost use Rattle.clause_memory.specs.Demand.{KnowsDemand};
+ghost use Rattle.clause_memory.specs.Plain.{MakesDemand, NumberFrom, ReadsOperand, leaves_out};
+
+use crate::demand::Demand;
+use pep_clause::Op;
+use places::Bounds;
+use texts::{is_blank_byte, without_leading_blanks};
+
+// How many numbers a release has at most of which there are places.
+const MOST_NUMBERS: usize = 4;
+
+// Numbers of places are smaller; one digit behind such a number still fits.
+const LARGE: u64 = 1 << 32;
+
+// A release, and what stands behind it.
+#[derive(Clone, Copy)]
+struct Release<'a> {
+    numbers: [u64; MOST_NUMBERS],
+    count: usize,
+    // Whether `.*` stands behind its numbers.
+    starred: bool,
+    rest: &'a [u8],
+}
+
+// What stands behind an operator.
+#[derive(Clone, Copy)]
+enum Operand<'a> {
+    Release(Release<'a>),
+    // A release of more numbers than places have.
+    Long,
+    Other,
+}
+
+// The number in front, and what stands behind it: `None` where no digit stands there, or a digit behind a number that
+// is large.
+fn number_in(text: &[u8]) -> Option<(u64, &[u8])>
+    ensures number { IfSome result (λ found. NumberFrom text.now found.0 found.1.now) }
+    ensures shorter { IfSome result (λ found. length found.1.now < length text.now) }
+{
+    let mut value: u64 = 0;
+    let mut rest = text;
+    while let Some((first, others)) = rest.split_first() {
+        if !first.is_ascii_digit() {
+            break;
+        }
+        if value >= LARGE {
+            return None;
+        }
+        value = value * 10 + u64::from(*first - b'0');
+        rest = others;
+    }
+    if rest.len() == text.len() {
+        return None;
+    }
+    Some((value, rest))
+}
+
+// What stands behind this byte in front, where it stands there.
+fn behind_byte(text: &[u8], byte: u8) -> Option<&[u8]>
+    ensures { IfSome result (λ others. text.now ≡ byte ∷ others.now) }
+{
+    match text.split_first() {
+        Some((first, others)) if *first == byte => Some(others),
+        _ => None,
+    }
+}
+
+// The release in front, with a `.*` that stands behind it.
+fn operand_at(text: &[u8]) -> Operand<'_>
+    ensures { ReadsOperand text.now result }
+{
+    let mut numbers = [0; MOST_NUMBERS];
+    let mut count = 0;
+    let mut left = text;
+    loop {
+        let Some((number, rest)) = number_in(left) else {
+            return Operand::Other;
+        };
+        if count == MOST_NUMBERS {
+            return Operand::Long;
+        }
+        numbers[count] = number;
+        count += 1;
+        let Some(others) = behind_byte(rest, b'.') else {
+            return Operand::Release(Release {
+                numbers,
+                count,
+                starred: false,
+                rest,
+            });
+        };
+        if let Some(rest) = behind_byte(others, b'*') {
+            return Operand::Release(Release {
+                numbers,
+                count,
+                starred: true,
+                rest,
+            });
+        }
+        left = others;
+    }
+}
+
+// Whether clauses with this operator leave versions out.
+fn leaves_out(operator: Op) -> bool
+    ensures { result ≡ leaves_out operator }
+{
+    match operator {
+        Op::NotEqual => true,
+        _ => false,
+    }
+}
+
+// What the clause of this operator and release demands, where it has places.
+fn release_demand(operator: Op, release: &[u64], starred: bool) -> Option<Demand>
+    ensures { IfSome result (MakesDemand operator release.now starred) }
+{
+    let outside = leaves_out(operator);
+    if starred {
+        let bounds = Bounds::of_prefix(operator, release)?;
+        return Some(Demand { bounds, outside });
+    }
+    let bounds = Bounds::of_release(operator, release)?;
+    Some(Demand { bounds, outside })
+}
+
+// Whether the text is white space alone.
+fn is_blank(text: &[u8]) -> bool
+    ensures { result ≡ list_all is_blank_byte text.now }
+{
+    text.iter().all(|b| is_blank_byte(*b))
+}
+
+/// What the clause demands that the text is, white space round it apart, where its version is a release (PEP 440,
+/// "Final releases"), perhaps with `.*` behind it. `Some(None)` where the clause has no places, or may be none, so that
+/// its line goes the whole way; `None` where nothing is told of the text.
+pub(crate) fn plain_demand(text: &[u8]) -> Option<Option<Demand>>
+    ensures { IfSome result (KnowsDemand text.now) }
+{
+    let text = without_leading_blanks(text);
+    let operator = Op::at_front(text)?;
+    let (_, operand) = text.split_at(operator.text().len());
+    match operand_at(without_leading_blanks(operand)) {
+        Operand::Release(release) if is_blank(release.rest) => Some(release_demand(
+            operator,
+            &release.numbers[..release.count],
+            release.starred,
+        )),
+        Operand::Long => Some(None),
+        _ => None,
+    }
+}
