@@ -85,8 +85,8 @@ def gathered():
     return table.encode()
 
 
-# More markers than twice the places in which texts of markers are remembered, none of which holds, and as many clauses, for
-# which the memory of clauses grows twice: with a suffix, since others aren't remembered.
+# Markers, none of which holds, for which the memory of markers grows twice, and as many clauses, for which that of clauses grows
+# twice: with a suffix, since others aren't remembered.
 MARKED = "".join(f"a<{number}.post1; os_name=='{number}'\n" for number in range(600)) + "a>=1\n"
 
 MERGE = ["merge", "--env", "env.toml"]
@@ -107,6 +107,11 @@ def of_files(words, lines):
 RUNS = [
     of_list(FIRST_LINES, b"flask>=2.0\nFlask<3\n"),
     of_list(b"a open\n  range before 1.5 to before 2.dev0\nb open\n  range before 1.0.1 to end\n", b"a<2\nb>=1.0.1\na>=1\nA>=1.5\n"),
+    # a name that doesn't lie in the value, written in two ways
+    of_list(
+        b"a-name-of-more-than-24-bytes open\n  extra another-name-of-more-than-24\n  range before 1 to before 2.dev0\n",
+        b"a-name-of-more-than-24-bytes>=1\nA_name.of-More-than-24-bytes[Another.name_of_more-than-24]<2\n",
+    ),
     # versions whose keys don't lie in the value
     of_list(
         b"c open\n  range before 1.2.3.4.5.6.7+x to after 1.2.3.4.5.6.7+x\n"

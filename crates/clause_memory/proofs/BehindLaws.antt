@@ -1,7 +1,9 @@
 -- The clauses behind a name, one after the other, and the line that has them there.
 use Rattle.std.proofs.Common.{◌≡◌, ℕ, ◌==◌, ◌<◌, Bool, true, false, List, [], ◌∷◌, ◌++◌, refl, sym, subst, ap, ◌∙◌}
-use Rattle.std.proofs.Common.{arith}
-use Rattle.std.proofs.Common.{append_assoc, length, take, drop, None, Option, inr}
+use Rattle.std.proofs.Common.{◌-◌, append_assoc, arith, length, length-append, take, drop, None, Some}
+use Rattle.std.proofs.Common.{Option, inr}
+use Rattle.std.specs.Prelude.{IfSome}
+use Rattle.std.proofs.Math.Seq.{drop-append_seam}
 use Rattle.std.specs.List.{prefix_len}
 use Rattle.std.proofs.lemmas.Bool.Decides.{nat_tests}
 use Rattle.std.proofs.lemmas.List.{take-append-drop}
@@ -21,11 +23,15 @@ use Rattle.pep_require.specs.LineParts.{bare_target, closed_target, is_target_by
 use Rattle.pep_require.specs.LineParts.{more_bounds, no_target}
 use Rattle.pep_require.specs.Reads.{IsBound, ReadsExtras, none}
 use Rattle.pep_require.specs.Requirement.{RequirementParts, bounds}
-use Rattle.pep_require.proofs.BlankLemmas.{no_leading, stripped_twice}
+use Rattle.pep_require.proofs.BlankLemmas.{leading, leading_whole, no_leading, stripped_twice}
 use Rattle.pep_require.proofs.BoundLaws.{bounds_stripped}
 use Rattle.pep_require.proofs.BoundPieces.{bound_found}
 use Rattle.pep_require.proofs.LineLaws.{ending_fault, line_read}
-use Rattle.clause_memory.specs.Behind.{ClausesFrom, DemandThese, DemandsBehind, TakesClause, TargetDemands, goes_on}
+use Rattle.demands.specs.Join.{IsIntersection}
+use Rattle.clause_memory.specs.Behind.{ClausesFrom, DemandThese, DemandsBehind, DemandsFront, TakesFront, TargetDemands}
+use Rattle.clause_memory.specs.Behind.{goes_on}
+use Rattle.clause_memory.specs.Demand.{KnowsDemand, ReadsDemand, demanded_ranges}
+use Rattle.clause_memory.specs.declared.demand.Demand.{Demand}
 use Rattle.clause_memory.proofs.Demands.{more_demand, none_demand}
 
 -- ---- where a clause ends
@@ -44,7 +50,7 @@ pub stop_bare : (rest : List ℕ) → begins goes_on rest ≡ false → without_
 stop_bare [] h = refl
 stop_bare (b ∷ rest) h = no_leading (b ∷ rest) (stop_no_blank b h)
 
-stop_off : (rest : List ℕ) → begins goes_on rest ≡ false → begins is_clause_byte rest ≡ false
+pub stop_off : (rest : List ℕ) → begins goes_on rest ≡ false → begins is_clause_byte rest ≡ false
 stop_off [] h = refl
 stop_off (b ∷ rest) h = stop_no_clause b h
 
@@ -53,12 +59,9 @@ pub record Cut (left : List ℕ) (c : Clause) (rest : List ℕ) : Type 0 where
   pub found : BoundFrom left c rest
   pub bare : without_leading_blanks rest ≡ rest
 
-pub clause_here : (left piece rest : List ℕ) (n : ℕ) (c : Clause) → n ≡ prefix_len goes_on left →
-    piece ≡ take n left → rest ≡ drop n left → IsBound piece c → Cut left c rest
-clause_here left piece rest n c count front back is =
-    let whole : piece ++ rest ≡ left = (λ i. front i ++ back i) ∙ take-append-drop n left in
-    let stops : begins goes_on rest ≡ false =
-    ap (begins goes_on) (back ∙ (λ i. drop (count i) left)) ∙ begins-rest goes_on left in
+pub front_bound : (left piece rest : List ℕ) (c : Clause) → piece ++ rest ≡ left → begins goes_on rest ≡ false →
+    IsBound piece c → Cut left c rest
+front_bound left piece rest c whole stops is =
     let bare = stop_bare rest stops in
     let off : begins is_clause_byte (without_leading_blanks rest) ≡ false =
     ap (begins is_clause_byte) bare ∙ stop_off rest stops in
@@ -67,6 +70,52 @@ clause_here left piece rest n c count front back is =
           (subst (λ t. BoundFrom t c (without_leading_blanks rest)) whole (bound_found piece rest c is off));
       bare = bare;
     }
+
+-- a text that is cut where a clause ends
+pub demand_here : (left piece rest : List ℕ) (n : ℕ) (ranges : List Range) → n ≡ prefix_len goes_on left →
+    piece ≡ take n left → rest ≡ drop n left → ReadsDemand piece ranges → DemandsFront left ranges rest
+demand_here left piece rest n ranges count front back d =
+    let whole : piece ++ rest ≡ left = (λ i. front i ++ back i) ∙ take-append-drop n left in
+    let stops : begins goes_on rest ≡ false =
+    ap (begins goes_on) (back ∙ (λ i. drop (count i) left)) ∙ begins-rest goes_on left in
+    let cut = front_bound left piece rest d.clause whole stops d.read in
+    record {
+      clause = d.clause;
+      found = cut.found;
+      bare = cut.bare;
+      valid = d.valid;
+      no_text = d.no_text;
+      versions = d.versions;
+    }
+
+pub found_here : (left piece rest : List ℕ) (n : ℕ) (found : Option Demand) → n ≡ prefix_len goes_on left →
+    piece ≡ take n left → rest ≡ drop n left → KnowsDemand piece found →
+    IfSome found (λ d. DemandsFront left (demanded_ranges d) rest)
+found_here left piece rest n None count front back h = tt
+found_here left piece rest n (Some d) count front back h =
+    demand_here left piece rest n (demanded_ranges d) count front back h
+
+-- what stands at the end of a text, cut off by its length
+pub left_is : (x front rest : List ℕ) → x ≡ front ++ rest → drop (length x - length rest) x ≡ rest
+left_is x front rest whole =
+    let long : length x - length rest ≡ length front = rw whole (omega (arith, length-append front rest)) in
+    ap (λ n. drop n x) long ∙ ap (drop (length front)) whole ∙ drop-append_seam front rest
+
+-- .. and so is what stands there behind white space
+pub end_stripped : (x last : List ℕ) → (front : List ℕ) × (x ≡ front ++ last) →
+    (front : List ℕ) × (x ≡ front ++ without_leading_blanks last)
+end_stripped x last (front, whole) = (
+  front ++ leading last,
+  whole ∙ ap (λ t. front ++ t) (leading_whole last)
+      ∙ sym (append_assoc front (leading last) (without_leading_blanks last)),
+)
+
+-- the versions of a clause that is found in front are kept
+pub front_taken : (x rest : List ℕ) (old new : List Range) (found : Option Demand) →
+    IfSome found (λ d. DemandsFront x (demanded_ranges d) rest) →
+    (d : Demand) × (found ≡ Some d) × IsIntersection old (demanded_ranges d) new → TakesFront x rest old new
+front_taken x rest old new found h (d, is, i) =
+    (demanded_ranges d, subst (λ o. IfSome o (λ d. DemandsFront x (demanded_ranges d) rest)) is h, i)
 
 -- ---- clause by clause
 
@@ -100,12 +149,11 @@ pub record SoFar (x left : List ℕ) (ranges : List Range) : Type 0 where
 pub none_yet : (x : List ℕ) → SoFar x x all_versions
 none_yet x = record { done = []; goes = λ closed cs rest h. h; demand = none_demand }
 
-pub one_more : (x left piece rest behind next : List ℕ) (old new : List Range) → SoFar x left old →
-    (t : TakesClause piece old new) → Cut left t.clause rest → rest ≡ 44 ∷ behind →
-    next ≡ without_leading_blanks behind → SoFar x next new
-one_more x left piece rest behind next old new so t cut comma stripped =
-    let c = t.clause in
-    let here : BoundFrom left c (44 ∷ behind) = subst (BoundFrom left c) comma cut.found in
+pub one_more : (x left rest behind next : List ℕ) (old new : List Range) → SoFar x left old →
+    TakesFront left rest old new → rest ≡ 44 ∷ behind → next ≡ without_leading_blanks behind → SoFar x next new
+one_more x left rest behind next old new so (ranges, f, i) comma stripped =
+    let c = f.clause in
+    let here : BoundFrom left c (44 ∷ behind) = subst (BoundFrom left c) comma f.found in
     record {
       done = so.done ++ c ∷ [];
       goes = λ closed cs end h.
@@ -113,17 +161,16 @@ one_more x left piece rest behind next old new so t cut comma stripped =
           bounds_stripped closed behind end cs (subst (λ t. BoundsFrom closed t cs end) stripped h) in
           subst (λ ds. BoundsFrom closed x ds end) (sym (append_assoc so.done (c ∷ []) cs))
           (so.goes closed (c ∷ cs) end (more_bounds here (ends_none closed behind end cs more) more));
-      demand = more_demand so.done piece old new so.demand t;
+      demand = more_demand so.done left rest old new ranges so.demand f i;
     }
 
-pub ends_here : (x left piece rest : List ℕ) (old new : List Range) → SoFar x left old →
-    (t : TakesClause piece old new) → Cut left t.clause rest → begins (λ b. b == 44) rest ≡ false →
-    ClausesFrom x new rest
-ends_here x left piece rest old new so t cut off = record {
-  clauses = so.done ++ t.clause ∷ [];
-  found = λ closed. so.goes closed (t.clause ∷ []) rest (last_bound cut.found off);
-  demand = more_demand so.done piece old new so.demand t;
-  bare = cut.bare;
+pub ends_here : (x left rest : List ℕ) (old new : List Range) → SoFar x left old → TakesFront left rest old new →
+    begins (λ b. b == 44) rest ≡ false → ClausesFrom x new rest
+ends_here x left rest old new so (ranges, f, i) off = record {
+  clauses = so.done ++ f.clause ∷ [];
+  found = λ closed. so.goes closed (f.clause ∷ []) rest (last_bound f.found off);
+  demand = more_demand so.done left rest old new ranges so.demand f i;
+  bare = f.bare;
 }
 
 -- ---- the target

@@ -14,7 +14,7 @@ use Rattle.pep_require.specs.Reads.{IsBound}
 use Rattle.pep_require.proofs.BoundPieces.{bound_read, bound_whole, found_piece}
 use Rattle.demands.specs.Join.{IsIntersection}
 use Rattle.demands.proofs.TakenClauses.{meets_more, meets_none, meets_one, text_of_none, texts_append}
-use Rattle.clause_memory.specs.Behind.{DemandThese, TakesClause}
+use Rattle.clause_memory.specs.Behind.{DemandThese, DemandsFront}
 use Rattle.clause_memory.specs.Demand.{IsDemandOf, KnowsDemand, ReadsDemand, demanded_ranges}
 use Rattle.clause_memory.specs.declared.demand.Demand.{Demand}
 
@@ -33,17 +33,6 @@ whole_clause x rest c ranges found nothing valid none versions =
       versions = versions;
     }
 
--- its versions are kept
-pub takes_demand : (x : List ℕ) (old ranges new : List Range) → ReadsDemand x ranges →
-    IsIntersection old ranges new → TakesClause x old new
-takes_demand x old ranges new d i = record {
-  clause = d.clause;
-  read = d.read;
-  valid = d.valid;
-  no_text = d.no_text;
-  versions = meets_one old new ranges d.clause d.versions i;
-}
-
 -- no clause demands all versions
 pub none_demand : DemandThese [] all_versions
 none_demand = record {
@@ -53,15 +42,16 @@ none_demand = record {
 }
 
 -- one clause more
-pub more_demand : (cs : List Clause) (x : List ℕ) (old new : List Range) → DemandThese cs old →
-    (t : TakesClause x old new) → DemandThese (cs ++ t.clause ∷ []) new
-more_demand cs x old new d t =
-    let c = t.clause in
+pub more_demand : (cs : List Clause) (x rest : List ℕ) (old new ranges : List Range) → DemandThese cs old →
+    (f : DemandsFront x ranges rest) → IsIntersection old ranges new → DemandThese (cs ++ f.clause ∷ []) new
+more_demand cs x rest old new ranges d f i =
+    let c = f.clause in
     record {
-      valid = All-push IsValidClause cs c d.valid t.valid;
+      valid = All-push IsValidClause cs c d.valid f.valid;
       texts = texts_append cs (cs ++ c ∷ []) c refl
-          ∙ (λ i. d.texts i ++ text_of_none c t.no_text i);
-      versions = meets_more all_versions old new cs (cs ++ c ∷ []) c d.versions t.versions refl;
+          ∙ (λ i. d.texts i ++ text_of_none c f.no_text i);
+      versions = meets_more all_versions old new cs (cs ++ c ∷ []) c d.versions
+          (meets_one old new ranges c f.versions i) refl;
     }
 
 pub demanded_here : (x rest : List ℕ) (c : Clause) (found : Option Demand) → BoundFrom x c rest → {b : Bool} →

@@ -13,8 +13,8 @@ use Rattle.std.specs.List.{AllByRecursion, ends_with, list_all, onto_first}
 use Rattle.std.specs.Prelude.{nat_eq}
 use Rattle.std.specs.Str.{str_to_ascii_lowercase}
 use Rattle.std.specs.Str.Parse.{digits_value}
-use Rattle.texts.specs.Bytes.{is_blank_byte, is_clause_byte}
-use Rattle.texts.specs.Runs.{without_leading_blanks}
+use Rattle.texts.specs.Bytes.{is_clause_byte}
+use Rattle.texts.specs.Runs.{begins, without_leading_blanks}
 use Rattle.texts.proofs.Connectives.{and-false, and_first, and_second}
 use Rattle.texts.proofs.CutLists.{each_append}
 use Rattle.pep_version.specs.Spelling.{NumberSpelling, Reads, ReleaseSpelling, Spells, dotted_parts, is_number}
@@ -36,13 +36,16 @@ use Rattle.specifiers.proofs.Written.{clause-ink, ink-end, is_ink, written}
 use Rattle.specifiers.proofs.WrittenLemmas.{clause-valid}
 use Rattle.pep_clause.specs.OperatorTable.{set_of}
 use Rattle.pep_require.specs.LineParts.{after_operator}
+use Rattle.pep_require.specs.Reads.{IsBound}
 use Rattle.pep_require.proofs.BlankLemmas.{leading, leading_blank, leading_whole}
 use Rattle.places.specs.Bounds.{HoldsPrefix, HoldsRelease, IsBetween}
 use Rattle.places.specs.Place.{release_alone}
 use Rattle.places.specs.declared.bounds.Bounds.{Bounds}
-use Rattle.clause_memory.specs.Demand.{ReadsDemand, demanded_ranges}
+use Rattle.clause_memory.specs.Behind.{DemandsFront, goes_on}
+use Rattle.clause_memory.specs.Demand.{demanded_ranges}
 use Rattle.clause_memory.specs.Plain.{MakesClause, MakesDemand, NumberFrom, OperandFrom, is_release_byte, leaves_out, star_text}
 use Rattle.clause_memory.specs.declared.demand.Demand.{Demand}
+use Rattle.clause_memory.proofs.BehindLaws.{front_bound}
 
 -- ---- bytes
 
@@ -347,32 +350,53 @@ left_to_right : (a b d e f : List ℕ) → a ++ b ++ d ++ e ++ f ≡ a ++ (b ++ 
 left_to_right a b d e f =
     append_assoc (a ++ b ++ d) e f ∙ append_assoc (a ++ b) d (e ++ f) ∙ append_assoc a b (d ++ (e ++ f))
 
-pub plain_read : (x operand rest : List ℕ) (o : Op) (ns : List ℕ) (starred : Bool) (d : Demand) →
+-- what is behind a release is the end of the text
+pub release_end : (x operand after : List ℕ) (o : Op) (ns : List ℕ) (starred : Bool) →
     operator_of (without_leading_blanks x) ≡ Some o → operand ≡ after_operator o (without_leading_blanks x) →
-    OperandFrom operand ns starred rest → list_all is_blank_byte rest ≡ true → MakesDemand o ns starred d →
-    ReadsDemand x (demanded_ranges d)
-plain_read x operand rest o ns starred d found behind f blank m =
+    OperandFrom operand ns starred after → (front : List ℕ) × (x ≡ front ++ after)
+release_end x operand after o ns starred found behind f =
+    let run = f.written ++ star_text starred in
+    let tail = drop (length (operator_text o)) (without_leading_blanks x) in
+    let last : without_leading_blanks tail ≡ run ++ after = sym behind ∙ f.whole in (
+      leading x ++ operator_text o ++ leading tail ++ run,
+      leading_whole x ∙ ap (λ t. leading x ++ t)
+          (operator_shape (without_leading_blanks x) o found
+          ∙ ap (λ t. operator_text o ++ t) (leading_whole tail ∙ ap (λ t. leading tail ++ t) last))
+          ∙ sym (left_to_right (leading x) (operator_text o) (leading tail) run after),
+    )
+
+pub plain_read : (x operand after rest : List ℕ) (o : Op) (ns : List ℕ) (starred : Bool) (d : Demand) →
+    operator_of (without_leading_blanks x) ≡ Some o → operand ≡ after_operator o (without_leading_blanks x) →
+    OperandFrom operand ns starred after → rest ≡ without_leading_blanks after → begins goes_on rest ≡ false →
+    MakesDemand o ns starred d → DemandsFront x (demanded_ranges d) rest
+unfolding release_end
+plain_read x operand after rest o ns starred d found behind f stripped stops m =
     let c = m.clause in
     let run = f.written ++ star_text starred in
     let tail = drop (length (operator_text o)) (without_leading_blanks x) in
     let is = clause_read o f.written ns starred c f.bytes f.spelled f.fit m.made in
-    let last : without_leading_blanks tail ≡ run ++ rest = sym behind ∙ f.whole in
+    let front = leading x ++ operator_text o ++ leading tail ++ run in
+    let piece = front ++ leading after in
+    let all : x ≡ front ++ after = (release_end x operand after o ns starred found behind f).1 in
+    let cut : after ≡ leading after ++ rest = leading_whole after ∙ ap (λ t. leading after ++ t) (sym stripped) in
+    let whole : piece ++ rest ≡ x =
+    append_assoc front (leading after) rest ∙ ap (λ t. front ++ t) (sym cut) ∙ sym all in
+    let bound : IsBound piece c = record {
+      before = leading x;
+      operator = o;
+      between = leading tail;
+      run = run;
+      after = leading after;
+      whole = refl;
+      blanks = (leading_blank x, leading_blank tail, leading_blank after);
+      bytes = run_bytes f.written starred f.bytes;
+      clause = is;
+    } in
+    let here = front_bound x piece rest c whole stops bound in
     record {
       clause = c;
-      read = record {
-        before = leading x;
-        operator = o;
-        between = leading tail;
-        run = run;
-        after = rest;
-        whole = leading_whole x ∙ ap (λ t. leading x ++ t)
-            (operator_shape (without_leading_blanks x) o found
-            ∙ ap (λ t. operator_text o ++ t) (leading_whole tail ∙ ap (λ t. leading tail ++ t) last))
-            ∙ sym (left_to_right (leading x) (operator_text o) (leading tail) run rest);
-        blanks = (leading_blank x, leading_blank tail, blank);
-        bytes = run_bytes f.written starred f.bytes;
-        clause = is;
-      };
+      found = here.found;
+      bare = here.bare;
       valid = clause-valid (operator_text o ++ run) c is;
       no_text = no_text o ns starred c m.made;
       versions = m.versions;

@@ -1,13 +1,14 @@
 -- What stands behind the name of a line, where it is clauses that demand versions alone.
-use Rattle.std.specs.Prelude.{◌≡◌, ℕ, ◌==◌, ◌&&◌, Bool, false, not, List, [], ◌∷◌, None, All}
+use Rattle.std.specs.Prelude.{◌≡◌, ℕ, ◌==◌, ◌&&◌, Bool, false, not, List, [], None, All}
 use Rattle.specifiers.specs.Clause.{Clause, demanded_text}
 use Rattle.specifiers.specs.Valid.{IsValidClause}
+use Rattle.pep_clause.specs.OperatorTable.{set_of}
 use Rattle.pep_clause.specs.VersionSet.{Range, all_versions}
 use Rattle.texts.specs.Runs.{begins, without_leading_blanks}
-use Rattle.pep_require.specs.LineParts.{BoundsFrom, ReadsFront, TargetFrom, is_bracket}
-use Rattle.pep_require.specs.Reads.{IsBound}
+use Rattle.pep_require.specs.LineParts.{BoundFrom, BoundsFrom, ReadsFront, TargetFrom, is_bracket}
 use Rattle.pep_require.specs.Requirement.{RequirementParts, bounds}
 use Rattle.demands.specs.Gathering.{DemandsVersions, MeetsClauses, texts_of}
+use Rattle.demands.specs.Join.{IsIntersection}
 
 -- ---- what is promised
 
@@ -25,14 +26,19 @@ pub record DemandsBehind (line name : List ℕ) (ranges : List Range) (left : Li
 abbrev pub goes_on : ℕ → Bool
 goes_on b = not (b == 44) && not (b == 59) && not (b == 41)
 
--- the text is a clause with white space round it that demands no text, and of the old versions those are kept that it
--- admits
-pub record TakesClause (x : List ℕ) (old new : List Range) : Type 0 where
+-- a clause that demands the versions in these ranges, and no text, stands in front of the text, and this behind it
+pub record DemandsFront (x : List ℕ) (ranges : List Range) (rest : List ℕ) : Type 0 where
   pub clause : Clause
-  pub read : IsBound x clause
+  pub found : BoundFrom x clause rest
+  pub bare : without_leading_blanks rest ≡ rest
   pub valid : IsValidClause clause
   pub no_text : demanded_text clause ≡ None
-  pub versions : MeetsClauses old (clause ∷ []) new
+  pub versions : ranges ≡ set_of clause
+
+-- .. and of the old versions those are kept that it admits
+abbrev pub TakesFront : List ℕ → List ℕ → List Range → List Range → Type 0
+TakesFront x rest old new =
+    (ranges : List Range) × DemandsFront x ranges rest × IsIntersection old ranges new
 
 -- the clauses demand these versions, and no text
 pub record DemandThese (cs : List Clause) (ranges : List Range) : Type 0 where

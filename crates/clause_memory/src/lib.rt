@@ -1,5 +1,5 @@
-//! What stands behind the name of a requirement line, read by a memory of clauses by their texts: most lines are a name
-//! and clauses that were met before.
+//! What stands behind the name of a requirement line, without a requirement: most lines are a name and clauses whose
+//! version is a release, which is read number by number, and other clauses are remembered by their texts.
 #![tactic(auto)]
 
 mod demand;
@@ -8,4 +8,3 @@ mod plain;
 mod reading;
 
 pub use crate::memory::ClauseMemory;
-pub use crate::reading::Behind;

@@ -9,7 +9,6 @@ ghost use Rattle.clause_memory.specs.Demand.{
 };
 
 use crate::demand::{Demand, demand_in};
-use crate::plain::plain_demand;
 use pep_require::RequireFault;
 use places::{Bounds, Place};
 use std::alloc::Global;
@@ -110,8 +109,8 @@ impl Slot {
     }
 }
 
-/// Remembers clauses by their texts, with what they demand. Clauses see nothing of it: what is remembered saves time
-/// alone.
+/// Remembers clauses by their texts, with what they demand, but for those whose version is a release, which are read as
+/// fast as they are found. Contracts see nothing of it: what is remembered saves time alone.
 #[derive(Drop)]
 pub struct ClauseMemory {
     slots: Vec<Slot>,
@@ -175,9 +174,6 @@ impl ClauseMemory {
         ensures read { IfOk result (KnowsDemand text.now) }
         ensures faults { IfErr result (λ e. e ≡ RequireFault.NoMemory) }
     {
-        if let Some(found) = plain_demand(text.as_bytes()) {
-            return Ok(found);
-        }
         if text.len() > LONGEST {
             return demand_in(alloc, text);
         }

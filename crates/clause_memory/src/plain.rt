@@ -1,15 +1,16 @@
 //! Clauses whose version is a release, read at once: those of most lines.
 
-ghost use Rattle.std.specs.Prelude.{◌≡◌, ◌<◌, ◌∷◌, IfSome, length};
-ghost use Rattle.std.specs.List.{list_all};
-ghost use Rattle.texts.specs.Bytes.{is_blank_byte};
-ghost use Rattle.clause_memory.specs.Demand.{KnowsDemand};
+ghost use Rattle.std.specs.Prelude.{◌≡◌, ◌<◌, ◌≤◌, ◌++◌, ◌∷◌, IfSome, List, ℕ, false, length};
+ghost use Rattle.texts.specs.Runs.{begins, without_leading_blanks};
+ghost use Rattle.clause_memory.specs.Behind.{DemandsFront, goes_on};
+ghost use Rattle.clause_memory.specs.Demand.{demanded_ranges};
 ghost use Rattle.clause_memory.specs.Plain.{MakesDemand, NumberFrom, ReadsOperand, leaves_out};
 
 use crate::demand::Demand;
+use crate::reading::goes_on;
 use pep_clause::Op;
 use places::Bounds;
-use texts::{is_blank_byte, without_leading_blanks};
+use texts::without_leading_blanks;
 
 // How many numbers a release has at most of which there are places.
 const MOST_NUMBERS: usize = 4;
@@ -129,29 +130,50 @@ fn release_demand(operator: Op, release: &[u64], starred: bool) -> Option<Demand
     Some(Demand { bounds, outside })
 }
 
-// Whether the text is white space alone.
-fn is_blank(text: &[u8]) -> bool
-    ensures { result ≡ list_all is_blank_byte text.now }
+// Whether the text goes on with a byte that ends no clause.
+fn is_open(text: &[u8]) -> bool
+    ensures { result ≡ begins goes_on text.now }
 {
-    text.iter().all(|b| is_blank_byte(*b))
+    match text {
+        [first, ..] => goes_on(*first),
+        [] => false,
+    }
 }
 
-/// What the clause demands that the text is, white space round it apart, where its version is a release (PEP 440,
-/// "Final releases"), perhaps with `.*` behind it. `Some(None)` where the clause has no places, or may be none, so that
-/// its line goes the whole way; `None` where nothing is told of the text.
-pub(crate) fn plain_demand(text: &[u8]) -> Option<Option<Demand>>
-    ensures { IfSome result (KnowsDemand text.now) }
+// What is left of the text behind a clause, without white space before it, where `last` is what stands behind the
+// clause's release: `None` where that goes on with a byte that ends no clause.
+fn left_behind<'a>(text: &'a str, last: &[u8]) -> Option<&'a str>
+    requires { (front : List ℕ) × (text.now ≡ front ++ last.now) }
+    ensures left { IfSome result (λ rest. rest.now ≡ without_leading_blanks last.now) }
+    ensures ends { IfSome result (λ rest. begins goes_on rest.now ≡ false) }
+    ensures shorter { IfSome result (λ rest. length rest.now ≤ length text.now) }
 {
-    let text = without_leading_blanks(text);
-    let operator = Op::at_front(text)?;
-    let (_, operand) = text.split_at(operator.text().len());
+    let last = without_leading_blanks(last);
+    if is_open(last) {
+        return None;
+    }
+    let (_, rest) = text.split_at(text.len() - last.len());
+    Some(rest)
+}
+
+/// What the clause demands that stands in front of the text, where its version is a release (PEP 440, "Final
+/// releases"), perhaps with `.*` behind it, and what stands behind it. No demand where the clause has no places, or may
+/// be none, so that its line goes the whole way; `None` where nothing is told of the text.
+pub(crate) fn plain_demand(text: &str) -> Option<(Option<Demand>, &str)>
+    ensures demand { IfSome result (λ found. IfSome found.0 (λ demand.
+        DemandsFront text.now (demanded_ranges demand) found.1.now)) }
+    ensures shorter { IfSome result (λ found. length found.1.now ≤ length text.now) }
+{
+    let bytes = without_leading_blanks(text.as_bytes());
+    let operator = Op::at_front(bytes)?;
+    let (_, operand) = bytes.split_at(operator.text().len());
     match operand_at(without_leading_blanks(operand)) {
-        Operand::Release(release) if is_blank(release.rest) => Some(release_demand(
-            operator,
-            &release.numbers[..release.count],
-            release.starred,
-        )),
-        Operand::Long => Some(None),
-        _ => None,
+        Operand::Release(release) => {
+            let rest = left_behind(text, release.rest)?;
+            let numbers = &release.numbers[..release.count];
+            Some((release_demand(operator, numbers, release.starred), rest))
+        }
+        Operand::Long => Some((None, text)),
+        Operand::Other => None,
     }
 }

@@ -59,8 +59,9 @@ impl LineVersions {
         self.bounds.high = self.bounds.high.earlier(bounds.high);
     }
 
-    /// Keeps the versions that don't lie between the bounds, and says whether it could: not where some are left out
-    /// already, nor where the low place isn't below the high one; then nothing changes.
+    /// Keeps the versions that don't lie between the bounds, as a clause with `!=` demands (PEP 440, "Version
+    /// exclusion"), and says whether it could: not where some are left out already, nor where the low place isn't below
+    /// the high one; then nothing changes.
     pub fn leave_out(&mut self, bounds: Bounds) -> bool
         ensures taken { IsTrue result
             → IsIntersection self.old (outside bounds.low bounds.high) self.new }

@@ -40,11 +40,11 @@ use crate::input::{Input, Kind};
 use crate::lines::{Taker, take_lines};
 use crate::project::project_requirements;
 use crate::table_file::table_in;
-use clause_memory::{Behind, ClauseMemory};
+use clause_memory::ClauseMemory;
 use faults::{Cause, Fault, LineFault, Place, fault_in};
 use pep_marker::{Environment, JudgedMarkers, MarkerFault, Name};
 use pep_require::{RequireFault, Requirement, marker_text};
-use pep_table::Gathering;
+use pep_table::{Gathering, LineVersions};
 use std::alloc::Global;
 
 // Takes each text as a requirement, whose demands count if it applies in the environment, and, where
@@ -69,9 +69,10 @@ impl Taker for DemandTaker<'_> {
 
     fn take(&mut self, gathering: Gathering, text: &str) -> Result<Gathering, LineFault> {
         let start = Requirement::start(self.alloc, text)?;
-        let found = self.clauses.read(self.alloc, start.rest)?;
+        let mut versions = LineVersions::all();
+        let found = self.clauses.read(self.alloc, start.rest, &mut versions)?;
         match found {
-            Some(behind) => self.take_known(gathering, start.name, behind),
+            Some(left) => self.take_known(gathering, start.name, &versions, left),
             None => self.take_whole(gathering, start.name, start.rest),
         }
     }
@@ -126,29 +127,31 @@ impl<'a> DemandTaker<'a> {
         }
     }
 
-    // What is demanded so far and by a line with this name, behind which clauses stand that demand versions alone.
+    // What is demanded so far and by a line with this name, behind which clauses stand that demand these versions alone,
+    // and this is left.
     fn take_known(
         &mut self,
         gathering: Gathering,
         name: Name,
-        behind: Behind,
+        versions: &LineVersions,
+        left: &str,
     ) -> Result<Gathering, LineFault>
         ensures same { self.new ≡ self.old }
         ensures ok { IfOk result (λ new. (line : List ℕ)
-            → DemandsBehind line name behind.entry.versions behind.entry.left.now
+            → DemandsBehind line name versions.now left.now
             → GathersText self.old.markers (wanted_name self.old.wanted) line gathering new) }
         ensures refused { IfErr result (λ fault. (line : List ℕ)
-            → DemandsBehind line name behind.entry.versions behind.entry.left.now
+            → DemandsBehind line name versions.now left.now
             → RefusesTextIn self.old.markers line fault) }
     {
-        let applies = self.is_applied(behind.left)?;
+        let applies = self.is_applied(left)?;
         if !applies {
             return Ok(gathering);
         }
         if !self.wants(&name) {
             return Ok(gathering);
         }
-        match gathering.take_versions(self.alloc, name, &behind.versions) {
+        match gathering.take_versions(self.alloc, name, versions) {
             Ok(new) => Ok(new),
             Err(_) => Err(LineFault::Requirement(RequireFault::NoMemory)),
         }

@@ -1,4 +1,5 @@
 pub mod NormalNames
+pub mod NormalRuns
 pub mod NameHeadLemmas
 pub mod ChainLaws
 pub mod ChainLoops

@@ -1,5 +1,6 @@
 pub mod Name
 pub mod NameHead
+pub mod NameText
 pub mod Environment
 pub mod Pairs
 pub mod Slots

@@ -1,6 +1,6 @@
 //! A memory of the markers that were judged in an environment.
 
-ghost use Rattle.std.specs.Prelude.{◌≡◌, IfErr, IfOk, IfSome, Some};
+ghost use Rattle.std.specs.Prelude.{◌≡◌, All, IfErr, IfOk, IfSome, Some};
 ghost use Rattle.pep_marker.specs.Environment.{EnvironmentParts};
 ghost use Rattle.pep_marker.specs.Judged.{IsRemembered, RefusesText, TextSays};
 
@@ -10,8 +10,11 @@ use crate::marker::Marker;
 use std::alloc::Global;
 use std::marker::Model;
 
-// How many markers are remembered at once: a list has few that differ.
-const SLOTS: usize = 256;
+// How many markers are remembered at once: few at first, and four times as many where there were as many that were not
+// known.
+const FEWEST: usize = 64;
+
+const MOST: usize = 4_096;
 // How many bytes a text may have that is remembered.
 const LONGEST: usize = 256;
 
@@ -28,6 +31,21 @@ struct Slot {
 pub struct JudgedMarkers<'a> {
     environment: &'a Environment,
     slots: Vec<Option<Slot>>,
+    // How many texts were not known since the slots were made.
+    unknown: usize,
+}
+
+// Slots in which nothing is remembered.
+fn empty_slots(alloc: Global, count: usize) -> Result<Vec<Option<Slot>>, MarkerFault>
+    ensures empty { IfOk result (λ slots. (e : EnvironmentParts)
+        → All (IsRemembered e) slots.items) }
+    ensures faults { IfErr result (λ e. e ≡ MarkerFault.NoMemory) }
+{
+    let mut slots = Vec::with_capacity(alloc, count)?;
+    for _ in 0..count {
+        slots.push(None)?;
+    }
+    Ok(slots)
 }
 
 impl<'a> Model for JudgedMarkers<'a> {
@@ -51,11 +69,11 @@ impl<'a> JudgedMarkers<'a> {
         ensures environment { IfOk result (λ j. j ≡ environment.now) }
         ensures faults { IfErr result (λ e. e ≡ MarkerFault.NoMemory) }
     {
-        let mut slots = Vec::with_capacity(alloc, SLOTS)?;
-        for _ in 0..SLOTS {
-            slots.push(None)?;
-        }
-        Ok(JudgedMarkers { environment, slots })
+        Ok(JudgedMarkers {
+            environment,
+            slots: empty_slots(alloc, FEWEST)?,
+            unknown: 0,
+        })
     }
 
     /// The environment in which markers are judged.
@@ -79,26 +97,59 @@ impl<'a> JudgedMarkers<'a> {
         if text.len() > LONGEST {
             return truth_of(alloc, self.environment, text);
         }
-        let place = place_of(text);
-        if let Some(truth) = self.remembered(place, text) {
+        let sum = sum_of(text);
+        if let Some(truth) = self.remembered(sum, text) {
             return Ok(truth);
         }
         let truth = truth_of(alloc, self.environment, text)?;
+        self.remember(alloc, sum, text, truth)?;
+        Ok(truth)
+    }
+
+    // What is remembered of the text with this sum.
+    fn remembered(&self, sum: u32, text: &str) -> Option<bool>
+        ensures { IfSome result (λ b. TextSays self.now text.now (Some b)) }
+    {
+        match self.slots.get(place_of(sum, self.slots.len()))? {
+            Some(slot) if slot.text.as_str() == text => Some(slot.truth),
+            _ => None,
+        }
+    }
+
+    // Remembers the text with this sum, and whether it is true. The only fault is want of memory.
+    fn remember(
+        &mut self,
+        alloc: Global,
+        sum: u32,
+        text: &str,
+        truth: bool,
+    ) -> Result<(), MarkerFault>
+        requires { TextSays self.old text.now (Some truth) }
+        ensures environment { self.new ≡ self.old }
+        ensures faults { IfErr result (λ e. e ≡ MarkerFault.NoMemory) }
+    {
+        self.make_room(alloc)?;
+        self.unknown = self.unknown.saturating_add(1);
+        let place = place_of(sum, self.slots.len());
         let text = String::from_str(alloc, text)?;
         if let Some(slot) = self.slots.get_mut(place) {
             *slot = Some(Slot { text, truth });
         }
-        Ok(truth)
+        Ok(())
     }
 
-    // What is remembered of the text.
-    fn remembered(&self, place: usize, text: &str) -> Option<bool>
-        ensures { IfSome result (λ b. TextSays self.now text.now (Some b)) }
+    // More slots, where as many texts were not known as there are slots. What was remembered is dropped.
+    fn make_room(&mut self, alloc: Global) -> Result<(), MarkerFault>
+        ensures environment { self.new ≡ self.old }
+        ensures faults { IfErr result (λ e. e ≡ MarkerFault.NoMemory) }
     {
-        match self.slots.get(place)? {
-            Some(slot) if slot.text.as_str() == text => Some(slot.truth),
-            _ => None,
+        let count = self.slots.len();
+        if self.unknown < count || count == MOST {
+            return Ok(());
         }
+        self.slots = empty_slots(alloc, MOST.min(count.saturating_mul(4)))?;
+        self.unknown = 0;
+        Ok(())
     }
 }
 
@@ -111,11 +162,16 @@ fn truth_of(alloc: Global, environment: &Environment, text: &str) -> Result<bool
     marker.holds(alloc, environment)
 }
 
-// The slot of a text, by all its bytes: nothing but time rests on it.
-fn place_of(text: &str) -> usize {
+// A number of all bytes of a text: nothing but time rests on it.
+fn sum_of(text: &str) -> u32 {
     let mut sum: u32 = 2_166_136_261;
     for byte in text.as_bytes() {
         sum = (sum ^ u32::from(*byte)).wrapping_mul(16_777_619);
     }
-    sum as usize % SLOTS
+    sum ^ (sum >> 15)
+}
+
+// The slot of a text with this sum among so many, a power of two.
+fn place_of(sum: u32, count: usize) -> usize {
+    sum as usize & count.saturating_sub(1)
 }

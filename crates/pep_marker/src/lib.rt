@@ -11,6 +11,7 @@ mod judged;
 pub mod laws;
 mod marker;
 mod name;
+mod name_text;
 mod normal;
 mod slots;
 mod token;

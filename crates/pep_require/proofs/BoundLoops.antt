@@ -25,7 +25,7 @@ use Rattle.pep_require.specs.declared.fault.RequireFault.{RequireFault}
 use Rattle.pep_require.specs.declared.fault.RequireFault.TheVariants as fault
 use Rattle.pep_require.proofs.BlankLemmas.{stripped_twice}
 use Rattle.pep_require.proofs.BoundLaws.{bounds_stripped}
-use Rattle.pep_require.proofs.FrontLemmas.{boundary-run}
+use Rattle.texts.proofs.RunLemmas.{boundary-run}
 use Rattle.pep_require.proofs.BoundPieces.{bound_stripped, bound_whole, found_piece}
 
 -- ---- where a text is cut

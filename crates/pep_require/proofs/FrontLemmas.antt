@@ -7,20 +7,9 @@ use Rattle.std.specs.List.{prefix_len}
 use Rattle.std.specs.Str.{IsCharBoundary, IsUtf8}
 use Rattle.std.proofs.lemmas.Bool.Decides.{nat_tests}
 use Rattle.std.proofs.lemmas.List.Sums.{prefix_len-le-length}
-use Rattle.std.proofs.lemmas.Str.{IsCharBoundary-from_take, IsUtf8-from_ascii}
 use Rattle.texts.specs.Runs.{begins, without_leading_blanks}
 use Rattle.texts.specs.Bytes.{is_blank_byte}
-use Rattle.texts.specs.Bytes.{is_name_byte}
-use Rattle.pep_marker.proofs.NormalNames.{name_byte_small}
-use Rattle.texts.proofs.RunLemmas.{all-run, ascii-class, begins-rest}
-
--- a run of a class of ASCII bytes ends where a text may be cut
-pub boundary-run : (p : ℕ → Bool) → ((b : ℕ) → p b ≡ true → b < 128) → (x : List ℕ) → IsUtf8 x →
-    IsCharBoundary x (prefix_len p x)
-boundary-run p small x utf8 =
-    IsCharBoundary-from_take x (prefix_len p x) utf8 (prefix_len-le-length p x)
-    (IsUtf8-from_ascii (take (prefix_len p x) x)
-    (ascii-class p small (take (prefix_len p x) x) (all-run p x)))
+use Rattle.texts.proofs.RunLemmas.{begins-rest, boundary-run}
 
 -- behind the white space in front
 pub boundary-blanks : (x : List ℕ) → IsUtf8 x → IsCharBoundary x (prefix_len is_blank_byte x)
@@ -82,7 +71,3 @@ run_cut p {x = x} {n = n} stripped same count front left =
 pub fault_by : {A B C : Type 0} → A ⊎ B → (B → C) → A ⊎ C
 fault_by (inl h) f = inl h
 fault_by (inr h) f = inr (f h)
-
--- behind the run of a name
-pub boundary-name : (x : List ℕ) → IsUtf8 x → IsCharBoundary x (prefix_len is_name_byte x)
-boundary-name = boundary-run is_name_byte name_byte_small

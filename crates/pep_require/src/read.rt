@@ -15,7 +15,7 @@ use crate::requirement::Requirement;
 use crate::target::target_at;
 use pep_marker::{Marker, MarkerFault, Name};
 use std::alloc::Global;
-use texts::{LINE_LIMIT, name_run};
+use texts::LINE_LIMIT;
 
 impl Requirement {
     ghost use Rattle.std.specs.Prelude.{IfErr, IfOk, List, ℕ};
@@ -132,8 +132,7 @@ fn name_at<'a>(alloc: Global, line: &'a str) -> Result<Start<'a>, RequireFault>
     if behind(text, '-').is_some() {
         return Err(RequireFault::OptionLine);
     }
-    let (name, rest) = text.split_at(name_run(text.as_bytes()));
-    let name = Name::read(alloc, name)?;
+    let (name, rest) = Name::in_front(alloc, text)?;
     Ok(Start {
         name,
         rest: stripped(rest),

@@ -158,10 +158,13 @@ impl Gathering {
     {
         // Its clause tells that the name is in its normalized form.
         let _ = name.text();
-        // One look finds the name's place, where it is there and where it is new.
-        let place = self.entries.entry(name)?;
-        let kept = place.or_insert(PackageDemands::bare());
-        kept.take_versions(alloc, versions)?;
+        if let Some(kept) = self.entries.get_mut(&name) {
+            kept.take_versions(alloc, versions)?;
+            return Ok(self);
+        }
+        let mut gathered = PackageDemands::bare();
+        gathered.take_versions(alloc, versions)?;
+        self.entries.insert(name, gathered)?;
         Ok(self)
     }
 

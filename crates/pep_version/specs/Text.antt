@@ -54,6 +54,12 @@ normal_text v =
     epoch_text v.epoch ++ release_text v.release ++ pre_text v.pre ++ post_text v.post
     ++ dev_text v.dev ++ label_text v.label
 
+-- the version of epoch 0 with this release and these suffixes, and no local version label, where the release isn't empty
+-- ("Public version identifiers", of which it is one without an epoch)
+abbrev pub public_version : List ℕ → Option (Phase × ℕ) → Option ℕ → Option ℕ → Version
+public_version release pre post dev =
+    record { epoch = 0; release = release; pre = pre; post = post; dev = dev; label = [] }
+
 -- a byte of a normal text: a letter in lower case, a digit, `.`, `+` or `!`
 abbrev pub is_text_byte : ℕ → Bool
 is_text_byte b = is_word_byte b || b == 46 || b == 43 || b == 33

@@ -18,9 +18,11 @@ ghost use Rattle.pep_version.specs.Text.{
   KeepsFront,
   epoch_text,
   label_text,
+  normal_text,
   part_text,
   phase_text,
   pre_text,
+  public_version,
   release_text,
   segment_text,
 };
@@ -119,6 +121,28 @@ pub(crate) fn push_part(
         push_number(text, n)?;
     }
     Ok(())
+}
+
+/// Appends the normal text (PEP 440, "Normalization") of the version of epoch 0 with this release and these suffixes,
+/// and no local version label ("Public version identifiers"), as [`Version::push_text`](crate::Version::push_text)
+/// does; an empty release has no number to write, and makes no version. Public for those alone who have its numbers and
+/// no version. The only fault is `NoMemory`; a refusal leaves what stood in the text, with perhaps a part behind it.
+pub fn push_public(
+    text: &mut String,
+    release: &[u64],
+    pre: Option<(Phase, u64)>,
+    post: Option<u64>,
+    dev: Option<u64>,
+) -> Result<(), VersionFault>
+    ensures ok { OnOk result (string_bytes text.new ≡ string_bytes text.old
+        ++ normal_text (public_version release.now pre post dev)) }
+    ensures faults { IfErr result (λ e. e ≡ VersionFault.NoMemory) }
+    ensures kept { OnErr result (KeepsFront (string_bytes text.old) (string_bytes text.new)) }
+{
+    push_release(text, release)?;
+    push_pre(text, pre)?;
+    push_part(text, ".post", post)?;
+    push_part(text, ".dev", dev)
 }
 
 fn push_segment(text: &mut String, segment: &Label) -> Result<(), VersionFault>

@@ -37,7 +37,7 @@ ghost use Rattle.places.specs.Place.{
 };
 ghost use Rattle.texts.specs.Lists.{is_empty};
 
-use crate::read::version_at;
+use crate::read::{push_version_at, version_at};
 use crate::word::{four, suffixed, word_of};
 use pep_clause::{ClauseFault, Cut};
 use pep_version::{Phase, Version};
@@ -199,9 +199,7 @@ impl Place {
             return Ok(());
         }
         text.push_str("before ")?;
-        let version = version_at(*text.allocator(), self.word)?;
-        version.push_text(text)?;
-        Ok(())
+        push_version_at(text, self.word)
     }
 
     /// The later of two places.

@@ -1,6 +1,7 @@
 // The version before which the cut of a place stands, from its number.
 
-ghost use Rattle.std.specs.Prelude.{◌≡◌, ◌<◌, ◌≤◌, ◌^◌, ◌%◌, take, IfErr, IfOk};
+ghost use Rattle.std.specs.Prelude.{◌≡◌, ◌++◌, ◌<◌, ◌≤◌, ◌^◌, ◌%◌, take, IfErr, IfOk, OnErr, OnOk, string_bytes};
+ghost use Rattle.pep_version.specs.Text.{KeepsFront, normal_text, public_version};
 ghost use Rattle.pep_version.specs.Order.{short_release};
 ghost use Rattle.places.specs.Place.{
   dev_at,
@@ -13,7 +14,7 @@ ghost use Rattle.places.specs.Place.{
 
 use crate::word::{DIGIT, NUMBER};
 use pep_clause::ClauseFault;
-use pep_version::{Phase, Version};
+use pep_version::{Phase, Version, push_public};
 use std::alloc::Global;
 
 // The pre-release of a stage.
@@ -81,21 +82,67 @@ fn short_count(numbers: [u64; 4]) -> usize
     }
 }
 
-/// The version with the release and the suffixes of the word.
-pub(crate) fn version_at(alloc: Global, word: u128) -> Result<Version, ClauseFault>
-    ensures version { IfOk result (λ v. v ≡ version_at word) }
-    ensures faults { IfErr result (λ e. e ≡ ClauseFault.NoMemory) }
+// The numbers of the release and the suffixes of a word.
+#[derive(Clone, Copy)]
+struct Parts {
+    numbers: [u64; 4],
+    // How many of the numbers the release has.
+    count: usize,
+    pre: Option<(Phase, u64)>,
+    post: Option<u64>,
+    dev: Option<u64>,
+}
+
+fn parts_at(word: u128) -> Parts
+    ensures version { public_version (take result.count result.numbers) result.pre result.post
+        result.dev ≡ version_at word }
+    ensures some { 0 < result.count }
+    ensures most { result.count ≤ 4 }
 {
     let unit = DIGIT as u128;
     let behind_post = word / unit;
     let behind_pre = behind_post / unit;
     let behind_stage = behind_pre / unit;
-    let pre = pre_at(digit(behind_stage), digit(behind_pre));
-    let (post, dev) = (post_at(digit(behind_post)), dev_at(digit(word)));
     let numbers = numbers_at(behind_stage / unit);
-    let release = Vec::from_slice(alloc, &numbers[..short_count(numbers)])?;
-    match Version::of_parts(0, release, pre, post, dev, Vec::new(alloc)) {
+    Parts {
+        numbers,
+        count: short_count(numbers),
+        pre: pre_at(digit(behind_stage), digit(behind_pre)),
+        post: post_at(digit(behind_post)),
+        dev: dev_at(digit(word)),
+    }
+}
+
+/// The version with the release and the suffixes of the word. The only fault is `NoMemory`.
+pub(crate) fn version_at(alloc: Global, word: u128) -> Result<Version, ClauseFault>
+    ensures version { IfOk result (λ v. v ≡ version_at word) }
+    ensures faults { IfErr result (λ e. e ≡ ClauseFault.NoMemory) }
+{
+    let parts = parts_at(word);
+    let release = Vec::from_slice(alloc, &parts.numbers[..parts.count])?;
+    match Version::of_parts(
+        0,
+        release,
+        parts.pre,
+        parts.post,
+        parts.dev,
+        Vec::new(alloc),
+    ) {
         Some(version) => Ok(version),
         None => unreachable!(),
     }
+}
+
+/// Appends the normal text of the version with the release and the suffixes of the word. The only fault is `NoMemory`;
+/// a refusal leaves what stood in the text, with perhaps a part behind it.
+pub(crate) fn push_version_at(text: &mut String, word: u128) -> Result<(), ClauseFault>
+    ensures ok { OnOk result (string_bytes text.new ≡ string_bytes text.old
+        ++ normal_text (version_at word)) }
+    ensures faults { IfErr result (λ e. e ≡ ClauseFault.NoMemory) }
+    ensures kept { OnErr result (KeepsFront (string_bytes text.old) (string_bytes text.new)) }
+{
+    let parts = parts_at(word);
+    let release = &parts.numbers[..parts.count];
+    push_public(text, release, parts.pre, parts.post, parts.dev)?;
+    Ok(())
 }

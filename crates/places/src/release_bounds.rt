@@ -60,9 +60,10 @@ fn compatible(release: &[u64]) -> Option<Bounds>
 }
 
 impl Bounds {
-    /// What the clause of this operator and this release of epoch 0, with nothing behind it, admits, or with `!=` leaves
-    /// out, between two places (PEP 440, "Version specifiers"). `None` where [`Bounds::of`] and [`Bounds::left_out`]
-    /// have none, for `===`, for an empty release, and for `~=` and one number, which make no clause.
+    /// What the clause of this operator and this release of epoch 0, with nothing behind it, admits, or with `!=`
+    /// leaves out, between two places (PEP 440, "Version specifiers"). `None` where [`Bounds::of`] and
+    /// [`Bounds::left_out`] have none, for `===`, for an empty release, and for `~=` and one number, which make no
+    /// clause.
     pub fn of_release(operator: Op, release: &[u64]) -> Option<Bounds>
         ensures clause { IfSome result (HoldsRelease operator release.now) }
         ensures exactly { IsSome result

@@ -3,7 +3,9 @@ use Rattle.std.proofs.Common.{◌≡◌, ℕ, zero, suc, ◌+◌, ◌<◌, Bool,
 use Rattle.std.proofs.Common.{length, take, drop, refl, sym, ap, ◌∙◌, arith, lit<}
 use Rattle.std.proofs.Math.Seq.{take-append_seam, drop-append_seam}
 use Rattle.std.specs.List.{list_all, prefix_len}
-use Rattle.std.specs.Str.{IsAscii}
+use Rattle.std.specs.Str.{IsAscii, IsCharBoundary, IsUtf8}
+use Rattle.std.proofs.lemmas.List.Sums.{prefix_len-le-length}
+use Rattle.std.proofs.lemmas.Str.{IsCharBoundary-from_take, IsUtf8-from_ascii}
 use Rattle.texts.proofs.Connectives.{and_first, and_second, by_answer}
 use Rattle.texts.specs.Runs.{begins}
 
@@ -62,6 +64,14 @@ pub ascii-class : (p : ℕ → Bool) → ((b : ℕ) → p b ≡ true → b < 128
 ascii-class p small [] h i = lit< tt
 ascii-class p small (b ∷ x) h zero = small b (and_first (p b) (list_all p x) h)
 ascii-class p small (b ∷ x) h (suc i) = ascii-class p small x (and_second (p b) (list_all p x) h) i
+
+-- a run of a class of ASCII bytes ends where a text may be cut
+pub boundary-run : (p : ℕ → Bool) → ((b : ℕ) → p b ≡ true → b < 128) → (x : List ℕ) → IsUtf8 x →
+    IsCharBoundary x (prefix_len p x)
+boundary-run p small x utf8 =
+    IsCharBoundary-from_take x (prefix_len p x) utf8 (prefix_len-le-length p x)
+    (IsUtf8-from_ascii (take (prefix_len p x) x)
+    (ascii-class p small (take (prefix_len p x) x) (all-run p x)))
 
 -- what is behind a run does not begin with an element of the class
 pub begins-rest : (p : ℕ → Bool) (x : List ℕ) → begins p (drop (prefix_len p x) x) ≡ false

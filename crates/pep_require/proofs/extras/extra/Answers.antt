@@ -1,7 +1,8 @@
 use Rattle.std.proofs.Common.{Err, ap, inr, refl, sym, ◌∙◌}
 use Rattle.texts.specs.Bytes.{is_name_byte}
 use Rattle.pep_require.proofs.ExtrasLoops.{extra_here, more_behind, no_name_here}
-use Rattle.pep_require.proofs.FrontLemmas.{RunCut, boundary-name, run_cut}
+use Rattle.pep_marker.proofs.NormalNames.{boundary-name}
+use Rattle.pep_require.proofs.FrontLemmas.{RunCut, run_cut}
 use Rattle.pep_require.proofs.extras.extra.Goals as goal
 use Rattle.pep_require.proofs.extras.extra.Goals.{After-stripped}
 

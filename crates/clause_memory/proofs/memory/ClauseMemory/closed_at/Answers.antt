@@ -6,8 +6,8 @@ use Rattle.clause_memory.proofs.memory.ClauseMemory.closed_at.Goals as goal
 
 pub returns-clause-read : goal.returns-clause-read
 returns-clause-read c =
-    let inside = c.in-Some.inside in
-    let found = subst (λ o. IfSome o (λ b. ClausesFrom c.args.text.now b.versions b.left.now)) c.in-Some.is
-    c.in_ok-found.ensures.read in
-    closed_clauses c.args.text.now inside.left.now c.in-Some-behind.left.now c.stripped.result.now inside.versions
-    found c.in-Some-behind.ensures c.stripped.ensures
+    let x = c.args.text.now in
+    let versions = c.clauses_at.new.versions in
+    let found = subst (λ o. IfSome o (λ rest. ClausesFrom x versions rest.now)) c.in-Some.is c.in_ok-found.ensures.read in
+    closed_clauses x c.in-Some.rest.now c.in-Some-behind.left.now c.stripped.result.now versions found
+    c.in-Some-behind.ensures c.stripped.ensures

@@ -10,9 +10,10 @@ use Rattle.clause_memory.proofs.memory.ClauseMemory.read.Goals as goal
 pub returns-clause-read : goal.returns-clause-read
 returns-clause-read c =
     let x = c.args.text.now in
+    let versions = c.target_at.new.versions in
     IfOk-weaker c.target_at.result
-    (λ found. IfSome found (λ b. TargetDemands x b.versions b.left.now))
-    (λ found. IfSome found (λ b. (line name : List ℕ) → StartsLine line name x →
-    DemandsBehind line name b.versions b.left.now))
-    (λ found h. IfSome_then found h (λ b. demands_behind x b.left.now b.versions))
+    (λ found. IfSome found (λ left. TargetDemands x versions left.now))
+    (λ found. IfSome found (λ left. (line name : List ℕ) → StartsLine line name x →
+    DemandsBehind line name versions left.now))
+    (λ found h. IfSome_then found h (λ left. demands_behind x left.now versions))
     c.target_at.ensures.read

@@ -4,6 +4,7 @@ use Rattle.demands.specs.Table.{IsValidEntry, TableParts}
 use Rattle.std.proofs.lemmas.List.Elements.{All-head, All-tail}
 use Rattle.pep_table.proofs.PrintedEntries.{PrintsUpTo, all_printed, none_printed, one_printed}
 use Rattle.pep_table.proofs.gathering.Gathering.text.Goals as goal
+use Rattle.pep_table.proofs.gathering.Gathering.text.Goals.{In_ok-push_gathered}
 
 pub loop-name-init : goal.loop-name-init
 loop-name-init c =
@@ -23,8 +24,11 @@ push_gathered-requires c =
     All-head (λ p. IsValidEntry p.1) (c.in-Some.name, c.in-Some.gathered) more
     (subst (All (λ p. IsValidEntry p.1)) split c.loop-name.invariant.1)
 
-pub loop-name-preserved : goal.loop-name-preserved
-loop-name-preserved c =
+-- the lines of one name more are there
+one_more : (c : In_ok-push_gathered) →
+    PrintsUpTo c.args.environment.now c.args.self c.next.new.self (string_bytes c.push_gathered.new.text)
+    × All (λ p. IsValidEntry p.1) c.next.new.self
+one_more c =
     let left : TableParts = c.loop-name.name-iterator in
     let more : TableParts = c.next.new.self in
     let split : left ≡ (c.in-Some.name, c.in-Some.gathered) ∷ more = search rules in
@@ -35,6 +39,13 @@ loop-name-preserved c =
       All-tail (λ p. IsValidEntry p.1) (c.in-Some.name, c.in-Some.gathered) more
           (subst (All (λ p. IsValidEntry p.1)) split c.loop-name.invariant.1),
     )
+
+pub loop-name-preserved : goal.loop-name-preserved
+loop-name-preserved c = one_more (goal.at.loop-name-preserved c).In_ok-push_gathered
+
+pub loop-name-preserved-in_ok-push_gathered : goal.loop-name-preserved-in_ok-push_gathered
+loop-name-preserved-in_ok-push_gathered c =
+    one_more (goal.at.loop-name-preserved-in_ok-push_gathered c).In_ok-push_gathered
 
 pub returns-clause-text : goal.returns-clause-text
 returns-clause-text c =

@@ -1,6 +1,6 @@
 use Rattle.std.proofs.Common.{◌≡◌, ◌<◌, ◌-◌, ◌^◌, drop}
 use Rattle.pep_marker.specs.NameHead.{head_of, with_digits}
-use Rattle.pep_marker.proofs.name.head_of.Given as goal
+use Rattle.pep_marker.proofs.name.short_head.Given as goal
 
 abbrev pub invariant-loop-i : goal.invariant-loop-i
 invariant-loop-i l =

@@ -1,7 +1,7 @@
 use Rattle.std.proofs.Common.{◌≡◌, ◌∙◌, ◌<◌, ◌+◌, ◌-◌, ◌*◌, arith, rules, ap, get_or, drop}
 use Rattle.pep_marker.specs.NameHead.{with_digits}
 use Rattle.pep_marker.proofs.NameHeadLemmas.{head-below, head-room, head-step}
-use Rattle.pep_marker.proofs.name.head_of.Goals as goal
+use Rattle.pep_marker.proofs.name.short_head.Goals as goal
 
 pub overflow_mul-head : goal.overflow_mul-head
 overflow_mul-head c =

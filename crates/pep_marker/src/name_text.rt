@@ -1,0 +1,52 @@
+//! The texts of names.
+
+ghost use Rattle.std.specs.Prelude.{◌≡◌, IfErr, IfOk};
+ghost use Rattle.pep_marker.specs.NameText.{name_bytes};
+
+use crate::fault::MarkerFault;
+use arrayvec::ArrayString;
+use std::alloc::Global;
+
+// How many bytes a text has at most that lies in the value.
+const SHORT: usize = 24;
+
+/// The text of a name: in the value itself where it is short, as nearly all are, so that it asks for no memory.
+#[derive(Debug, Drop)]
+pub(crate) enum NameText {
+    Short(ArrayString<SHORT>),
+    Long(String),
+}
+
+impl NameText {
+    /// The text in a value of its own. The only fault is want of memory.
+    pub(crate) fn of(alloc: Global, text: &str) -> Result<NameText, MarkerFault>
+        ensures ok { IfOk result (λ t. name_bytes t ≡ text.now) }
+        ensures faults { IfErr result (λ e. e ≡ MarkerFault.NoMemory) }
+    {
+        match ArrayString::from(text) {
+            Ok(short) => Ok(NameText::Short(short)),
+            Err(_) => Ok(NameText::Long(String::from_str(alloc, text)?)),
+        }
+    }
+
+    /// The same text in another value. The only fault is want of memory.
+    pub(crate) fn copied(&self, alloc: Global) -> Result<NameText, MarkerFault>
+        ensures ok { IfOk result (λ t. name_bytes t ≡ name_bytes self.now) }
+        ensures faults { IfErr result (λ e. e ≡ MarkerFault.NoMemory) }
+    {
+        match self {
+            NameText::Short(text) => Ok(NameText::Short(*text)),
+            NameText::Long(text) => Ok(NameText::Long(String::from_str(alloc, text.as_str())?)),
+        }
+    }
+
+    /// The text.
+    pub(crate) fn as_str(&self) -> &str
+        ensures { result.now ≡ name_bytes self.now }
+    {
+        match self {
+            NameText::Short(text) => text.as_str(),
+            NameText::Long(text) => text.as_str(),
+        }
+    }
+}
