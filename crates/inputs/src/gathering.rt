@@ -127,8 +127,8 @@ impl<'a> DemandTaker<'a> {
         }
     }
 
-    // What is demanded so far and by a line with this name, behind which clauses stand that demand these versions alone,
-    // and this is left.
+    // What is demanded so far and by a line with this name, behind which clauses stand that demand these
+    // versions alone, and this is left.
     fn take_known(
         &mut self,
         gathering: Gathering,

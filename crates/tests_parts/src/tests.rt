@@ -5,6 +5,7 @@ mod codes;
 mod cuts;
 mod environments;
 mod large;
+mod laws;
 mod lines;
 mod markers;
 mod names;

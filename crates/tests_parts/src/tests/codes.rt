@@ -8,7 +8,6 @@ use pep_version::VersionFault;
 use std::alloc::{AllocError, Global};
 use std::fmt::Display;
 use std::process::Abort;
-use std::test::Fail;
 use tests_kit::REQUIRE_FAULTS;
 
 // Faults of versions, each with its code and its text.
@@ -81,7 +80,7 @@ fn expect_told(
 }
 
 #[test]
-fn versions(rt: HostRuntime) -> Result<(), Fail> {
+fn versions(rt: HostRuntime) -> Result<(), AllocError> {
     for &(fault, want) in &VERSION_FAULTS {
         expect_told(&rt, fault.code(), &fault, want)?;
     }
@@ -89,7 +88,7 @@ fn versions(rt: HostRuntime) -> Result<(), Fail> {
 }
 
 #[test]
-fn clauses(rt: HostRuntime) -> Result<(), Fail> {
+fn clauses(rt: HostRuntime) -> Result<(), AllocError> {
     for &(fault, want) in &CLAUSE_FAULTS {
         expect_told(&rt, fault.code(), &fault, want)?;
     }
@@ -97,7 +96,7 @@ fn clauses(rt: HostRuntime) -> Result<(), Fail> {
 }
 
 #[test]
-fn markers(rt: HostRuntime) -> Result<(), Fail> {
+fn markers(rt: HostRuntime) -> Result<(), AllocError> {
     for &(fault, want) in &MARKER_FAULTS {
         expect_told(&rt, fault.code(), &fault, want)?;
     }
@@ -111,15 +110,6 @@ fn require_line(alloc: Global, fault: RequireFault) -> Result<String, AllocError
         Some(inner) => format!(in alloc; "{code} {inner} {fault}"),
         None => format!(in alloc; "{code} {fault}"),
     }
-}
-
-#[test]
-fn requirements(rt: HostRuntime) -> Result<(), Fail> {
-    for &(fault, want) in &REQUIRE_FAULTS {
-        let line = require_line(rt.alloc(), fault)?;
-        expect_line(&rt, line.as_str(), want);
-    }
-    Ok(())
 }
 
 // The fault of a requirement line with this fault of a clause in it.
@@ -162,8 +152,8 @@ const INSIDE: [(RequireFault, &str); 3] = [
 ];
 
 #[test]
-fn texts_of_faults_inside(rt: HostRuntime) -> Result<(), Fail> {
-    for &(fault, want) in &INSIDE {
+fn faults_of_requirements(rt: HostRuntime) -> Result<(), AllocError> {
+    for &(fault, want) in REQUIRE_FAULTS.iter().chain(&INSIDE) {
         let line = require_line(rt.alloc(), fault)?;
         expect_line(&rt, line.as_str(), want);
     }

@@ -1,33 +1,27 @@
 //! Cuts in their order.
 
-use crate::tests::lines::{expect, expect_line, expect_row};
-use crate::tests::packed::{compare_cuts, cut_at, cut_has_copy};
-use pep_clause::{Clause, ClauseFault, Cut, Range, VersionSet};
+use crate::tests::lines::{expect, expect_each, expect_lines, expect_own};
+use crate::tests::packed::{CutLine, compare_cuts, cut_at, cut_has_copy};
+use crate::tests::sets::set;
+use pep_clause::{ClauseFault, Cut, Range, VersionSet};
 use pep_version::Version;
 use std::alloc::Global;
 use std::process::Abort;
-use std::test::Fail;
 
 fn before(alloc: Global, text: &str) -> Result<Cut, ClauseFault> {
     Cut::before(alloc, &Version::read(alloc, text)?)
 }
 
-fn set(alloc: Global, clause: &str) -> Result<VersionSet, ClauseFault> {
-    VersionSet::of(alloc, &Clause::read(alloc, clause)?)
-}
-
-// Where the ranges of a clause begin.
-fn push_lows(alloc: Global, cuts: &mut Vec<Cut>, clause: &str) -> Result<(), ClauseFault> {
+// Where the ranges of a clause begin, or where they end.
+fn push_ends(
+    alloc: Global,
+    cuts: &mut Vec<Cut>,
+    clause: &str,
+    are_lows: bool,
+) -> Result<(), ClauseFault> {
     for range in set(alloc, clause)?.ranges() {
-        cuts.push(range.low().copied(alloc)?)?;
-    }
-    Ok(())
-}
-
-// Where the ranges of a clause end.
-fn push_highs(alloc: Global, cuts: &mut Vec<Cut>, clause: &str) -> Result<(), ClauseFault> {
-    for range in set(alloc, clause)?.ranges() {
-        cuts.push(range.high().copied(alloc)?)?;
+        let end = if are_lows { range.low() } else { range.high() };
+        cuts.push(end.copied(alloc)?)?;
     }
     Ok(())
 }
@@ -44,9 +38,9 @@ fn cuts(alloc: Global) -> Result<Vec<Cut>, ClauseFault> {
     let mut cuts = Vec::new(alloc);
     cuts.push(Cut::least(alloc)?)?;
     push_before(alloc, &mut cuts, &["0", "1.dev0", "1a1", "1", "1+x"])?;
-    push_highs(alloc, &mut cuts, "==1+x")?;
+    push_ends(alloc, &mut cuts, "==1+x", false)?;
     push_before(alloc, &mut cuts, &["1.post1"])?;
-    push_lows(alloc, &mut cuts, ">1")?;
+    push_ends(alloc, &mut cuts, ">1", true)?;
     push_before(alloc, &mut cuts, &["1.0.1"])?;
     cuts.push(Cut::end())?;
     Ok(cuts)
@@ -54,7 +48,7 @@ fn cuts(alloc: Global) -> Result<Vec<Cut>, ClauseFault> {
 
 // Each cut is below the next, and equal to itself alone.
 #[test]
-fn orders_cuts(rt: HostRuntime) -> Result<(), Fail> {
+fn orders_cuts(rt: HostRuntime) -> Result<(), ClauseFault> {
     let cuts = cuts(rt.alloc())?;
     assert!(rt; cuts.len() == 11);
     compare_cuts(&rt, cuts.as_slice());
@@ -70,7 +64,7 @@ fn is_read_back(alloc: Global, cut: &Cut) -> Result<bool, ClauseFault> {
 }
 
 #[test]
-fn copies_and_reads_cuts(rt: HostRuntime) -> Result<(), Fail> {
+fn copies_and_reads_cuts(rt: HostRuntime) -> Result<(), ClauseFault> {
     for cut in &cuts(rt.alloc())? {
         assert!(rt; cut_has_copy(rt.alloc(), cut)?);
         assert!(rt; is_read_back(rt.alloc(), cut)?);
@@ -85,7 +79,7 @@ fn is_one_cut(alloc: Global, one: &str, other: &str) -> Result<bool, ClauseFault
 }
 
 #[test]
-fn joins_equal_versions(rt: HostRuntime) -> Result<(), Fail> {
+fn joins_equal_versions(rt: HostRuntime) -> Result<(), ClauseFault> {
     assert!(rt; is_one_cut(rt.alloc(), "1", "1.0")?);
     Ok(())
 }
@@ -147,75 +141,54 @@ const OTHER_TEXTS: [&str; 38] = [
     "past 1+x",
 ];
 
-// The text of the cut that is read of a text.
-fn cut_line(alloc: Global, text: &str) -> Result<String, ClauseFault> {
-    match Cut::read(alloc, text)? {
-        Some(cut) => cut.text(alloc),
-        None => Ok(String::from_str(alloc, "no cut")?),
-    }
-}
-
 #[test]
-fn reads_cuts(rt: HostRuntime) -> Result<(), Fail> {
-    for text in &TEXTS {
-        let line = cut_line(rt.alloc(), text)?;
-        expect_line(&rt, line.as_str(), text);
-    }
-    for text in &OTHER_TEXTS {
-        let line = cut_line(rt.alloc(), text)?;
-        expect_row(&rt, text, line.as_str(), "no cut");
-    }
-    Ok(())
+fn reads_cuts(rt: HostRuntime) -> Result<(), ClauseFault> {
+    expect_own(&rt, &CutLine::Text, &TEXTS)?;
+    expect_each(&rt, &CutLine::Text, &OTHER_TEXTS, "no cut")?;
+    expect_lines(
+        &rt,
+        &CutLine::Pushed,
+        &[("before 1", "from before 1"), ("end", "from end")],
+    )
 }
 
 fn range(alloc: Global, low: &Cut, high: &Cut) -> Result<Option<Range>, ClauseFault> {
     Ok(Range::of(low.copied(alloc)?, high.copied(alloc)?))
 }
 
-// Whether the range has these ends.
-fn has_ends(range: &Range, low: &Cut, high: &Cut) -> &'static str {
-    if range.low() == low && range.high() == high {
-        "range"
-    } else {
-        "another range"
-    }
-}
-
-// Whether there is a range between two cuts, and it has their ends.
-fn range_word(alloc: Global, low: &Cut, high: &Cut) -> Result<&'static str, ClauseFault> {
+// Whether there is a range between two cuts exactly where one is wanted, and it has their ends.
+fn is_range(alloc: Global, low: &Cut, high: &Cut, is_wanted: bool) -> Result<bool, ClauseFault> {
     match range(alloc, low, high)? {
-        Some(range) => Ok(has_ends(&range, low, high)),
-        None => Ok("no range"),
+        Some(range) => Ok(is_wanted && range.low() == low && range.high() == high),
+        None => Ok(!is_wanted),
     }
 }
 
 fn expect_ranges(rt: &(impl Abort + AllocGlobal), cuts: &[Cut]) -> Result<(), ClauseFault> {
     for (i, low) in cuts.iter().enumerate() {
         for (j, high) in cuts.iter().enumerate() {
-            let wanted = if i < j { "range" } else { "no range" };
-            expect(rt, (i, j), range_word(rt.alloc(), low, high)? == wanted);
+            expect(rt, (i, j), is_range(rt.alloc(), low, high, i < j)?);
         }
     }
     Ok(())
 }
 
 #[test]
-fn ranges_of_cuts(rt: HostRuntime) -> Result<(), Fail> {
-    expect_ranges(&rt, cuts(rt.alloc())?.as_slice())?;
-    Ok(())
+fn ranges_of_cuts(rt: HostRuntime) -> Result<(), ClauseFault> {
+    expect_ranges(&rt, cuts(rt.alloc())?.as_slice())
 }
 
 // Pairs of places in the row of cuts, and whether their ranges are those of a set.
-const PAIRS: [(&[(usize, usize)], &str); 9] = [
-    (&[], "set"),
-    (&[(0, 10)], "set"),
-    (&[(0, 1), (2, 3)], "set"),
-    (&[(0, 1), (3, 5), (6, 7)], "set"),
-    (&[(0, 1), (1, 2)], "no set"),
-    (&[(0, 2), (1, 3)], "no set"),
-    (&[(2, 3), (0, 1)], "no set"),
-    (&[(0, 1), (0, 1)], "no set"),
-    (&[(0, 1), (2, 4), (3, 5)], "no set"),
+const PAIRS: [(&[(usize, usize)], bool); 9] = [
+    (&[], true),
+    (&[(0, 10)], true),
+    (&[(0, 1), (2, 3)], true),
+    (&[(0, 1), (3, 5), (6, 7)], true),
+    (&[(0, 1), (1, 2)], false),
+    (&[(0, 2), (1, 3)], false),
+    (&[(2, 3), (0, 1)], false),
+    (&[(0, 1), (0, 1)], false),
+    (&[(0, 1), (2, 4), (3, 5)], false),
 ];
 
 // The ranges between the cuts at these places.
@@ -232,49 +205,26 @@ fn ranges_at(
     Ok(ranges)
 }
 
-// Whether the set has these ranges.
-fn has_ranges(set: &VersionSet, ranges: &[Range]) -> &'static str {
-    if set.ranges() == ranges {
-        "set"
-    } else {
-        "another set"
-    }
-}
-
-// Whether the ranges are those of a set, and the set has them.
-fn set_word(
+// Whether the ranges are those of a set exactly where one is wanted, and the set has them.
+fn is_set(
     alloc: Global,
     cuts: &[Cut],
     pairs: &[(usize, usize)],
-) -> Result<&'static str, ClauseFault> {
+    is_wanted: bool,
+) -> Result<bool, ClauseFault> {
     let ranges = ranges_at(alloc, cuts, pairs)?;
     match VersionSet::of_ranges(ranges_at(alloc, cuts, pairs)?) {
-        Some(set) => Ok(has_ranges(&set, ranges.as_slice())),
-        None => Ok("no set"),
+        Some(set) => Ok(is_wanted && set.ranges() == ranges.as_slice()),
+        None => Ok(!is_wanted),
     }
 }
 
 #[test]
-fn sets_of_ranges(rt: HostRuntime) -> Result<(), Fail> {
+fn sets_of_ranges(rt: HostRuntime) -> Result<(), ClauseFault> {
     let cuts = cuts(rt.alloc())?;
-    for &(pairs, want) in &PAIRS {
-        let word = set_word(rt.alloc(), cuts.as_slice(), pairs)?;
-        expect(&rt, pairs, word == want);
+    for &(pairs, is_wanted) in &PAIRS {
+        let holds = is_set(rt.alloc(), cuts.as_slice(), pairs, is_wanted)?;
+        expect(&rt, pairs, holds);
     }
-    Ok(())
-}
-
-fn appended(alloc: Global) -> Result<String, ClauseFault> {
-    let mut text = String::from_str(alloc, "from ")?;
-    before(alloc, "1.0")?.push_text(&mut text)?;
-    text.push_str(" to ")?;
-    Cut::end().push_text(&mut text)?;
-    Ok(text)
-}
-
-#[test]
-fn appends_texts(rt: HostRuntime) -> Result<(), Fail> {
-    let text = appended(rt.alloc())?;
-    expect_line(&rt, text.as_str(), "from before 1 to end");
     Ok(())
 }

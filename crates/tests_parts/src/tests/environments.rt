@@ -1,11 +1,10 @@
 //! Environments of markers: which pairs make one, what is wrong with others, and the normal form of
 //! texts beside `extra`.
 
-use crate::tests::lines::{expect, expect_row, expect_same};
+use crate::tests::lines::{Kind, expect, expect_lines, expect_same};
 use pep_marker::{Environment, MarkerFault, Variable, laws, norm_of};
 use std::alloc::{AllocError, Global};
 use std::process::Abort;
-use std::test::Fail;
 use tests_kit::{MACHINE, MACHINE_HEADER, repeated};
 
 const VARIABLES: [Variable; 11] = [
@@ -48,7 +47,7 @@ fn expect_machine(rt: &impl Abort, environment: &Environment, extra: &str) {
 }
 
 #[test]
-fn values(rt: HostRuntime) -> Result<(), Fail> {
+fn values(rt: HostRuntime) -> Result<(), MarkerFault> {
     let environment = Environment::of(rt.alloc(), &MACHINE)?;
     expect_machine(&rt, &environment, "");
     for name in &NO_VARIABLES {
@@ -65,7 +64,7 @@ fn machine_from_behind(alloc: Global) -> Result<Environment, MarkerFault> {
 }
 
 #[test]
-fn extra_and_order(rt: HostRuntime) -> Result<(), Fail> {
+fn extra_and_order(rt: HostRuntime) -> Result<(), MarkerFault> {
     let environment = machine_from_behind(rt.alloc())?;
     expect_machine(&rt, &environment, "Dev_Tools");
     Ok(())
@@ -88,7 +87,7 @@ fn has_header(alloc: Global, extra: &'static str, last: &str) -> Result<bool, Ma
 }
 
 #[test]
-fn headers(rt: HostRuntime) -> Result<(), Fail> {
+fn headers(rt: HostRuntime) -> Result<(), MarkerFault> {
     for &(extra, last) in &LAST_LINES {
         expect(&rt, extra, has_header(rt.alloc(), extra, last)?);
     }
@@ -162,7 +161,7 @@ fn expect_missing(
 }
 
 #[test]
-fn missing_variables(rt: HostRuntime) -> Result<(), Fail> {
+fn missing_variables(rt: HostRuntime) -> Result<(), AllocError> {
     for (place, variable) in VARIABLES.iter().enumerate() {
         expect_missing(&rt, place, *variable)?;
     }
@@ -185,7 +184,7 @@ fn wanted_fault(code: u8) -> MarkerFault {
 }
 
 #[test]
-fn characters_of_values(rt: HostRuntime) -> Result<(), Fail> {
+fn characters_of_values(rt: HostRuntime) -> Result<(), MarkerFault> {
     for code in 0..=160u8 {
         let fault = fault_of_character(rt.alloc(), code)?;
         expect_same(&rt, code, fault, Some(wanted_fault(code)));
@@ -204,23 +203,20 @@ const NORMAL_TEXTS: [(&str, &str); 8] = [
     ("\u{c9}..\u{20ac}-\u{1f40d}Z", "\u{c9}-\u{20ac}-\u{1f40d}z"),
 ];
 
-#[test]
-fn normal_texts(rt: HostRuntime) -> Result<(), Fail> {
-    for &(text, want) in &NORMAL_TEXTS {
-        let found = norm_of(rt.alloc(), text)?;
-        expect_row(&rt, text, found.as_str(), want);
+struct Norm;
+
+impl Kind for Norm {
+    type Fault = MarkerFault;
+
+    fn line(&self, alloc: Global, row: &str) -> Result<String, MarkerFault> {
+        norm_of(alloc, row)
     }
-    Ok(())
-}
-
-fn long_normal_text(alloc: Global) -> Result<String, MarkerFault> {
-    let text = repeated(alloc, "", "\u{c9}A_.", 20_000, "")?;
-    norm_of(alloc, text.as_str())
 }
 
 #[test]
-fn a_long_normal_text(rt: HostRuntime) -> Result<(), Fail> {
-    let found = long_normal_text(rt.alloc())?;
-    assert!(rt; found == repeated(rt.alloc(), "", "\u{c9}a-", 20_000, "")?);
-    Ok(())
+fn normal_texts(rt: HostRuntime) -> Result<(), MarkerFault> {
+    expect_lines(&rt, &Norm, &NORMAL_TEXTS)?;
+    let text = repeated(rt.alloc(), "", "\u{c9}A_.", 20_000, "")?;
+    let want = repeated(rt.alloc(), "", "\u{c9}a-", 20_000, "")?;
+    expect_lines(&rt, &Norm, &[(text.as_str(), want.as_str())])
 }

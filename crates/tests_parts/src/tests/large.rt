@@ -1,11 +1,13 @@
 //! Versions, names and sets that are larger than a body that gives up early would take.
 
-use crate::tests::sets::shown;
-use pep_clause::{Clause, ClauseFault, VersionSet};
-use pep_marker::{MarkerFault, Name};
-use pep_version::{Key, Version, VersionFault};
+use crate::tests::lines::expect_own;
+use crate::tests::names::{Text, has_copy};
+use crate::tests::sets::{set, shown};
+use crate::tests::versions::Line;
+use pep_clause::{ClauseFault, VersionSet};
+use pep_marker::MarkerFault;
+use pep_version::VersionFault;
 use std::alloc::{AllocError, Global};
-use std::test::Fail;
 use tests_kit::{push_numbered, repeated};
 
 // A version of 20,002 release numbers and a label of 1,000 segments.
@@ -15,45 +17,26 @@ fn long_text(alloc: Global) -> Result<String, AllocError> {
     Ok(text)
 }
 
-fn normal(alloc: Global, text: &str) -> Result<String, VersionFault> {
-    Version::read(alloc, text)?.text(alloc)
-}
-
-fn copied(alloc: Global, text: &str) -> Result<String, VersionFault> {
-    Version::read(alloc, text)?.copied(alloc)?.text(alloc)
-}
-
-fn placed(alloc: Global, text: &str) -> Result<String, VersionFault> {
-    let place = Key::of(alloc, &Version::read(alloc, text)?)?;
-    place.version(alloc)?.text(alloc)
-}
-
 #[test]
-fn long_versions(rt: HostRuntime) -> Result<(), Fail> {
+fn long_versions(rt: HostRuntime) -> Result<(), VersionFault> {
     let text = long_text(rt.alloc())?;
-    assert!(rt; normal(rt.alloc(), text.as_str())? == text);
-    assert!(rt; copied(rt.alloc(), text.as_str())? == text);
-    assert!(rt; placed(rt.alloc(), text.as_str())? == text);
-    Ok(())
-}
-
-// Whether the text is its own name, and that of the name's copy.
-fn is_name(alloc: Global, text: &str) -> Result<bool, MarkerFault> {
-    let name = Name::read(alloc, text)?;
-    Ok(name.text() == text && name.copied(alloc)? == name)
+    expect_own(&rt, &Line::Normal, &[text.as_str()])?;
+    expect_own(&rt, &Line::Copied, &[text.as_str()])?;
+    expect_own(&rt, &Line::Placed, &[text.as_str()])
 }
 
 #[test]
-fn long_names(rt: HostRuntime) -> Result<(), Fail> {
+fn long_names(rt: HostRuntime) -> Result<(), MarkerFault> {
     let text = repeated(rt.alloc(), "", "a-b", 20_000, "")?;
-    assert!(rt; is_name(rt.alloc(), text.as_str())?);
+    expect_own(&rt, &Text, &[text.as_str()])?;
+    assert!(rt; has_copy(rt.alloc(), text.as_str())?);
     Ok(())
 }
 
 // The set of all versions but that of a number.
 fn without(alloc: Global, number: u32) -> Result<VersionSet, ClauseFault> {
     let clause = format!(in alloc; "!={number}")?;
-    VersionSet::of(alloc, &Clause::read(alloc, clause.as_str())?)
+    set(alloc, clause.as_str())
 }
 
 // The set of all versions but every second number from the first one on, below 201.
@@ -68,7 +51,7 @@ fn without_each_second(alloc: Global, first: u32) -> Result<VersionSet, ClauseFa
 }
 
 #[test]
-fn sets_of_many_ranges(rt: HostRuntime) -> Result<(), Fail> {
+fn sets_of_many_ranges(rt: HostRuntime) -> Result<(), ClauseFault> {
     for first in 0..2 {
         let set = without_each_second(rt.alloc(), first)?;
         assert!(rt; set.ranges().len() == 101);
@@ -95,7 +78,7 @@ fn ranges_of_joins(alloc: Global) -> Result<String, AllocError> {
 }
 
 #[test]
-fn ranges_of_a_large_join(rt: HostRuntime) -> Result<(), Fail> {
+fn ranges_of_a_large_join(rt: HostRuntime) -> Result<(), ClauseFault> {
     let (joined, other) = joins(rt.alloc())?;
     assert!(rt; joined == other && joined.ranges().len() == 201);
     assert!(rt; shown(rt.alloc(), &joined)? == ranges_of_joins(rt.alloc())?);

@@ -1,10 +1,9 @@
 //! Markers: which texts are read, how they are written, and what they say in an environment.
 
-use crate::tests::lines::expect_row;
+use crate::tests::lines::{Kind, expect, expect_each, expect_lines, expect_own, expect_row};
 use pep_marker::{Environment, JudgedMarkers, Marker, MarkerFault};
 use std::alloc::{AllocError, Global};
 use std::process::Abort;
-use std::test::Fail;
 use tests_kit::{MACHINE, repeated};
 
 const VARIABLES: [&str; 12] = [
@@ -27,7 +26,7 @@ const OPERATORS: [&str; 10] = [
 ];
 
 // What each marker says on the machine.
-const TRUTHS: [(&str, &str); 24] = [
+const TRUTHS: [(&str, &str); 33] = [
     ("python_version < \"3.10\"", "true"),
     ("\"3.8\" <= python_version", "true"),
     ("\"18446744073709551616\" < python_version", "true"),
@@ -58,20 +57,17 @@ const TRUTHS: [(&str, &str); 24] = [
         "false",
     ),
     ("os_name not  in \"posix nt\"", "false"),
-];
-
-// Operators and texts beside `python_version`, which is 3.9: those that make a clause are compared
-// as versions, and the others as texts.
-const VERSIONS: [(&str, &str, &str); 9] = [
-    ("==", "3.9.0", "true"),
-    ("===", "3.9.0", "false"),
-    ("==", " v3.9\t", "true"),
-    ("!=", "3.*", "false"),
-    (">=", "3.*", "true"),
-    (">=", "10.*", "true"),
-    (">=", "10.0+x", "true"),
-    (">", "18446744073709551615", "false"),
-    (">", "18446744073709551616", "true"),
+    // Beside `python_version`, which is 3.9, operators and texts that make a clause are compared as
+    // versions, and the others as texts.
+    ("python_version == \"3.9.0\"", "true"),
+    ("python_version === \"3.9.0\"", "false"),
+    ("python_version == \" v3.9\t\"", "true"),
+    ("python_version != \"3.*\"", "false"),
+    ("python_version >= \"3.*\"", "true"),
+    ("python_version >= \"10.*\"", "true"),
+    ("python_version >= \"10.0+x\"", "true"),
+    ("python_version > \"18446744073709551615\"", "false"),
+    ("python_version > \"18446744073709551616\"", "true"),
 ];
 
 const UNDEFINED: [&str; 9] = [
@@ -180,43 +176,45 @@ const FAULTY: [&str; 34] = [
     "(\"a\") == \"b\"",
 ];
 
-// The text of the marker that this text is read as.
+// The code of a fault.
+fn refusal(fault: MarkerFault) -> &'static str {
+    match fault {
+        MarkerFault::BadMarker => "refused 26",
+        MarkerFault::TooDeep => "refused 27",
+        MarkerFault::Undefined => "refused 28",
+        _ => "refused",
+    }
+}
+
+// A truth, or why there is none.
+fn word_of(truth: Result<bool, MarkerFault>) -> &'static str {
+    match truth {
+        Ok(true) => "true",
+        Ok(false) => "false",
+        Err(fault) => refusal(fault),
+    }
+}
+
 fn text_of(alloc: Global, text: &str) -> Result<String, MarkerFault> {
     Marker::read(alloc, text)?.text(alloc)
 }
 
+// The text of the marker that a text is read as, or why there is none.
+struct Text;
+
+impl Kind for Text {
+    type Fault = AllocError;
+
+    fn line(&self, alloc: Global, row: &str) -> Result<String, AllocError> {
+        match text_of(alloc, row) {
+            Ok(text) => Ok(text),
+            Err(fault) => String::from_str(alloc, refusal(fault)),
+        }
+    }
+}
+
 fn truth_of(alloc: Global, environment: &Environment, text: &str) -> Result<bool, MarkerFault> {
     Marker::read(alloc, text)?.holds(alloc, environment)
-}
-
-// The text of the marker, or why there is none.
-fn text_line(alloc: Global, text: &str) -> Result<String, AllocError> {
-    match text_of(alloc, text) {
-        Ok(found) => Ok(found),
-        Err(fault) => format!(in alloc; "refused {}", fault.code()),
-    }
-}
-
-// What the marker says, or why it says nothing.
-fn truth_line(alloc: Global, environment: &Environment, text: &str) -> Result<String, AllocError> {
-    match truth_of(alloc, environment, text) {
-        Ok(truth) => format!(in alloc; "{truth}"),
-        Err(fault) => format!(in alloc; "refused {}", fault.code()),
-    }
-}
-
-// Whether the text is a marker.
-fn reading_line(alloc: Global, text: &str) -> Result<String, AllocError> {
-    match Marker::read(alloc, text) {
-        Ok(_) => String::from_str(alloc, "read"),
-        Err(fault) => format!(in alloc; "refused {}", fault.code()),
-    }
-}
-
-fn expect_text(rt: &(impl Abort + AllocGlobal), text: &str, want: &str) -> Result<(), AllocError> {
-    let line = text_line(rt.alloc(), text)?;
-    expect_row(rt, text, line.as_str(), want);
-    Ok(())
 }
 
 fn expect_truth(
@@ -224,44 +222,29 @@ fn expect_truth(
     environment: &Environment,
     text: &str,
     want: &str,
-) -> Result<(), AllocError> {
-    let line = truth_line(rt.alloc(), environment, text)?;
-    expect_row(rt, text, line.as_str(), want);
-    Ok(())
+) {
+    let truth = truth_of(rt.alloc(), environment, text);
+    expect_row(rt, text, word_of(truth), want);
+}
+
+fn expect_truths(
+    rt: &(impl Abort + AllocGlobal),
+    environment: &Environment,
+    rows: &[(&str, &str)],
+) {
+    for &(text, want) in rows {
+        expect_truth(rt, environment, text, want);
+    }
 }
 
 #[test]
-fn truths(rt: HostRuntime) -> Result<(), Fail> {
+fn truths(rt: HostRuntime) -> Result<(), MarkerFault> {
     let machine = Environment::of(rt.alloc(), &MACHINE)?;
-    for &(text, truth) in &TRUTHS {
-        expect_truth(&rt, &machine, text, truth)?;
-    }
+    expect_truths(&rt, &machine, &TRUTHS);
     for text in &UNDEFINED {
-        expect_truth(&rt, &machine, text, "refused 28")?;
+        expect_truth(&rt, &machine, text, "refused 28");
     }
     Ok(())
-}
-
-#[test]
-fn versions_and_texts(rt: HostRuntime) -> Result<(), Fail> {
-    let machine = Environment::of(rt.alloc(), &MACHINE)?;
-    for &(operator, version, truth) in &VERSIONS {
-        let text = format!(in rt.alloc(); "python_version {operator} \"{version}\"")?;
-        expect_truth(&rt, &machine, text.as_str(), truth)?;
-    }
-    Ok(())
-}
-
-// What the memory says of a text, or why it says nothing.
-fn judged_line(
-    alloc: Global,
-    markers: &mut JudgedMarkers<'_>,
-    text: &str,
-) -> Result<String, AllocError> {
-    match markers.judge(alloc, text) {
-        Ok(truth) => format!(in alloc; "{truth}"),
-        Err(fault) => format!(in alloc; "refused {}", fault.code()),
-    }
 }
 
 // The memory says of a text what is wanted, and says so again.
@@ -270,38 +253,42 @@ fn expect_judged(
     markers: &mut JudgedMarkers<'_>,
     text: &str,
     want: &str,
+) {
+    expect_row(rt, text, word_of(markers.judge(rt.alloc(), text)), want);
+    expect_row(rt, text, word_of(markers.judge(rt.alloc(), text)), want);
+}
+
+fn expect_micro(
+    rt: &(impl Abort + AllocGlobal),
+    markers: &mut JudgedMarkers<'_>,
+    micro: u32,
 ) -> Result<(), AllocError> {
-    let line = judged_line(rt.alloc(), markers, text)?;
-    expect_row(rt, text, line.as_str(), want);
-    let again = judged_line(rt.alloc(), markers, text)?;
-    expect_row(rt, text, again.as_str(), want);
+    let text = format!(in rt.alloc(); "python_full_version == '3.9.{micro}'")?;
+    let want = if micro == 18 { "true" } else { "false" };
+    expect_judged(rt, markers, text.as_str(), want);
     Ok(())
 }
 
-// A thousand markers in two rounds, of which a memory has room for a quarter, so that each place is
-// shared by several.
+// Five thousand markers in two rounds, where a memory has 4,096 places, so that some are shared.
 #[test]
-fn more_markers_than_are_remembered(rt: HostRuntime) -> Result<(), Fail> {
+fn more_markers_than_are_remembered(rt: HostRuntime) -> Result<(), MarkerFault> {
     let machine = Environment::of(rt.alloc(), &MACHINE)?;
     let mut markers = JudgedMarkers::new(rt.alloc(), &machine)?;
-    for round in 0..2_000u32 {
-        let micro = round % 1_000;
-        let text = format!(in rt.alloc(); "python_full_version == '3.9.{micro}'")?;
-        let want = if micro == 18 { "true" } else { "false" };
-        expect_judged(&rt, &mut markers, text.as_str(), want)?;
+    for round in 0..10_000u32 {
+        expect_micro(&rt, &mut markers, round % 5_000)?;
     }
     Ok(())
 }
 
 #[test]
-fn remembered_markers(rt: HostRuntime) -> Result<(), Fail> {
+fn remembered_markers(rt: HostRuntime) -> Result<(), MarkerFault> {
     let machine = Environment::of(rt.alloc(), &MACHINE)?;
     let mut markers = JudgedMarkers::new(rt.alloc(), &machine)?;
     for &(text, truth) in &TRUTHS {
-        expect_judged(&rt, &mut markers, text, truth)?;
+        expect_judged(&rt, &mut markers, text, truth);
     }
     for text in &UNDEFINED {
-        expect_judged(&rt, &mut markers, text, "refused 28")?;
+        expect_judged(&rt, &mut markers, text, "refused 28");
     }
     let long = repeated(
         rt.alloc(),
@@ -310,8 +297,8 @@ fn remembered_markers(rt: HostRuntime) -> Result<(), Fail> {
         20,
         "os_name == 'nt')",
     )?;
-    expect_judged(&rt, &mut markers, long.as_str(), "false")?;
-    expect_judged(&rt, &mut markers, "os_name = 'nt'", "refused 26")?;
+    expect_judged(&rt, &mut markers, long.as_str(), "false");
+    expect_judged(&rt, &mut markers, "os_name = 'nt'", "refused 26");
     Ok(())
 }
 
@@ -329,37 +316,28 @@ fn machine_with_extra(alloc: Global) -> Result<Environment, MarkerFault> {
 }
 
 #[test]
-fn truth_with_extra(rt: HostRuntime) -> Result<(), Fail> {
-    let machine = machine_with_extra(rt.alloc())?;
-    for &(text, truth) in &WITH_EXTRA {
-        expect_truth(&rt, &machine, text, truth)?;
-    }
+fn truth_with_extra(rt: HostRuntime) -> Result<(), MarkerFault> {
+    expect_truths(&rt, &machine_with_extra(rt.alloc())?, &WITH_EXTRA);
     Ok(())
 }
 
 #[test]
-fn texts(rt: HostRuntime) -> Result<(), Fail> {
-    for &(text, want) in &TEXTS {
-        expect_text(&rt, text, want)?;
-        expect_text(&rt, want, want)?;
-    }
-    for text in &UNDEFINED {
-        expect_text(&rt, text, text)?;
-    }
-    Ok(())
+fn texts(rt: HostRuntime) -> Result<(), AllocError> {
+    expect_lines(&rt, &Text, &TEXTS)?;
+    expect_own(&rt, &Text, &UNDEFINED)?;
+    expect_each(&rt, &Text, &FAULTY, "refused 26")
 }
 
-// The text of a marker is its own text.
-fn expect_stable(rt: &(impl Abort + AllocGlobal), text: &str) -> Result<(), MarkerFault> {
-    let once = text_of(rt.alloc(), text)?;
-    expect_text(rt, once.as_str(), once.as_str())?;
-    Ok(())
+// Whether the text of a marker is its own text.
+fn is_stable(alloc: Global, text: &str) -> Result<bool, MarkerFault> {
+    let once = text_of(alloc, text)?;
+    Ok(text_of(alloc, once.as_str())? == once)
 }
 
 #[test]
-fn texts_of_truths(rt: HostRuntime) -> Result<(), Fail> {
-    for &(text, _) in &TRUTHS {
-        expect_stable(&rt, text)?;
+fn texts_of_texts(rt: HostRuntime) -> Result<(), MarkerFault> {
+    for &(text, _) in TEXTS.iter().chain(&TRUTHS) {
+        expect(&rt, text, is_stable(rt.alloc(), text)?);
     }
     Ok(())
 }
@@ -370,25 +348,16 @@ fn expect_operator(
     operator: &str,
 ) -> Result<(), AllocError> {
     let left = format!(in rt.alloc(); "{variable} {operator} \"1.0\"")?;
-    expect_text(rt, left.as_str(), left.as_str())?;
     let right = format!(in rt.alloc(); "\"1.0\" {operator} {variable}")?;
-    expect_text(rt, right.as_str(), right.as_str())
+    expect_own(rt, &Text, &[left.as_str(), right.as_str()])
 }
 
 #[test]
-fn variables_and_operators(rt: HostRuntime) -> Result<(), Fail> {
+fn variables_and_operators(rt: HostRuntime) -> Result<(), AllocError> {
     for variable in &VARIABLES {
         for operator in &OPERATORS {
             expect_operator(&rt, variable, operator)?;
         }
-    }
-    Ok(())
-}
-
-#[test]
-fn faulty_texts(rt: HostRuntime) -> Result<(), Fail> {
-    for text in &FAULTY {
-        expect_text(&rt, text, "refused 26")?;
     }
     Ok(())
 }
@@ -402,10 +371,10 @@ fn in_parentheses(alloc: Global, count: usize) -> Result<String, AllocError> {
 }
 
 #[test]
-fn open_parentheses(rt: HostRuntime) -> Result<(), Fail> {
+fn open_parentheses(rt: HostRuntime) -> Result<(), AllocError> {
     for &(count, want) in &[(64, "\"a\" == \"a\""), (65, "refused 27")] {
         let text = in_parentheses(rt.alloc(), count)?;
-        expect_text(&rt, text.as_str(), want)?;
+        expect_each(&rt, &Text, &[text.as_str()], want)?;
     }
     Ok(())
 }
@@ -445,11 +414,18 @@ const COMPARISONS: [Long; 20] = [
     (") ", "'a'=='a' or ", 1024, "'a'=='a'", "refused 26"),
 ];
 
+// Whether the text is a marker, or why not.
+fn reading_word(alloc: Global, text: &str) -> &'static str {
+    match Marker::read(alloc, text) {
+        Ok(_) => "read",
+        Err(fault) => refusal(fault),
+    }
+}
+
 fn expect_reading(rt: &(impl Abort + AllocGlobal), row: Long) -> Result<(), AllocError> {
     let (front, part, count, behind, want) = row;
     let text = repeated(rt.alloc(), front, part, count, behind)?;
-    let line = reading_line(rt.alloc(), text.as_str())?;
-    expect_row(rt, front, line.as_str(), want);
+    expect_row(rt, front, reading_word(rt.alloc(), text.as_str()), want);
     Ok(())
 }
 
@@ -461,7 +437,7 @@ fn expect_readings(rt: &(impl Abort + AllocGlobal), rows: &[Long]) -> Result<(),
 }
 
 #[test]
-fn long_and_deep_texts(rt: HostRuntime) -> Result<(), Fail> {
+fn long_and_deep_texts(rt: HostRuntime) -> Result<(), AllocError> {
     expect_readings(&rt, &DEEP)?;
     expect_readings(&rt, &COMPARISONS)?;
     for front in &NO_MARKERS {
@@ -471,11 +447,11 @@ fn long_and_deep_texts(rt: HostRuntime) -> Result<(), Fail> {
 }
 
 #[test]
-fn truth_of_many_comparisons(rt: HostRuntime) -> Result<(), Fail> {
+fn truth_of_many_comparisons(rt: HostRuntime) -> Result<(), MarkerFault> {
     let machine = Environment::of(rt.alloc(), &MACHINE)?;
     for &(behind, truth) in &[("os_name=='posix'", "true"), ("os_name=='nt'", "false")] {
         let text = repeated(rt.alloc(), "", "python_version>='3' and ", 1023, behind)?;
-        expect_truth(&rt, &machine, text.as_str(), truth)?;
+        expect_truth(&rt, &machine, text.as_str(), truth);
     }
     Ok(())
 }

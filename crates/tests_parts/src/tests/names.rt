@@ -1,12 +1,11 @@
 //! Names of packages, and the runs of bytes that they are found by.
 
-use crate::tests::lines::{expect, expect_line, expect_same};
+use crate::tests::lines::{Kind, expect, expect_lines};
 use pep_marker::{MarkerFault, Name};
 use std::alloc::Global;
 use std::cmp::Ordering;
 use std::hash::{DefaultHasher, Hash, Hasher};
 use std::process::Abort;
-use std::test::Fail;
 use texts::{
     blank_end, blank_run, is_blank_byte, is_name_byte, name_run, without_leading_blanks,
     without_outer_blanks,
@@ -50,8 +49,15 @@ const NO_NAMES: [&str; 11] = [
     "", "-", "a-", "_a", "a b", " a", "a ", "a\n", "a+b", "\u{e9}", "a\u{e9}b",
 ];
 
-fn name_line(alloc: Global, text: &str) -> Result<String, MarkerFault> {
-    Ok(String::from_str(alloc, Name::read(alloc, text)?.text())?)
+/// The text of a name.
+pub(crate) struct Text;
+
+impl Kind for Text {
+    type Fault = MarkerFault;
+
+    fn line(&self, alloc: Global, row: &str) -> Result<String, MarkerFault> {
+        Ok(String::from_str(alloc, Name::read(alloc, row)?.text())?)
+    }
 }
 
 fn fault_of(alloc: Global, text: &str) -> Option<MarkerFault> {
@@ -59,20 +65,16 @@ fn fault_of(alloc: Global, text: &str) -> Option<MarkerFault> {
 }
 
 #[test]
-fn names(rt: HostRuntime) -> Result<(), Fail> {
-    for &(text, want) in &NAMES {
-        let line = name_line(rt.alloc(), text)?;
-        expect_line(&rt, line.as_str(), want);
-    }
+fn names(rt: HostRuntime) -> Result<(), MarkerFault> {
+    expect_lines(&rt, &Text, &NAMES)
+}
+
+#[test]
+fn other_texts(rt: HostRuntime) {
     for text in &NO_NAMES {
-        expect_same(
-            &rt,
-            text,
-            fault_of(rt.alloc(), text),
-            Some(MarkerFault::BadName),
-        );
+        let found = fault_of(rt.alloc(), text);
+        expect(&rt, text, found == Some(MarkerFault::BadName));
     }
-    Ok(())
 }
 
 fn names_in_order(alloc: Global) -> Result<Vec<Name>, MarkerFault> {
@@ -110,7 +112,7 @@ fn compare_names(rt: &impl Abort, names: &[Name]) {
 }
 
 #[test]
-fn order_of_names(rt: HostRuntime) -> Result<(), Fail> {
+fn order_of_names(rt: HostRuntime) -> Result<(), MarkerFault> {
     let names = names_in_order(rt.alloc())?;
     compare_names(&rt, names.as_slice());
     Ok(())
@@ -128,15 +130,15 @@ fn is_one_name(alloc: Global, one: &str, other: &str) -> Result<bool, MarkerFaul
     Ok(is_order(&one, &other, Ordering::Equal))
 }
 
-// Whether the copy of a name is equal to it, with its text.
-fn has_copy(alloc: Global, text: &str) -> Result<bool, MarkerFault> {
+/// Whether the copy of a name is equal to it, with its text.
+pub(crate) fn has_copy(alloc: Global, text: &str) -> Result<bool, MarkerFault> {
     let name = Name::read(alloc, text)?;
     let copy = name.copied(alloc)?;
     Ok(copy == name && copy.text() == name.text())
 }
 
 #[test]
-fn equal_names(rt: HostRuntime) -> Result<(), Fail> {
+fn equal_names(rt: HostRuntime) -> Result<(), MarkerFault> {
     for &(one, other) in &EQUAL {
         expect(&rt, (one, other), is_one_name(rt.alloc(), one, other)?);
         expect(&rt, one, has_copy(rt.alloc(), one)?);

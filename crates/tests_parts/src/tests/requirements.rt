@@ -1,26 +1,48 @@
 //! Requirement lines by PEP 508: what they are read as, their texts, and what is wrong with others.
 
-use crate::tests::lines::{expect, expect_line, expect_row, expect_same};
+use crate::tests::lines::{Kind, expect, expect_lines, expect_own, expect_same};
 use pep_clause::ClauseFault;
 use pep_marker::{Environment, MarkerFault};
-use pep_require::{RequireFault, Requirement, Target, UrlText, laws};
+use pep_require::{RequireFault, Requirement, Target, UrlText};
 use std::alloc::{AllocError, Global};
 use std::process::Abort;
 use std::test::Fail;
 use tests_kit::{MACHINE, push_numbered, repeated};
 
-fn text_of(alloc: Global, line: &str) -> Result<String, RequireFault> {
-    Requirement::read(alloc, line)?.text(alloc)
+// What a line is made by.
+enum Line {
+    // The text of a requirement.
+    Text,
+    // The text of that.
+    Again,
+    // Its name.
+    Name,
+    // Its name, its extras in brackets, how many clauses there are, and whether there is a marker.
+    Bounds,
+    // What is written of its URL, the URL's text, and whether there is a marker.
+    Url,
 }
 
-fn expect_text(
-    rt: &(impl Abort + AllocGlobal),
-    line: &str,
-    want: &str,
-) -> Result<(), RequireFault> {
-    let text = text_of(rt.alloc(), line)?;
-    expect_row(rt, line, text.as_str(), want);
-    Ok(())
+impl Kind for Line {
+    type Fault = RequireFault;
+
+    fn line(&self, alloc: Global, row: &str) -> Result<String, RequireFault> {
+        line_of(alloc, self, &Requirement::read(alloc, row)?)
+    }
+}
+
+fn line_of(alloc: Global, line: &Line, read: &Requirement) -> Result<String, RequireFault> {
+    match line {
+        Line::Text => read.text(alloc),
+        Line::Again => text_of(alloc, read.text(alloc)?.as_str()),
+        Line::Name => Ok(String::from_str(alloc, read.name().text())?),
+        Line::Bounds => Ok(bounds_line(alloc, read)?),
+        Line::Url => Ok(url_line(alloc, read)?),
+    }
+}
+
+fn text_of(alloc: Global, line: &str) -> Result<String, RequireFault> {
+    Requirement::read(alloc, line)?.text(alloc)
 }
 
 // Lines and their texts; each text is its own text.
@@ -28,11 +50,8 @@ fn expect_texts(
     rt: &(impl Abort + AllocGlobal),
     rows: &[(&str, &str)],
 ) -> Result<(), RequireFault> {
-    for &(line, want) in rows {
-        expect_text(rt, line, want)?;
-        expect_text(rt, want, want)?;
-    }
-    Ok(())
+    expect_lines(rt, &Line::Text, rows)?;
+    expect_lines(rt, &Line::Again, rows)
 }
 
 const NAMES_AND_EXTRAS: [(&str, &str); 8] = [
@@ -96,12 +115,11 @@ const MARKERS: [(&str, &str); 4] = [
 ];
 
 #[test]
-fn texts(rt: HostRuntime) -> Result<(), Fail> {
+fn texts(rt: HostRuntime) -> Result<(), RequireFault> {
     expect_texts(&rt, &NAMES_AND_EXTRAS)?;
     expect_texts(&rt, &CLAUSES)?;
     expect_texts(&rt, &URLS)?;
-    expect_texts(&rt, &MARKERS)?;
-    Ok(())
+    expect_texts(&rt, &MARKERS)
 }
 
 const NO_OPERATOR: RequireFault = RequireFault::BadClause(ClauseFault::NoOperator);
@@ -213,31 +231,19 @@ const OWN_TEXTS: [(&str, &str, usize, &str); 4] = [
     ("", "a", 65_536, ""),
 ];
 
-// Whether the line is its own text.
-fn is_own_text(alloc: Global, line: &str) -> Result<bool, RequireFault> {
-    Ok(text_of(alloc, line)?.as_str() == line)
-}
-
 #[test]
-fn long_lines(rt: HostRuntime) -> Result<(), Fail> {
+fn long_lines(rt: HostRuntime) -> Result<(), RequireFault> {
     for &(front, part, count, behind) in &OWN_TEXTS {
         let line = repeated(rt.alloc(), front, part, count, behind)?;
-        expect(&rt, front, is_own_text(rt.alloc(), line.as_str())?);
+        expect_own(&rt, &Line::Text, &[line.as_str()])?;
     }
     Ok(())
 }
 
-// How many bytes the name has on a line that is a name of 65,536 bytes.
-fn longest_name(alloc: Global) -> Result<usize, RequireFault> {
-    let line = repeated(alloc, "", "a", 65_536, "")?;
-    let requirement = Requirement::read(alloc, line.as_str())?;
-    Ok(requirement.name().text().len())
-}
-
 #[test]
-fn a_name_as_long_as_a_line(rt: HostRuntime) -> Result<(), Fail> {
-    assert_eq!(rt; longest_name(rt.alloc())?, 65_536);
-    Ok(())
+fn a_name_as_long_as_a_line(rt: HostRuntime) -> Result<(), RequireFault> {
+    let line = repeated(rt.alloc(), "", "a", 65_536, "")?;
+    expect_own(&rt, &Line::Name, &[line.as_str()])
 }
 
 // A line with extras in their order.
@@ -249,10 +255,9 @@ fn line_of_extras(alloc: Global) -> Result<String, AllocError> {
 }
 
 #[test]
-fn many_extras(rt: HostRuntime) -> Result<(), Fail> {
+fn many_extras(rt: HostRuntime) -> Result<(), RequireFault> {
     let line = line_of_extras(rt.alloc())?;
-    assert!(rt; is_own_text(rt.alloc(), line.as_str())?);
-    Ok(())
+    expect_own(&rt, &Line::Text, &[line.as_str()])
 }
 
 // The same with the fault of the line.
@@ -263,7 +268,7 @@ const TOO_LONG: [(&str, &str, usize, &str, RequireFault); 3] = [
 ];
 
 #[test]
-fn lines_that_are_too_long(rt: HostRuntime) -> Result<(), Fail> {
+fn lines_that_are_too_long(rt: HostRuntime) -> Result<(), AllocError> {
     for &(front, part, count, behind, wanted) in &TOO_LONG {
         let line = repeated(rt.alloc(), front, part, count, behind)?;
         expect_same(
@@ -286,7 +291,6 @@ fn clause_count(target: &Target) -> Option<usize> {
     }
 }
 
-// The name, the extras in brackets, how many clauses there are, and whether there is a marker.
 fn bounds_line(alloc: Global, read: &Requirement) -> Result<String, AllocError> {
     let mut line = String::from_str(alloc, read.name().text())?;
     for extra in read.extras() {
@@ -298,18 +302,6 @@ fn bounds_line(alloc: Global, read: &Requirement) -> Result<String, AllocError> 
     format!(in alloc; "{line} {count:?} {is_marked}")
 }
 
-fn read_bounds_line(alloc: Global, line: &str) -> Result<String, RequireFault> {
-    Ok(bounds_line(alloc, &Requirement::read(alloc, line)?)?)
-}
-
-#[test]
-fn parts_of_bounds(rt: HostRuntime) -> Result<(), Fail> {
-    let line = read_bounds_line(rt.alloc(), "Foo[x,B_c]>=1,<2; os_name == 'nt'")?;
-    expect_line(&rt, line.as_str(), "foo[b-c][x] Some(2) true");
-    Ok(())
-}
-
-// What is written of a URL, its text, and whether there is a marker.
 fn url_line(alloc: Global, read: &Requirement) -> Result<String, AllocError> {
     let is_marked = read.marker().is_some();
     match read.target() {
@@ -318,26 +310,36 @@ fn url_line(alloc: Global, read: &Requirement) -> Result<String, AllocError> {
     }
 }
 
-fn read_url_line(alloc: Global, line: &str) -> Result<String, RequireFault> {
-    Ok(url_line(alloc, &Requirement::read(alloc, line)?)?)
-}
-
 // The text of a URL alone.
-fn url_text(alloc: Global, written: &str) -> Result<String, RequireFault> {
-    Ok(String::from_str(alloc, UrlText::read(alloc, written)?.text())?)
+struct UrlAlone;
+
+impl Kind for UrlAlone {
+    type Fault = RequireFault;
+
+    fn line(&self, alloc: Global, row: &str) -> Result<String, RequireFault> {
+        Ok(String::from_str(alloc, UrlText::read(alloc, row)?.text())?)
+    }
 }
 
 #[test]
-fn parts_of_a_url(rt: HostRuntime) -> Result<(), Fail> {
-    let line = read_url_line(rt.alloc(), "a @ HTTPS://X.test/a/../b")?;
-    expect_line(
+fn parts(rt: HostRuntime) -> Result<(), RequireFault> {
+    expect_lines(
         &rt,
-        line.as_str(),
-        "HTTPS://X.test/a/../b https://x.test/b false",
-    );
-    let alone = url_text(rt.alloc(), "https://x.test/b")?;
-    expect_line(&rt, alone.as_str(), "https://x.test/b");
-    Ok(())
+        &Line::Bounds,
+        &[(
+            "Foo[x,B_c]>=1,<2; os_name == 'nt'",
+            "foo[b-c][x] Some(2) true",
+        )],
+    )?;
+    expect_lines(
+        &rt,
+        &Line::Url,
+        &[(
+            "a @ HTTPS://X.test/a/../b",
+            "HTTPS://X.test/a/../b https://x.test/b false",
+        )],
+    )?;
+    expect_own(&rt, &UrlAlone, &["https://x.test/b"])
 }
 
 // Lines, and whether they apply on the machine.
@@ -364,12 +366,4 @@ fn applies(rt: HostRuntime) -> Result<(), Fail> {
         expect_same(&rt, line, found, wanted);
     }
     Ok(())
-}
-
-#[test]
-fn laws_of_lines() {
-    laws::one_requirement();
-    laws::refused_is_not_read();
-    laws::one_fault();
-    laws::requirement_text_is_read();
 }

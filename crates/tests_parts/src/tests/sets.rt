@@ -1,12 +1,11 @@
 //! Sets of clauses: their cuts, with carries at the largest number, and which versions they hold.
 
-use crate::tests::lines::{expect, expect_line, expect_row};
+use crate::tests::lines::{Kind, expect, expect_line, expect_lines, expect_row};
 use crate::tests::ordered::ORDERED;
-use pep_clause::{Clause, ClauseFault, Range, Turns, VersionSet, laws};
+use pep_clause::{Clause, ClauseFault, Range, Turns, VersionSet};
 use pep_version::{Key, Phase, Version, VersionFault};
 use std::alloc::Global;
 use std::process::Abort;
-use std::test::Fail;
 
 const OPERATORS: [&str; 8] = ["~=", "==", "!=", "<=", ">=", "<", ">", "==="];
 
@@ -63,7 +62,8 @@ const NEAR: [&str; 15] = [
     "1!0.dev1",
 ];
 
-fn set(alloc: Global, text: &str) -> Result<VersionSet, ClauseFault> {
+/// The set of the clause that a text is read as.
+pub(crate) fn set(alloc: Global, text: &str) -> Result<VersionSet, ClauseFault> {
     VersionSet::of(alloc, &Clause::read(alloc, text)?)
 }
 
@@ -122,7 +122,7 @@ fn place(
 }
 
 #[test]
-fn holds_what_a_clause_admits(rt: HostRuntime) -> Result<(), Fail> {
+fn holds_what_a_clause_admits(rt: HostRuntime) -> Result<(), ClauseFault> {
     let (from, below) = (set(rt.alloc(), ">=1.0")?, set(rt.alloc(), "<1.0")?);
     for &(release, pre, post, dev, want) in &HELD {
         let key = place(rt.alloc(), release.as_slice(), pre, post, dev)?;
@@ -132,8 +132,10 @@ fn holds_what_a_clause_admits(rt: HostRuntime) -> Result<(), Fail> {
     Ok(())
 }
 
-// Clauses, and their ranges.
-const RANGES: [(&str, &str); 13] = [
+// Clauses, all versions and none, and their ranges.
+const RANGES: [(&str, &str); 15] = [
+    ("all", "[before 0.dev0 to end]"),
+    ("none", "none"),
     (">=1.0", "[before 1 to end]"),
     ("<0.10", "[before 0.dev0 to before 0.10.dev0]"),
     ("~=1.4.5a4", "[before 1.4.5a4 to before 1.5.dev0]"),
@@ -161,30 +163,28 @@ const RANGES: [(&str, &str); 13] = [
     ),
 ];
 
-fn ranges_line(alloc: Global, clause: &str) -> Result<String, ClauseFault> {
-    shown(alloc, &set(alloc, clause)?)
-}
-
-#[test]
-fn ranges_of_clauses(rt: HostRuntime) -> Result<(), Fail> {
-    for &(clause, want) in &RANGES {
-        let line = ranges_line(rt.alloc(), clause)?;
-        expect_row(&rt, clause, line.as_str(), want);
+fn set_of_row(alloc: Global, row: &str) -> Result<VersionSet, ClauseFault> {
+    match row {
+        "all" => VersionSet::all(alloc),
+        "none" => Ok(VersionSet::none(alloc)),
+        _ => set(alloc, row),
     }
-    Ok(())
 }
 
-fn all_line(alloc: Global) -> Result<String, ClauseFault> {
-    shown(alloc, &VersionSet::all(alloc)?)
+// The ranges of a row's set.
+struct RangesOfRow;
+
+impl Kind for RangesOfRow {
+    type Fault = ClauseFault;
+
+    fn line(&self, alloc: Global, row: &str) -> Result<String, ClauseFault> {
+        shown(alloc, &set_of_row(alloc, row)?)
+    }
 }
 
 #[test]
-fn ranges_of_all_and_none(rt: HostRuntime) -> Result<(), Fail> {
-    let line = all_line(rt.alloc())?;
-    expect_line(&rt, line.as_str(), "[before 0.dev0 to end]");
-    let line = shown(rt.alloc(), &VersionSet::none(rt.alloc()))?;
-    expect_line(&rt, line.as_str(), "none");
-    Ok(())
+fn ranges(rt: HostRuntime) -> Result<(), ClauseFault> {
+    expect_lines(&rt, &RangesOfRow, &RANGES)
 }
 
 // The set of all these clauses, each joined to those before it.
@@ -235,48 +235,33 @@ const JOINED: [(&[&str], &str); 11] = [
     ),
 ];
 
-fn joined_line(alloc: Global, clauses: &[&str]) -> Result<String, ClauseFault> {
-    shown(alloc, &joined(alloc, clauses)?)
+// The sweep over a set and all versions, whose turns no one sees here.
+fn swept(alloc: Global, set: &VersionSet) -> Result<VersionSet, ClauseFault> {
+    set.swept(alloc, &VersionSet::all(alloc)?, &mut Turns::none())
 }
 
-fn kept_line(alloc: Global, clauses: &[&str]) -> Result<String, ClauseFault> {
-    shown(alloc, &kept(alloc, clauses)?)
-}
-
-fn common_line(alloc: Global, clauses: &[&str]) -> Result<String, ClauseFault> {
-    shown(alloc, &common(alloc, clauses)?)
-}
-
-// The sweep over the join and all versions, whose turns no one sees here.
-fn swept_line(alloc: Global, clauses: &[&str]) -> Result<String, ClauseFault> {
-    let (set, all) = (joined(alloc, clauses)?, VersionSet::all(alloc)?);
-    shown(alloc, &set.swept(alloc, &all, &mut Turns::none())?)
-}
-
-fn copied_line(alloc: Global, clauses: &[&str]) -> Result<String, ClauseFault> {
-    shown(alloc, &joined(alloc, clauses)?.copied(alloc)?)
-}
-
-#[test]
-fn joins(rt: HostRuntime) -> Result<(), Fail> {
-    for &(clauses, want) in &JOINED {
-        let line = joined_line(rt.alloc(), clauses)?;
-        expect_row(&rt, "joined", line.as_str(), want);
-        let line = kept_line(rt.alloc(), clauses)?;
-        expect_row(&rt, "in place", line.as_str(), want);
-        let line = swept_line(rt.alloc(), clauses)?;
-        expect_row(&rt, "swept with all versions", line.as_str(), want);
+// The set of all these clauses, by one of five ways.
+fn set_by(alloc: Global, way: &str, clauses: &[&str]) -> Result<VersionSet, ClauseFault> {
+    match way {
+        "joined" => joined(alloc, clauses),
+        "in place" => kept(alloc, clauses),
+        "used up" => common(alloc, clauses),
+        "copied" => joined(alloc, clauses)?.copied(alloc),
+        _ => swept(alloc, &joined(alloc, clauses)?),
     }
-    Ok(())
+}
+
+fn joined_line(alloc: Global, way: &str, clauses: &[&str]) -> Result<String, ClauseFault> {
+    shown(alloc, &set_by(alloc, way, clauses)?)
 }
 
 #[test]
-fn uses_up_and_copies(rt: HostRuntime) -> Result<(), Fail> {
-    for &(clauses, want) in &JOINED {
-        let line = common_line(rt.alloc(), clauses)?;
-        expect_row(&rt, "used up", line.as_str(), want);
-        let line = copied_line(rt.alloc(), clauses)?;
-        expect_row(&rt, "copied", line.as_str(), want);
+fn joins(rt: HostRuntime) -> Result<(), ClauseFault> {
+    for way in &["joined", "in place", "used up", "copied", "swept"] {
+        for &(clauses, want) in &JOINED {
+            let line = joined_line(rt.alloc(), way, clauses)?;
+            expect_row(&rt, way, line.as_str(), want);
+        }
     }
     Ok(())
 }
@@ -314,7 +299,7 @@ fn lists_line(alloc: Global, left: &[&str], right: &[&str]) -> Result<String, Cl
 }
 
 #[test]
-fn uses_up_lists(rt: HostRuntime) -> Result<(), Fail> {
+fn uses_up_lists(rt: HostRuntime) -> Result<(), ClauseFault> {
     for &(left, right, want) in &LISTS {
         let line = lists_line(rt.alloc(), left, right)?;
         expect_row(&rt, "left first", line.as_str(), want);
@@ -335,7 +320,7 @@ fn between_line(alloc: Global, above: &str, below: &str) -> Result<String, Claus
 
 // `>1.0a5` leaves the post-releases of `1.0a5` out, so nothing is left below `1.0a6.dev0`.
 #[test]
-fn none_between(rt: HostRuntime) -> Result<(), Fail> {
+fn none_between(rt: HostRuntime) -> Result<(), ClauseFault> {
     let line = between_line(rt.alloc(), ">1.0a5", "<1.0a6.dev0")?;
     expect_line(&rt, line.as_str(), "none true true");
     Ok(())
@@ -350,37 +335,27 @@ fn expect_all_and_none(rt: &impl Abort, all: &VersionSet, none: &VersionSet, key
 
 // Every version is in the set of all, and none in the set of none.
 #[test]
-fn all_and_none(rt: HostRuntime) -> Result<(), Fail> {
+fn all_and_none(rt: HostRuntime) -> Result<(), ClauseFault> {
     let keys = keys(rt.alloc())?;
     let (all, none) = (VersionSet::all(rt.alloc())?, VersionSet::none(rt.alloc()));
     expect_all_and_none(&rt, &all, &none, keys.as_slice());
     Ok(())
 }
 
-// A range, whether its copy begins below its end, and whether the copy is equal to it.
-fn copied_range_line(alloc: Global, range: &Range) -> Result<String, ClauseFault> {
+// Whether the copy of a range begins below its end, and is equal to it.
+fn is_copied(alloc: Global, range: &Range) -> Result<bool, ClauseFault> {
     let copy = range.copied(alloc)?;
-    let (is_below, is_same) = (copy.low() < range.high(), copy == *range);
-    Ok(format!(in alloc; "{is_below} {is_same}")?)
+    Ok(copy.low() < range.high() && copy == *range)
 }
 
 #[test]
-fn copies_ranges(rt: HostRuntime) -> Result<(), Fail> {
+fn copies_ranges(rt: HostRuntime) -> Result<(), ClauseFault> {
     let set = set(rt.alloc(), ">=3.8")?;
     assert!(rt; set.ranges().len() == 1);
     for range in set.ranges() {
-        let line = copied_range_line(rt.alloc(), range)?;
-        expect_line(&rt, line.as_str(), "true true");
+        assert!(rt; is_copied(rt.alloc(), range)?);
     }
     Ok(())
-}
-
-#[test]
-fn laws_of_sets() {
-    laws::one_list();
-    laws::one_list_of_versions();
-    laws::between_cuts();
-    laws::place_is_in();
 }
 
 // ---- all clauses of the operands, and versions near them
@@ -497,7 +472,7 @@ const CLAUSES: usize = 2 * (27 + 8) + 21 + 2 * 27 + 4 * 25;
 const CANDIDATES: usize = 41 + 8 * 6 + 7 * 5 + 5 * 3 + 7 * 2;
 
 #[test]
-fn sets_hold_what_clauses_admit(rt: HostRuntime) -> Result<(), Fail> {
+fn sets_hold_what_clauses_admit(rt: HostRuntime) -> Result<(), ClauseFault> {
     let (clauses, versions) = (clauses(rt.alloc())?, candidates(rt.alloc())?);
     assert!(rt; clauses.len() == CLAUSES && versions.len() == CANDIDATES);
     for clause in &clauses {
@@ -551,7 +526,7 @@ const PAIRS: [(&str, &str); 3] = [
 ];
 
 #[test]
-fn joined_sets_hold_what_both_hold(rt: HostRuntime) -> Result<(), Fail> {
+fn joined_sets_hold_what_both_hold(rt: HostRuntime) -> Result<(), ClauseFault> {
     let keys = keys(rt.alloc())?;
     for &pair in &PAIRS {
         expect_joins(&rt, pair, keys.as_slice())?;

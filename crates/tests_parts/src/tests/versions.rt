@@ -1,13 +1,11 @@
 //! Versions by PEP 440: what texts are read as, their normal texts, and their parts.
 
-use crate::tests::lines::{expect, expect_line, expect_row, expect_same};
+use crate::tests::lines::{Kind, expect, expect_lines, expect_same};
 use crate::tests::ordered::ORDERED;
-use pep_version::{Key, Label, Phase, Version, VersionFault, laws};
+use pep_version::{Key, Label, Phase, Version, VersionFault};
 use std::alloc::{AllocError, Global};
 use std::cmp::Ordering;
 use std::hash::{DefaultHasher, Hash, Hasher};
-use std::process::Abort;
-use std::test::Fail;
 use tests_kit::repeated;
 use texts::{first_part, is_separator};
 
@@ -43,45 +41,107 @@ const SPELLINGS: [(&str, &str); 25] = [
     ("0!1.0rev", "1.0.post0"),
 ];
 
+/// What a line of a version is made by.
+pub(crate) enum Line {
+    /// Its normal text.
+    Normal,
+    /// The normal text of that.
+    Again,
+    /// The text of its copy.
+    Copied,
+    /// What it appends to a text.
+    Pushed,
+    /// How many numbers its release has, and the last of them.
+    Release,
+    /// The text of its key.
+    Placed,
+    /// The text of its key's copy.
+    CopiedKey,
+    /// What its key appends to a text.
+    PushedKey,
+}
+
+impl Kind for Line {
+    type Fault = VersionFault;
+
+    fn line(&self, alloc: Global, row: &str) -> Result<String, VersionFault> {
+        line_of(alloc, self, &version_of(alloc, row)?)
+    }
+}
+
+// The version that a text is read as, or the one that is made of parts.
+fn version_of(alloc: Global, row: &str) -> Result<Version, VersionFault> {
+    match row {
+        OF_PARTS => version_of_parts(alloc),
+        _ => Version::read(alloc, row),
+    }
+}
+
+fn line_of(alloc: Global, line: &Line, version: &Version) -> Result<String, VersionFault> {
+    match line {
+        Line::Normal => version.text(alloc),
+        Line::Again => normal(alloc, version.text(alloc)?.as_str()),
+        Line::Copied => version.copied(alloc)?.text(alloc),
+        Line::Pushed => pushed(alloc, version),
+        Line::Release => release_line(alloc, version),
+        _ => key_line_of(alloc, line, &Key::of(alloc, version)?),
+    }
+}
+
+fn key_line_of(alloc: Global, line: &Line, key: &Key) -> Result<String, VersionFault> {
+    match line {
+        Line::CopiedKey => key.copied(alloc)?.version(alloc)?.text(alloc),
+        Line::PushedKey => pushed_key(alloc, key),
+        _ => key.version(alloc)?.text(alloc),
+    }
+}
+
 fn normal(alloc: Global, text: &str) -> Result<String, VersionFault> {
     Version::read(alloc, text)?.text(alloc)
 }
 
-fn expect_normal(
-    rt: &(impl Abort + AllocGlobal),
-    text: &str,
-    want: &str,
-) -> Result<(), VersionFault> {
-    let found = normal(rt.alloc(), text)?;
-    expect_row(rt, text, found.as_str(), want);
-    Ok(())
+fn pushed(alloc: Global, version: &Version) -> Result<String, VersionFault> {
+    let mut text = String::from_str(alloc, "x ")?;
+    version.push_text(&mut text)?;
+    Ok(text)
+}
+
+fn pushed_key(alloc: Global, key: &Key) -> Result<String, VersionFault> {
+    let mut text = String::from_str(alloc, "x ")?;
+    key.push_text(&mut text)?;
+    Ok(text)
+}
+
+fn release_line(alloc: Global, version: &Version) -> Result<String, VersionFault> {
+    let (count, last) = (version.release().len(), version.release().last());
+    Ok(format!(in alloc; "{count} {last:?}")?)
 }
 
 // Each normal text is its own normal text.
 #[test]
-fn reads_spellings(rt: HostRuntime) -> Result<(), Fail> {
-    for &(text, want) in &SPELLINGS {
-        expect_normal(&rt, text, want)?;
-        expect_normal(&rt, want, want)?;
-    }
-    Ok(())
-}
-
-// How many bytes the text has, how many numbers its release, and the last of them.
-fn release_line(alloc: Global, text: &str) -> Result<String, VersionFault> {
-    let version = Version::read(alloc, text)?;
-    let (bytes, count) = (text.len(), version.release().len());
-    let last = version.release().last();
-    Ok(format!(in alloc; "{bytes} {count} {last:?}")?)
+fn texts(rt: HostRuntime) -> Result<(), VersionFault> {
+    expect_lines(&rt, &Line::Normal, &SPELLINGS)?;
+    expect_lines(&rt, &Line::Again, &SPELLINGS)?;
+    expect_lines(
+        &rt,
+        &Line::Copied,
+        &[(OF_PARTS, "1!2.0rc3.post4.dev5+a0.7")],
+    )?;
+    expect_lines(
+        &rt,
+        &Line::CopiedKey,
+        &[(OF_PARTS, "1!2rc3.post4.dev5+a0.7")],
+    )?;
+    expect_lines(&rt, &Line::Pushed, &[("v1.0RC3", "x 1.0rc3")])?;
+    expect_lines(&rt, &Line::PushedKey, &[("1.0", "x 1")])
 }
 
 #[test]
-fn reads_a_long_text(rt: HostRuntime) -> Result<(), Fail> {
+fn reads_a_long_text(rt: HostRuntime) -> Result<(), VersionFault> {
     // Two characters a number, and then one more.
     let text = repeated(rt.alloc(), "1", ".0", 32_767, "7")?;
-    let line = release_line(rt.alloc(), text.as_str())?;
-    expect_line(&rt, line.as_str(), "65536 32768 Some(7)");
-    Ok(())
+    assert!(rt; text.len() == 65_536);
+    expect_lines(&rt, &Line::Release, &[(text.as_str(), "32768 Some(7)")])
 }
 
 const NO_VERSIONS: [&str; 22] = [
@@ -147,7 +207,7 @@ fn is_one_place(alloc: Global, one: &str, other: &str) -> Result<bool, VersionFa
 }
 
 #[test]
-fn joins_equal_versions(rt: HostRuntime) -> Result<(), Fail> {
+fn joins_equal_versions(rt: HostRuntime) -> Result<(), VersionFault> {
     for &(one, other) in &EQUAL {
         expect(&rt, (one, other), is_one_place(rt.alloc(), one, other)?);
     }
@@ -161,7 +221,7 @@ fn orders(alloc: Global, one: &str, other: &str) -> Result<(Ordering, Ordering),
 }
 
 #[test]
-fn orders_versions(rt: HostRuntime) -> Result<(), Fail> {
+fn orders_versions(rt: HostRuntime) -> Result<(), VersionFault> {
     for (lower, higher) in ORDERED.iter().zip(ORDERED.iter().skip(1)) {
         let found = orders(rt.alloc(), lower, higher)?;
         expect_same(&rt, lower, found, (Ordering::Less, Ordering::Greater));
@@ -180,7 +240,7 @@ fn release_order(alloc: Global, one: &str, other: &str) -> Result<Ordering, Vers
 }
 
 #[test]
-fn orders_releases(rt: HostRuntime) -> Result<(), Fail> {
+fn orders_releases(rt: HostRuntime) -> Result<(), VersionFault> {
     let same = release_order(rt.alloc(), "1.0rc3.post4.dev5+a", "1")?;
     let above = release_order(rt.alloc(), "1.0.dev1", "1.0rc1")?;
     assert!(rt; (same, above) == (Ordering::Equal, Ordering::Greater));
@@ -188,6 +248,9 @@ fn orders_releases(rt: HostRuntime) -> Result<(), Fail> {
 }
 
 // ---- parts
+
+// What stands in a row for the version that is made of parts.
+const OF_PARTS: &str = "parts";
 
 // The label `a0.7`.
 fn label(alloc: Global) -> Result<Vec<Label>, AllocError> {
@@ -223,55 +286,10 @@ fn suffixes(version: &Version) -> Suffixes {
 }
 
 #[test]
-fn keeps_parts(rt: HostRuntime) -> Result<(), Fail> {
+fn keeps_parts(rt: HostRuntime) -> Result<(), VersionFault> {
     let version = version_of_parts(rt.alloc())?;
     assert!(rt; outer_parts(&version) == (1, [2, 0].as_slice(), 2));
     assert!(rt; suffixes(&version) == (Some((Phase::Rc, 3)), Some(4), Some(5), true));
-    Ok(())
-}
-
-fn copied_text(alloc: Global) -> Result<String, VersionFault> {
-    version_of_parts(alloc)?.copied(alloc)?.text(alloc)
-}
-
-#[test]
-fn copies_versions(rt: HostRuntime) -> Result<(), Fail> {
-    let text = copied_text(rt.alloc())?;
-    expect_line(&rt, text.as_str(), "1!2.0rc3.post4.dev5+a0.7");
-    Ok(())
-}
-
-fn key_of_parts(alloc: Global) -> Result<Key, VersionFault> {
-    Key::of(alloc, &version_of_parts(alloc)?)
-}
-
-fn copied_key_text(alloc: Global) -> Result<String, VersionFault> {
-    key_of_parts(alloc)?
-        .copied(alloc)?
-        .version(alloc)?
-        .text(alloc)
-}
-
-#[test]
-fn copies_keys(rt: HostRuntime) -> Result<(), Fail> {
-    let text = copied_key_text(rt.alloc())?;
-    expect_line(&rt, text.as_str(), "1!2rc3.post4.dev5+a0.7");
-    Ok(())
-}
-
-// What a version appends to a text, and behind it a key.
-fn appended(alloc: Global) -> Result<String, VersionFault> {
-    let mut text = String::from_str(alloc, "x ")?;
-    Version::read(alloc, "v1.0RC3")?.push_text(&mut text)?;
-    text.push_str(" ")?;
-    key(alloc, "1.0")?.push_text(&mut text)?;
-    Ok(text)
-}
-
-#[test]
-fn appends_texts(rt: HostRuntime) -> Result<(), Fail> {
-    let text = appended(rt.alloc())?;
-    expect_line(&rt, text.as_str(), "x 1.0rc3 1");
     Ok(())
 }
 
@@ -289,7 +307,7 @@ fn is_word(alloc: Global, word: &str) -> Result<bool, AllocError> {
 }
 
 #[test]
-fn refuses_parts(rt: HostRuntime) -> Result<(), Fail> {
+fn refuses_parts(rt: HostRuntime) -> Result<(), AllocError> {
     assert!(rt; !is_version_without_numbers(rt.alloc()));
     for word in &["", "1", "A", "a-b", "é"] {
         expect(&rt, word, !is_word(rt.alloc(), word)?);
@@ -305,14 +323,4 @@ fn splits_texts(rt: HostRuntime) {
     for byte in 0..=255_u8 {
         expect(&rt, byte, is_separator(byte) == b"-_.".contains(&byte));
     }
-}
-
-#[test]
-fn states_laws() {
-    laws::order_is_total();
-    laws::order_of_places();
-    laws::one_place();
-    laws::one_version();
-    laws::text_is_read();
-    laws::text_bytes();
 }

@@ -4,18 +4,30 @@ use crate::tests::lines::expect_row;
 use pep_clause::{Clause, ClauseFault, VersionSet};
 use places::{Bounds, LeftOut, Place, PlaceRanges};
 use std::alloc::Global;
-use std::test::Fail;
+
+// The text, and the other one behind it where they differ.
+fn one_text(alloc: Global, text: &str, other: &str) -> Result<String, ClauseFault> {
+    if text == other {
+        Ok(String::from_str(alloc, text)?)
+    } else {
+        Ok(format!(in alloc; "{text}, and {other}")?)
+    }
+}
+
+fn text_of_cut(alloc: Global, place: Place) -> Result<String, ClauseFault> {
+    place.cut(alloc)?.text(alloc)
+}
+
+fn pushed(alloc: Global, place: Place) -> Result<String, ClauseFault> {
+    let mut pushed = String::new(alloc);
+    place.push_text(&mut pushed)?;
+    Ok(pushed)
+}
 
 // The text of a place's cut, by the cut and by the place.
 fn place_text(alloc: Global, place: Place) -> Result<String, ClauseFault> {
-    let text = place.cut(alloc)?.text(alloc)?;
-    let mut pushed = String::new(alloc);
-    place.push_text(&mut pushed)?;
-    if text.as_str() == pushed.as_str() {
-        Ok(text)
-    } else {
-        Ok(format!(in alloc; "{text}, pushed as {pushed}")?)
-    }
+    let text = text_of_cut(alloc, place)?;
+    one_text(alloc, text.as_str(), pushed(alloc, place)?.as_str())
 }
 
 // The two places.
@@ -25,17 +37,24 @@ fn bounds_text(alloc: Global, bounds: Bounds) -> Result<String, ClauseFault> {
     Ok(format!(in alloc; "{low} to {high}")?)
 }
 
-// The cuts between which the clause of this text admits versions, or leaves them out, where both have a place.
-fn bounds_line(alloc: Global, text: &str) -> Result<String, ClauseFault> {
-    let clause = Clause::read(alloc, text)?;
-    if let Some(bounds) = Bounds::of(&clause) {
-        return bounds_text(alloc, bounds);
-    }
-    let Some(bounds) = Bounds::left_out(&clause) else {
-        return Ok(String::from_str(alloc, "none")?);
-    };
+fn left_out_text(alloc: Global, bounds: Bounds) -> Result<String, ClauseFault> {
     let text = bounds_text(alloc, bounds)?;
     Ok(format!(in alloc; "not {text}")?)
+}
+
+// The bounds of the clause of a text, and of what it leaves out.
+fn both_bounds(alloc: Global, text: &str) -> Result<(Option<Bounds>, Option<Bounds>), ClauseFault> {
+    let clause = Clause::read(alloc, text)?;
+    Ok((Bounds::of(&clause), Bounds::left_out(&clause)))
+}
+
+// The cuts between which the clause of this text admits versions, or leaves them out, where both have a place.
+fn bounds_line(alloc: Global, text: &str) -> Result<String, ClauseFault> {
+    match both_bounds(alloc, text)? {
+        (Some(bounds), _) => bounds_text(alloc, bounds),
+        (None, Some(bounds)) => left_out_text(alloc, bounds),
+        (None, None) => Ok(String::from_str(alloc, "none")?),
+    }
 }
 
 // Clauses, and the cuts between which they admit versions. No place is past a release, after a label, in another
@@ -96,7 +115,7 @@ const BOUNDS: [(&str, &str); 46] = [
 ];
 
 #[test]
-fn bounds(rt: HostRuntime) -> Result<(), Fail> {
+fn bounds(rt: HostRuntime) -> Result<(), ClauseFault> {
     for &(text, want) in &BOUNDS {
         let line = bounds_line(rt.alloc(), text)?;
         expect_row(&rt, text, line.as_str(), want);
@@ -108,8 +127,7 @@ fn bounds(rt: HostRuntime) -> Result<(), Fail> {
 fn left_over_by(alloc: Global, clauses: &[&str]) -> Result<LeftOut, ClauseFault> {
     let mut left_out = LeftOut::none(alloc);
     for text in clauses {
-        let clause = Clause::read(alloc, text)?;
-        if let Some(bounds) = Bounds::left_out(&clause) {
+        if let (_, Some(bounds)) = both_bounds(alloc, text)? {
             left_out.leave_out(alloc, bounds)?;
         }
     }
@@ -138,19 +156,29 @@ fn set_text(alloc: Global, set: &VersionSet) -> Result<String, ClauseFault> {
     Ok(text)
 }
 
-// The ranges of what is left over between the bounds of a clause, by their places and by the set of them.
-fn left_line(alloc: Global, within: &str, clauses: &[&str]) -> Result<String, ClauseFault> {
-    let clause = Clause::read(alloc, within)?;
-    let Some(bounds) = Bounds::of(&clause) else {
-        return Ok(String::from_str(alloc, "none")?);
-    };
-    let ranges = left_over_by(alloc, clauses)?.between(alloc, bounds)?;
+fn ranges_between(
+    alloc: Global,
+    clauses: &[&str],
+    bounds: Bounds,
+) -> Result<PlaceRanges, ClauseFault> {
+    left_over_by(alloc, clauses)?.between(alloc, bounds)
+}
+
+fn text_of_set(alloc: Global, ranges: PlaceRanges) -> Result<String, ClauseFault> {
+    set_text(alloc, &ranges.into_set(alloc)?)
+}
+
+// Ranges by their places, and by the set of them.
+fn ranges_line(alloc: Global, ranges: PlaceRanges) -> Result<String, ClauseFault> {
     let text = ranges_text(alloc, &ranges)?;
-    let set = set_text(alloc, &ranges.into_set(alloc)?)?;
-    if text.as_str() == set.as_str() {
-        Ok(text)
-    } else {
-        Ok(format!(in alloc; "{text} as a set {set}")?)
+    one_text(alloc, text.as_str(), text_of_set(alloc, ranges)?.as_str())
+}
+
+// The ranges of what is left over between the bounds of a clause.
+fn left_line(alloc: Global, within: &str, clauses: &[&str]) -> Result<String, ClauseFault> {
+    match both_bounds(alloc, within)? {
+        (Some(bounds), _) => ranges_line(alloc, ranges_between(alloc, clauses, bounds)?),
+        (None, _) => Ok(String::from_str(alloc, "none")?),
     }
 }
 
@@ -188,7 +216,7 @@ const LEFT: [(&str, &[&str], &str); 10] = [
 ];
 
 #[test]
-fn left_over(rt: HostRuntime) -> Result<(), Fail> {
+fn left_over(rt: HostRuntime) -> Result<(), ClauseFault> {
     for &(within, clauses, want) in &LEFT {
         let line = left_line(rt.alloc(), within, clauses)?;
         expect_row(&rt, within, line.as_str(), want);

@@ -3,7 +3,6 @@
 use crate::tests::lines::expect_line;
 use pep_table::TableFault;
 use std::alloc::{AllocError, Global};
-use std::test::Fail;
 
 const FAULTS: [(TableFault, &str); 4] = [
     (
@@ -28,7 +27,7 @@ fn fault_line(alloc: Global, fault: TableFault) -> Result<String, AllocError> {
 }
 
 #[test]
-fn faults(rt: HostRuntime) -> Result<(), Fail> {
+fn faults(rt: HostRuntime) -> Result<(), AllocError> {
     for &(fault, want) in &FAULTS {
         let line = fault_line(rt.alloc(), fault)?;
         expect_line(&rt, line.as_str(), want);

@@ -1,11 +1,11 @@
 //! Headers of texts of tables: those of the environment at hand, of others, and those that none has.
 
-use crate::tests::lines::{expect_line, expect_row};
+use crate::tests::lines::expect_row;
 use crate::tests::tables::table;
 use pep_marker::{Environment, Name};
 use pep_table::{Table, TableFault};
 use std::alloc::{AllocError, Global};
-use std::test::Fail;
+use std::process::Abort;
 use tests_kit::{MACHINE, MACHINE_HEADER};
 
 // The lines of a table, which stand behind a header as lines 14 and 15.
@@ -22,31 +22,28 @@ fn machine_with(alloc: Global, extra: &'static str) -> Result<Environment, Table
 }
 
 // What is told of a text: its code and its line.
-fn told_line(alloc: Global, found: Result<Table, TableFault>) -> Result<String, TableFault> {
-    match found {
-        Ok(_) => Ok(String::from_str(alloc, "read")?),
-        Err(TableFault::BadTable(line)) => Ok(format!(in alloc; "41 {line}")?),
-        Err(TableFault::OtherEnvironment(line)) => Ok(format!(in alloc; "43 {line}")?),
-        Err(fault) => Err(fault),
-    }
+fn told_line(alloc: Global, fault: Option<TableFault>) -> Result<String, TableFault> {
+    let (code, line) = match fault {
+        None => return Ok(String::from_str(alloc, "read")?),
+        Some(TableFault::BadTable(line)) => (41, line),
+        Some(TableFault::OtherEnvironment(line)) => (43, line),
+        Some(other) => return Err(other),
+    };
+    Ok(format!(in alloc; "{code} {line}")?)
 }
 
 // What is told where the text is read on the machine with an extra, and where a name is looked for in it.
 fn told(alloc: Global, text: &str, extra: &'static str) -> Result<String, TableFault> {
     let environment = machine_with(alloc, extra)?;
-    let whole = told_line(alloc, Table::read(alloc, text, &environment))?;
-    let part = told_of_name(alloc, text, &environment)?;
+    let whole = told_line(alloc, Table::read(alloc, text, &environment).err())?;
+    let part = told_line(alloc, fault_of_name(alloc, text, &environment))?;
     Ok(format!(in alloc; "{whole}, {part}")?)
 }
 
-fn told_of_name(
-    alloc: Global,
-    text: &str,
-    environment: &Environment,
-) -> Result<String, TableFault> {
+fn fault_of_name(alloc: Global, text: &str, environment: &Environment) -> Option<TableFault> {
     match Name::read(alloc, "z") {
-        Ok(name) => told_line(alloc, Table::read_named(alloc, text, environment, &name)),
-        Err(_) => Err(TableFault::NoMemory),
+        Ok(name) => Table::read_named(alloc, text, environment, &name).err(),
+        Err(_) => Some(TableFault::NoMemory),
     }
 }
 
@@ -102,32 +99,22 @@ const CHANGES: [(usize, &str, &str); 33] = [
     (15, "  range before 2 to end", "41 15, 41 15"),
 ];
 
-fn changed_line(alloc: Global, number: usize, other: &str) -> Result<String, TableFault> {
-    told(alloc, with_line(alloc, number, other)?.as_str(), "")
-}
-
-#[test]
-fn changed_lines(rt: HostRuntime) -> Result<(), Fail> {
-    for &(number, other, want) in &CHANGES {
-        let found = changed_line(rt.alloc(), number, other)?;
-        expect_row(&rt, other, found.as_str(), want);
-    }
-    Ok(())
-}
-
-// Texts that end in their header, of which the last line is told.
-const CUTS: [(&str, &str); 5] = [
-    ("pep-table 2", "41 1, 41 1"),
-    ("pep-table 2\n", "41 1, 41 1"),
-    ("pep-table 2\nenv os_name=posix", "41 2, 41 2"),
-    ("pep-table 2\nenv os_name=posix\n", "41 2, 41 2"),
-    ("pep-table 2\nenv os_name=posix\n\n", "41 3, 41 3"),
+// Texts that are read with an extra: those that end in their header, of which the last line is told, and
+// the header alone.
+const HEADERS: [(&str, &str, &str); 7] = [
+    (MACHINE_HEADER, "", "read, read"),
+    (MACHINE_HEADER, "x", "43 13, 43 13"),
+    ("pep-table 2", "", "41 1, 41 1"),
+    ("pep-table 2\n", "", "41 1, 41 1"),
+    ("pep-table 2\nenv os_name=posix", "", "41 2, 41 2"),
+    ("pep-table 2\nenv os_name=posix\n", "", "41 2, 41 2"),
+    ("pep-table 2\nenv os_name=posix\n\n", "", "41 3, 41 3"),
 ];
 
 #[test]
-fn cut_headers(rt: HostRuntime) -> Result<(), Fail> {
-    for &(text, want) in &CUTS {
-        let found = told(rt.alloc(), text, "")?;
+fn headers(rt: HostRuntime) -> Result<(), TableFault> {
+    for &(text, extra, want) in &HEADERS {
+        let found = told(rt.alloc(), text, extra)?;
         expect_row(&rt, text, found.as_str(), want);
     }
     Ok(())
@@ -146,17 +133,31 @@ const CHANGES_ELSEWHERE: [(usize, &str, &str); 8] = [
     (16, "flask open\n", "41 16, 41 16"),
 ];
 
-fn changed_line_elsewhere(alloc: Global, number: usize, other: &str) -> Result<String, TableFault> {
-    told(alloc, with_line(alloc, number, other)?.as_str(), "X_y")
+fn changed_line(
+    alloc: Global,
+    number: usize,
+    other: &str,
+    extra: &'static str,
+) -> Result<String, TableFault> {
+    told(alloc, with_line(alloc, number, other)?.as_str(), extra)
+}
+
+fn expect_changes(
+    rt: &(impl Abort + AllocGlobal),
+    extra: &'static str,
+    rows: &[(usize, &str, &str)],
+) -> Result<(), TableFault> {
+    for &(number, other, want) in rows {
+        let found = changed_line(rt.alloc(), number, other, extra)?;
+        expect_row(rt, other, found.as_str(), want);
+    }
+    Ok(())
 }
 
 #[test]
-fn changed_lines_elsewhere(rt: HostRuntime) -> Result<(), Fail> {
-    for &(number, other, want) in &CHANGES_ELSEWHERE {
-        let found = changed_line_elsewhere(rt.alloc(), number, other)?;
-        expect_row(&rt, other, found.as_str(), want);
-    }
-    Ok(())
+fn changed_lines(rt: HostRuntime) -> Result<(), TableFault> {
+    expect_changes(&rt, "", &CHANGES)?;
+    expect_changes(&rt, "X_y", &CHANGES_ELSEWHERE)
 }
 
 // What is told where a text that is printed with one extra is read with another.
@@ -181,7 +182,7 @@ const EXTRAS: [(&str, &str, &str); 6] = [
 ];
 
 #[test]
-fn extras(rt: HostRuntime) -> Result<(), Fail> {
+fn extras(rt: HostRuntime) -> Result<(), TableFault> {
     for &(extra, other, want) in &EXTRAS {
         let found = read_elsewhere(rt.alloc(), extra, other)?;
         expect_row(&rt, extra, found.as_str(), want);
@@ -195,16 +196,8 @@ fn empty_line(alloc: Global) -> Result<String, TableFault> {
 }
 
 #[test]
-fn a_header_alone(rt: HostRuntime) -> Result<(), Fail> {
+fn a_header_alone(rt: HostRuntime) -> Result<(), TableFault> {
     let line = empty_line(rt.alloc())?;
-    expect_line(&rt, line.as_str(), MACHINE_HEADER);
-    let told = told(rt.alloc(), MACHINE_HEADER, "")?;
-    expect_line(&rt, told.as_str(), "read, read");
-    let told = told_in_other_environment(rt.alloc())?;
-    expect_line(&rt, told.as_str(), "43 13, 43 13");
+    expect_row(&rt, "empty", line.as_str(), MACHINE_HEADER);
     Ok(())
-}
-
-fn told_in_other_environment(alloc: Global) -> Result<String, TableFault> {
-    told(alloc, MACHINE_HEADER, "x")
 }

@@ -1,32 +1,46 @@
 //! Tables that are larger than a body that gives up early would take.
 
-use crate::tests::lines::{expect_line, expect_same};
+use crate::tests::lines::{expect, expect_line, expect_same};
 use crate::tests::tables::{
-    answer, entry, gathered, lines_of, machine, name, requirement, table, table_of, verdict,
+    answer, entry, gathered, lines_of, machine, requirement, table, table_of, taken, verdict,
 };
 use pep_clause::ClauseFault;
 use pep_marker::Environment;
 use pep_require::Requirement;
 use pep_table::{Answer, Entry, Gathering, Join, Table, TableFault, Verdict, join_all};
 use std::alloc::{AllocError, Global};
-use std::ops::Range;
-use std::process::Abort;
 use std::test::Fail;
 use tests_kit::push_numbered;
 
-// Appends a requirement for each number, which stands between the two texts, from the last to the first.
-fn push_lines(
-    alloc: Global,
-    lines: &mut Vec<Requirement>,
-    before: &str,
-    numbers: Range<u32>,
-    after: &str,
-) -> Result<(), TableFault> {
-    for number in numbers.rev() {
+// What stands before a number, the first number and the one behind the last, and what stands after it.
+type Part = (&'static str, u32, u32, &'static str);
+
+// Appends a requirement for each number, from the last to the first.
+fn push_part(alloc: Global, lines: &mut Vec<Requirement>, part: Part) -> Result<(), TableFault> {
+    let (before, first, end, after) = part;
+    for number in (first..end).rev() {
         let line = format!(in alloc; "{before}{number}{after}")?;
         lines.push(requirement(alloc, line.as_str())?)?;
     }
     Ok(())
+}
+
+fn requirements_of(alloc: Global, parts: &[Part]) -> Result<Vec<Requirement>, TableFault> {
+    let mut lines = Vec::new(alloc);
+    for part in parts {
+        push_part(alloc, &mut lines, *part)?;
+    }
+    Ok(lines)
+}
+
+// The text of the parts behind a front, and what stands behind them.
+fn text_of(alloc: Global, front: &str, parts: &[Part], behind: &str) -> Result<String, AllocError> {
+    let mut text = String::from_str(alloc, front)?;
+    for &(before, first, end, after) in parts {
+        push_numbered(alloc, &mut text, before, first..end, after)?;
+    }
+    text.push_str(behind)?;
+    Ok(text)
 }
 
 // Whether what is gathered of the table is the same.
@@ -46,16 +60,13 @@ fn has_lines(alloc: Global, table: &Table, lines: &str) -> Result<bool, TableFau
     Ok(lines_of(alloc, table)?.as_str() == lines && read == *table)
 }
 
-// The table has the lines, and so has what is made of it.
-fn expect_table(
-    rt: &(impl Abort + AllocGlobal),
-    table: &Table,
-    wanted: &str,
-) -> Result<(), TableFault> {
-    assert!(rt; has_lines(rt.alloc(), table, wanted)?);
-    assert!(rt; is_gathered(rt.alloc(), table)?);
-    assert!(rt; is_copied_and_joined(rt.alloc(), table)?);
-    Ok(())
+// Whether the table has the lines, and so has what is made of it.
+fn is_table(alloc: Global, table: &Table, wanted: &str) -> Result<bool, TableFault> {
+    Ok(
+        has_lines(alloc, table, wanted)?
+            && is_gathered(alloc, table)?
+            && is_copied_and_joined(alloc, table)?,
+    )
 }
 
 // Whether what is copied of the entry of `a`, and joined to it, is the same.
@@ -66,39 +77,31 @@ fn is_entry(alloc: Global, table: &Table) -> Result<bool, TableFault> {
 
 // ---- requirements of different names
 
-fn names(alloc: Global) -> Result<Vec<Requirement>, TableFault> {
-    let mut lines = Vec::new(alloc);
-    push_lines(alloc, &mut lines, "N", 1_000..3_000, ">=1")?;
-    Ok(lines)
-}
+const NAMES: [Part; 1] = [("N", 1_000, 3_000, ">=1")];
 
-fn table_of_names(alloc: Global) -> Result<Table, TableFault> {
-    table_of(alloc, names(alloc)?.as_slice())
-}
+const NAMES_TEXT: [Part; 1] = [("n", 1_000, 3_000, " open\n  range before 1 to end\n")];
 
-fn names_text(alloc: Global) -> Result<String, AllocError> {
-    let mut text = String::new(alloc);
-    let rest = " open\n  range before 1 to end\n";
-    push_numbered(alloc, &mut text, "n", 1_000..3_000, rest)?;
-    Ok(text)
+fn table_of_parts(alloc: Global, parts: &[Part]) -> Result<Table, TableFault> {
+    table_of(alloc, requirements_of(alloc, parts)?.as_slice())
 }
 
 #[test]
-fn table_of_many_names(rt: HostRuntime) -> Result<(), Fail> {
-    let table = table_of_names(rt.alloc())?;
-    expect_table(&rt, &table, names_text(rt.alloc())?.as_str())?;
+fn table_of_many_names(rt: HostRuntime) -> Result<(), TableFault> {
+    let table = table_of_parts(rt.alloc(), &NAMES)?;
+    let text = text_of(rt.alloc(), "", &NAMES_TEXT, "")?;
+    expect(&rt, "names", is_table(rt.alloc(), &table, text.as_str())?);
     Ok(())
 }
 
 // Why there is no table of these names and another line behind them.
 fn fault_behind_names(alloc: Global, line: &str) -> Result<Option<TableFault>, TableFault> {
-    let mut lines = names(alloc)?;
+    let mut lines = requirements_of(alloc, &NAMES)?;
     lines.push(requirement(alloc, line)?)?;
     Ok(table_of(alloc, lines.as_slice()).err())
 }
 
 #[test]
-fn undefined_behind_many_names(rt: HostRuntime) -> Result<(), Fail> {
+fn undefined_behind_many_names(rt: HostRuntime) -> Result<(), TableFault> {
     let fault = fault_behind_names(rt.alloc(), "b; 'dog' ~= 'fred'")?;
     assert!(rt; fault == Some(TableFault::Undefined(2_001)));
     Ok(())
@@ -106,49 +109,42 @@ fn undefined_behind_many_names(rt: HostRuntime) -> Result<(), Fail> {
 
 // ---- demands on one name
 
-fn demands(alloc: Global) -> Result<Vec<Requirement>, TableFault> {
-    let mut lines = Vec::new(alloc);
-    push_lines(alloc, &mut lines, "a @ https://x.test/", 1_000..2_500, "")?;
-    push_lines(alloc, &mut lines, "a===1.", 1_000..2_500, "")?;
-    push_lines(alloc, &mut lines, "a[x", 1_000..3_000, "]")?;
-    Ok(lines)
-}
+const DEMANDS: [Part; 3] = [
+    ("a @ https://x.test/", 1_000, 2_500, ""),
+    ("a===1.", 1_000, 2_500, ""),
+    ("a[x", 1_000, 3_000, "]"),
+];
 
-fn table_of_demands(alloc: Global) -> Result<Table, TableFault> {
-    table_of(alloc, demands(alloc)?.as_slice())
-}
+const DEMANDS_TEXT: [Part; 3] = [
+    ("  extra x", 1_000, 3_000, "\n"),
+    ("  url https://x.test/", 1_000, 2_500, "\n"),
+    ("  text 1.", 1_000, 2_500, "\n"),
+];
 
-fn demands_text(alloc: Global) -> Result<String, AllocError> {
-    let mut text = String::from_str(alloc, "a conflict\n")?;
-    push_numbered(alloc, &mut text, "  extra x", 1_000..3_000, "\n")?;
-    push_numbered(
-        alloc,
-        &mut text,
-        "  url https://x.test/",
-        1_000..2_500,
-        "\n",
-    )?;
-    push_numbered(alloc, &mut text, "  text 1.", 1_000..2_500, "\n")?;
-    text.push_str("  range before 0.dev0 to end\n")?;
-    Ok(text)
+const ALL_VERSIONS: &str = "  range before 0.dev0 to end\n";
+
+// Whether the table has the lines, and so has what is made of it and of the entry of `a`.
+fn is_table_of_a(alloc: Global, table: &Table, wanted: &str) -> Result<bool, TableFault> {
+    Ok(is_table(alloc, table, wanted)? && is_entry(alloc, table)?)
 }
 
 #[test]
-fn table_of_many_demands(rt: HostRuntime) -> Result<(), Fail> {
-    let table = table_of_demands(rt.alloc())?;
-    expect_table(&rt, &table, demands_text(rt.alloc())?.as_str())?;
-    assert!(rt; is_entry(rt.alloc(), &table)?);
+fn table_of_many_demands(rt: HostRuntime) -> Result<(), TableFault> {
+    let table = table_of_parts(rt.alloc(), &DEMANDS)?;
+    let text = text_of(rt.alloc(), "a conflict\n", &DEMANDS_TEXT, ALL_VERSIONS)?;
+    expect(
+        &rt,
+        "demands",
+        is_table_of_a(rt.alloc(), &table, text.as_str())?,
+    );
     Ok(())
 }
 
 // ---- one requirement with many extras and clauses
 
 fn long_line(alloc: Global) -> Result<String, AllocError> {
-    let mut line = String::from_str(alloc, "a[x1199")?;
-    push_numbered(alloc, &mut line, ",x", 1_000..1_199, "")?;
-    line.push_str("]")?;
-    push_numbered(alloc, &mut line, "!=", 1_000..1_200, ",")?;
-    Ok(line)
+    let extras = text_of(alloc, "a[x1199", &[(",x", 1_000, 1_199, "")], "]")?;
+    text_of(alloc, extras.as_str(), &[("!=", 1_000, 1_200, ",")], "")
 }
 
 // From what lies behind one of the numbers to the next.
@@ -162,8 +158,7 @@ fn push_ranges(alloc: Global, text: &mut String) -> Result<(), AllocError> {
 }
 
 fn long_line_text(alloc: Global) -> Result<String, AllocError> {
-    let mut text = String::from_str(alloc, "a open\n")?;
-    push_numbered(alloc, &mut text, "  extra x", 1_000..1_200, "\n")?;
+    let mut text = text_of(alloc, "a open\n", &[("  extra x", 1_000, 1_200, "\n")], "")?;
     push_ranges(alloc, &mut text)?;
     Ok(text)
 }
@@ -173,17 +168,16 @@ fn table_of_line(alloc: Global) -> Result<Table, TableFault> {
 }
 
 #[test]
-fn table_of_a_long_line(rt: HostRuntime) -> Result<(), Fail> {
+fn table_of_a_long_line(rt: HostRuntime) -> Result<(), TableFault> {
     let table = table_of_line(rt.alloc())?;
-    expect_table(&rt, &table, long_line_text(rt.alloc())?.as_str())?;
-    assert!(rt; is_entry(rt.alloc(), &table)?);
-    Ok(())
-}
-
-#[test]
-fn verdict_of_many_ranges(rt: HostRuntime) -> Result<(), Fail> {
-    let table = table_of_line(rt.alloc())?;
-    assert!(rt; verdict(rt.alloc(), &table)? == Some(Verdict::Possible));
+    let text = long_line_text(rt.alloc())?;
+    expect(
+        &rt,
+        "line",
+        is_table_of_a(rt.alloc(), &table, text.as_str())?,
+    );
+    let verdict = verdict(rt.alloc(), &table)?;
+    expect(&rt, "verdict", verdict == Some(Verdict::Possible));
     Ok(())
 }
 
@@ -194,7 +188,7 @@ fn long_line_answer(alloc: Global, version: &str) -> Result<Answer, TableFault> 
 const ANSWERS: [(&str, Answer); 2] = [("1199", Answer::No), ("1199.1", Answer::Yes)];
 
 #[test]
-fn answers_of_many_ranges(rt: HostRuntime) -> Result<(), Fail> {
+fn answers_of_many_ranges(rt: HostRuntime) -> Result<(), TableFault> {
     for &(version, wanted) in &ANSWERS {
         let answer = long_line_answer(rt.alloc(), version)?;
         expect_same(&rt, version, answer, wanted);
@@ -220,12 +214,14 @@ fn tables(alloc: Global) -> Result<Vec<Table>, TableFault> {
 }
 
 fn tables_text(alloc: Global) -> Result<String, AllocError> {
-    let mut text = String::from_str(alloc, "a open\n")?;
-    push_numbered(alloc, &mut text, "  extra x", 100..300, "\n")?;
-    text.push_str("  range before 299 to end\n")?;
+    let a = text_of(
+        alloc,
+        "a open\n",
+        &[("  extra x", 100, 300, "\n")],
+        "  range before 299 to end\n",
+    )?;
     let rest = " open\n  range before 0.dev0 to end\n";
-    push_numbered(alloc, &mut text, "n", 100..300, rest)?;
-    Ok(text)
+    text_of(alloc, a.as_str(), &[("n", 100, 300, rest)], "")
 }
 
 // The join of all tables.
@@ -238,40 +234,22 @@ fn joined_back(alloc: Global) -> Result<Table, TableFault> {
     join_all(alloc, Table::empty(alloc), tables(alloc)?.iter().rev())
 }
 
+// The same, gathered.
+fn all_gathered(alloc: Global) -> Result<Table, TableFault> {
+    gathered(alloc, tables(alloc)?.as_slice())
+}
+
 #[test]
-fn join_of_many_tables(rt: HostRuntime) -> Result<(), Fail> {
+fn join_of_many_tables(rt: HostRuntime) -> Result<(), TableFault> {
     let joined = joined(rt.alloc())?;
-    assert!(rt; lines_of(rt.alloc(), &joined)? == tables_text(rt.alloc())?);
-    assert!(rt; joined_back(rt.alloc())? == joined);
-    Ok(())
-}
-
-fn gathered_text(alloc: Global) -> Result<String, TableFault> {
-    lines_of(alloc, &gathered(alloc, tables(alloc)?.as_slice())?)
-}
-
-#[test]
-fn many_tables_are_gathered(rt: HostRuntime) -> Result<(), Fail> {
-    let text = gathered_text(rt.alloc())?;
-    assert!(rt; text == tables_text(rt.alloc())?);
+    let text = tables_text(rt.alloc())?;
+    expect(&rt, "joined", lines_of(rt.alloc(), &joined)? == text);
+    expect(&rt, "joined back", joined_back(rt.alloc())? == joined);
+    expect(&rt, "gathered", all_gathered(rt.alloc())? == joined);
     Ok(())
 }
 
 // ---- requirements one by one
-
-// What is demanded so far, and by the line.
-fn taken(
-    alloc: Global,
-    gathering: Gathering,
-    machine: &Environment,
-    line: &str,
-) -> Result<Gathering, TableFault> {
-    let requirement = requirement(alloc, line)?;
-    match gathering.take_applying(alloc, &requirement, machine) {
-        Ok(more) => Ok(more),
-        Err(_) => Err(TableFault::NoMemory),
-    }
-}
 
 // What is demanded so far, and of the name with the number.
 fn taken_name(
@@ -303,7 +281,7 @@ fn gathered_names_text(alloc: Global) -> Result<String, AllocError> {
 }
 
 #[test]
-fn many_names(rt: HostRuntime) -> Result<(), Fail> {
+fn many_names(rt: HostRuntime) -> Result<(), TableFault> {
     let table = gathered_names(rt.alloc())?;
     assert!(rt; lines_of(rt.alloc(), &table)? == gathered_names_text(rt.alloc())?);
     assert!(rt; entry(rt.alloc(), &table, "n29999").is_ok());

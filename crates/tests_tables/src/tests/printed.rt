@@ -7,7 +7,6 @@ use pep_require::Requirement;
 use pep_table::{Join, Table, TableFault};
 use std::alloc::{AllocError, Global};
 use std::process::Abort;
-use std::test::Fail;
 use tests_kit::{MACHINE_HEADER, Numbers, push_numbered, repeated};
 
 // A table with all kinds of lines and verdicts.
@@ -77,7 +76,10 @@ fn line_of(alloc: Global, table: &Table, text: &str) -> Result<usize, TableFault
     Ok(if is_own { 0 } else { ANOTHER })
 }
 
-fn expect_lines(rt: &(impl Abort + AllocGlobal), rows: &[(&str, usize)]) -> Result<(), TableFault> {
+fn expect_bad_lines(
+    rt: &(impl Abort + AllocGlobal),
+    rows: &[(&str, usize)],
+) -> Result<(), TableFault> {
     for &(text, wanted) in rows {
         let line = bad_line(rt.alloc(), text)?;
         expect_same(rt, text, line, wanted);
@@ -215,13 +217,12 @@ const RANGES: [(&str, usize); 20] = [
 ];
 
 #[test]
-fn lines_that_cannot_stand(rt: HostRuntime) -> Result<(), Fail> {
-    expect_lines(&rt, &WHOLE)?;
-    expect_lines(&rt, &NAMES_AND_VERDICTS)?;
-    expect_lines(&rt, &FIRST_LINES)?;
-    expect_lines(&rt, &ITEMS)?;
-    expect_lines(&rt, &RANGES)?;
-    Ok(())
+fn lines_that_cannot_stand(rt: HostRuntime) -> Result<(), TableFault> {
+    expect_bad_lines(&rt, &WHOLE)?;
+    expect_bad_lines(&rt, &NAMES_AND_VERDICTS)?;
+    expect_bad_lines(&rt, &FIRST_LINES)?;
+    expect_bad_lines(&rt, &ITEMS)?;
+    expect_bad_lines(&rt, &RANGES)
 }
 
 // ---- changes of one line of the table
@@ -269,20 +270,6 @@ fn bad_line_with(
     bad_line(alloc, replaced(alloc, from, count, others)?.as_str())
 }
 
-// The same where one line is left out, stands twice, or is swapped with the next.
-fn bad_line_without(alloc: Global, index: usize) -> Result<usize, TableFault> {
-    bad_line_with(alloc, index, 1, &[])
-}
-
-fn bad_line_with_two(alloc: Global, index: usize) -> Result<usize, TableFault> {
-    bad_line_with(alloc, index, 1, &[line_at(index), line_at(index)])
-}
-
-fn bad_line_with_swapped(alloc: Global, index: usize) -> Result<usize, TableFault> {
-    let next = line_at(index.saturating_add(1));
-    bad_line_with(alloc, index, 2, &[next, line_at(index)])
-}
-
 // The same where something stands in front of a line, and behind it.
 fn bad_line_between(
     alloc: Global,
@@ -294,85 +281,73 @@ fn bad_line_between(
     bad_line_with(alloc, index, 1, &[line.as_str()])
 }
 
-#[test]
-fn the_lines_are_a_table(rt: HostRuntime) -> Result<(), Fail> {
-    assert!(rt; bad_line_with(rt.alloc(), 0, 0, &[])? == 0);
-    Ok(())
+// What is done with a line of the table.
+enum Change {
+    Nothing,
+    LeftOut,
+    Twice,
+    // It is swapped with the next.
+    Swapped,
+    // Something stands in front of it and behind it.
+    Between(&'static str, &'static str),
+    // Another stands in its place.
+    Instead(&'static str),
 }
 
-// Which line can't stand without each of the lines, 0 where the text is a table's.
-const WITHOUT: [usize; 11] = [1, 0, 0, 1, 1, 0, 0, 0, 9, 9, 0];
-
-#[test]
-fn lines_left_out(rt: HostRuntime) -> Result<(), Fail> {
-    for (index, wanted) in WITHOUT.iter().enumerate() {
-        let line = bad_line_without(rt.alloc(), index)?;
-        expect_same(&rt, index, line, *wanted);
+// The line that can't stand behind the change of the line with this index, 0 where the text is a table's.
+fn bad_line_of(alloc: Global, change: &Change, index: usize) -> Result<usize, TableFault> {
+    let (line, next) = (line_at(index), line_at(index.saturating_add(1)));
+    match *change {
+        Change::Nothing => bad_line_with(alloc, index, 0, &[]),
+        Change::LeftOut => bad_line_with(alloc, index, 1, &[]),
+        Change::Twice => bad_line_with(alloc, index, 1, &[line, line]),
+        Change::Swapped => bad_line_with(alloc, index, 2, &[next, line]),
+        Change::Between(front, behind) => bad_line_between(alloc, index, front, behind),
+        Change::Instead(other) => bad_line_with(alloc, index, 1, &[other]),
     }
-    Ok(())
 }
 
-#[test]
-fn lines_that_stand_twice(rt: HostRuntime) -> Result<(), Fail> {
-    for index in 0..LINES.len() {
-        let line = bad_line_with_two(rt.alloc(), index)?;
-        expect_same(&rt, index, line, index + 2);
-    }
-    Ok(())
-}
-
-// Which line can't stand where each line is swapped with the next.
-const SWAPPED: [usize; 10] = [1, 3, 4, 5, 6, 7, 8, 10, 9, 9];
-
-#[test]
-fn swapped_lines(rt: HostRuntime) -> Result<(), Fail> {
-    for (index, wanted) in SWAPPED.iter().enumerate() {
-        let line = bad_line_with_swapped(rt.alloc(), index)?;
-        expect_same(&rt, index, line, *wanted);
-    }
-    Ok(())
-}
-
-// What no line has in front or behind.
-const AROUND: [(&str, &str); 3] = [(" ", ""), ("", " "), ("", "\r")];
-
-fn expect_bad_lines(
-    rt: &(impl Abort + AllocGlobal),
-    front: &str,
-    behind: &str,
-) -> Result<(), TableFault> {
-    for index in 0..LINES.len() {
-        let line = bad_line_between(rt.alloc(), index, front, behind)?;
-        expect_same(rt, index, line, index + 1);
-    }
-    Ok(())
-}
-
-#[test]
-fn spaces_and_returns(rt: HostRuntime) -> Result<(), Fail> {
-    for &(front, behind) in &AROUND {
-        expect_bad_lines(&rt, front, behind)?;
-    }
-    Ok(())
-}
-
-// A line by its place in `LINES`, the same as a line of another kind, and the line that can't stand.
-const OTHER_KINDS: [(usize, &str, usize); 8] = [
-    (1, "  url x", 3),
-    (2, "  url y", 4),
-    (3, "  extra https://x.test/1", 4),
-    (4, "  text https://x.test/2", 5),
-    (5, "  range 1.0", 6),
-    (6, "  text before 0.dev0 to before 1", 7),
-    (7, "  url after 1+x to end", 8),
-    (9, "  text past 1 to end", 10),
+// Changes of each line from an index on, and the lines that can't stand then.
+const CHANGES: [(Change, usize, &[usize]); 15] = [
+    (Change::Nothing, 0, &[0]),
+    (Change::LeftOut, 0, &[1, 0, 0, 1, 1, 0, 0, 0, 9, 9, 0]),
+    (Change::Twice, 0, &[2, 3, 4, 5, 6, 7, 8, 9, 10, 11, 12]),
+    (Change::Swapped, 0, &[1, 3, 4, 5, 6, 7, 8, 10, 9, 9]),
+    (Change::Between(" ", ""), 0, &EACH),
+    (Change::Between("", " "), 0, &EACH),
+    (Change::Between("", "\r"), 0, &EACH),
+    // a line as one of another kind
+    (Change::Instead("  url x"), 1, &[3]),
+    (Change::Instead("  url y"), 2, &[4]),
+    (Change::Instead("  extra https://x.test/1"), 3, &[4]),
+    (Change::Instead("  text https://x.test/2"), 4, &[5]),
+    (Change::Instead("  range 1.0"), 5, &[6]),
+    (Change::Instead("  text before 0.dev0 to before 1"), 6, &[7]),
+    (Change::Instead("  url after 1+x to end"), 7, &[8]),
+    (Change::Instead("  text past 1 to end"), 9, &[10]),
 ];
 
+// Each line itself.
+const EACH: [usize; 11] = [1, 2, 3, 4, 5, 6, 7, 8, 9, 10, 11];
+
+fn expect_change(
+    rt: &(impl Abort + AllocGlobal),
+    change: &Change,
+    from: usize,
+    wanted: &[usize],
+) -> Result<(), TableFault> {
+    for (place, want) in wanted.iter().enumerate() {
+        let index = from.saturating_add(place);
+        let line = bad_line_of(rt.alloc(), change, index)?;
+        expect_same(rt, line_at(index), line, *want);
+    }
+    Ok(())
+}
+
 #[test]
-fn lines_of_another_kind(rt: HostRuntime) -> Result<(), Fail> {
-    for &(index, other, wanted) in &OTHER_KINDS {
-        let line = bad_line_with(rt.alloc(), index, 1, &[other])?;
-        expect_same(&rt, other, line, wanted);
+fn changed_lines(rt: HostRuntime) -> Result<(), TableFault> {
+    for (change, from, wanted) in &CHANGES {
+        expect_change(&rt, change, *from, wanted)?;
     }
     Ok(())
 }
@@ -423,7 +398,7 @@ fn sizes_of_the_table(alloc: Global) -> Result<String, TableFault> {
 }
 
 #[test]
-fn beginnings(rt: HostRuntime) -> Result<(), Fail> {
+fn beginnings(rt: HostRuntime) -> Result<(), TableFault> {
     let sizes = sizes_of_the_table(rt.alloc())?;
     expect(&rt, sizes.as_str(), sizes == sizes_at_ends(rt.alloc())?);
     let sizes = sizes_of_tables(rt.alloc(), FLASK)?;
@@ -507,19 +482,17 @@ fn expect_whole(
 }
 
 #[test]
-fn many_names(rt: HostRuntime) -> Result<(), Fail> {
-    expect_whole(&rt, &mut names_text(rt.alloc())?, "n1 none\n", 6_001)?;
-    Ok(())
+fn many_names(rt: HostRuntime) -> Result<(), TableFault> {
+    expect_whole(&rt, &mut names_text(rt.alloc())?, "n1 none\n", 6_001)
 }
 
 #[test]
-fn many_lines(rt: HostRuntime) -> Result<(), Fail> {
-    expect_whole(&rt, &mut items_text(rt.alloc())?, "  extra z\n", 15_502)?;
-    Ok(())
+fn many_lines(rt: HostRuntime) -> Result<(), TableFault> {
+    expect_whole(&rt, &mut items_text(rt.alloc())?, "  extra z\n", 15_502)
 }
 
 #[test]
-fn long_lines(rt: HostRuntime) -> Result<(), Fail> {
+fn long_lines(rt: HostRuntime) -> Result<(), TableFault> {
     let text = long_text(rt.alloc())?;
     assert!(rt; bad_line(rt.alloc(), text.as_str())? == 0);
     Ok(())
@@ -616,7 +589,7 @@ fn is_one_merge(alloc: Global, numbers: &mut Numbers) -> Result<bool, TableFault
 }
 
 #[test]
-fn merged_in_two_ways(rt: HostRuntime) -> Result<(), Fail> {
+fn merged_in_two_ways(rt: HostRuntime) -> Result<(), TableFault> {
     let mut numbers = Numbers { state: 20_261_123 };
     for turn in 0..300 {
         expect(&rt, turn, is_one_merge(rt.alloc(), &mut numbers)?);
@@ -634,7 +607,7 @@ fn read_and_joined(alloc: Global, lines: &str, list: &str) -> Result<String, Tab
 }
 
 #[test]
-fn read_tables_are_joined(rt: HostRuntime) -> Result<(), Fail> {
+fn read_tables_are_joined(rt: HostRuntime) -> Result<(), TableFault> {
     let merged = read_and_joined(rt.alloc(), FLASK, "flask!=2.1")?;
     expect_line(&rt, merged.as_str(), MERGED);
     Ok(())
@@ -657,7 +630,7 @@ const PARTS: [(&str, &str, &str); 6] = [
 ];
 
 #[test]
-fn parts_of_one_name(rt: HostRuntime) -> Result<(), Fail> {
+fn parts_of_one_name(rt: HostRuntime) -> Result<(), TableFault> {
     for &(text, name, wanted) in &PARTS {
         let found = part(rt.alloc(), text, name)?;
         expect_line(&rt, found.as_str(), wanted);

@@ -1,6 +1,6 @@
 //! Tables of requirements: their lines, verdicts and answers, and what joining them gives.
 
-use crate::tests::lines::{expect_line, expect_row, expect_same};
+use crate::tests::lines::{expect, expect_line, expect_row, expect_same};
 use pep_clause::VersionSet;
 use pep_marker::{Environment, Name};
 use pep_require::Requirement;
@@ -74,16 +74,26 @@ pub(crate) fn lines_of(alloc: Global, table: &Table) -> Result<String, TableFaul
     behind_header(alloc, table.text(alloc, &machine(alloc)?)?.as_str())
 }
 
-// The same, where no table is made of what is gathered.
+/// What is demanded so far, and by the line.
+pub(crate) fn taken(
+    alloc: Global,
+    gathering: Gathering,
+    machine: &Environment,
+    line: &str,
+) -> Result<Gathering, TableFault> {
+    let requirement = requirement(alloc, line)?;
+    match gathering.take_applying(alloc, &requirement, machine) {
+        Ok(more) => Ok(more),
+        Err(_) => Err(TableFault::NoMemory),
+    }
+}
+
+// The lines of what is gathered, where no table is made of it.
 fn gathered_lines(alloc: Global, lines: &[&str]) -> Result<String, TableFault> {
     let machine = machine(alloc)?;
     let mut gathering = Gathering::new(alloc);
     for line in lines {
-        let requirement = requirement(alloc, line)?;
-        let Ok(more) = gathering.take_applying(alloc, &requirement, &machine) else {
-            return Err(TableFault::NoMemory);
-        };
-        gathering = more;
+        gathering = taken(alloc, gathering, &machine, line)?;
     }
     behind_header(alloc, gathering.text(alloc, &machine)?.as_str())
 }
@@ -108,8 +118,13 @@ fn both_lines(alloc: Global, table: &Table, lines: &[&str]) -> Result<String, Ta
 }
 
 // Requirement lines, and the lines of their table.
-const TEXTS: [(&[&str], &str); 22] = [
+const TEXTS: [(&[&str], &str); 23] = [
     (&[], ""),
+    (
+        &WHOLE,
+        "flask open\n  range before 2 to before 3.dev0\nx open\n  extra y\n  range before 0.dev0 to end\n\
+        z open\n  text 1.0\n  range before 0.dev0 to end\n",
+    ),
     (
         &["flask>=2.0", "Flask<3"],
         "flask open\n  range before 2 to before 3.dev0\n",
@@ -185,7 +200,7 @@ const TEXTS: [(&[&str], &str); 22] = [
 ];
 
 #[test]
-fn texts(rt: HostRuntime) -> Result<(), Fail> {
+fn texts(rt: HostRuntime) -> Result<(), TableFault> {
     for &(lines, want) in &TEXTS {
         let line = table_line(rt.alloc(), lines)?;
         expect_row(&rt, want, line.as_str(), want);
@@ -204,7 +219,7 @@ fn joined(alloc: Global, line: &str, other: &str) -> Result<Table, TableFault> {
 const URLS: [&str; 2] = ["a @ https://x.test/1", "a @ https://x.test/2"];
 
 #[test]
-fn conflicts(rt: HostRuntime) -> Result<(), Fail> {
+fn conflicts(rt: HostRuntime) -> Result<(), TableFault> {
     let both = joined(rt.alloc(), URLS[0], URLS[1])?;
     let lines = lines_of(rt.alloc(), &both)?;
     expect_line(&rt, lines.as_str(), CONFLICT);
@@ -227,7 +242,7 @@ fn later(alloc: Global) -> Result<Table, TableFault> {
 }
 
 #[test]
-fn conflicts_stay(rt: HostRuntime) -> Result<(), Fail> {
+fn conflicts_stay(rt: HostRuntime) -> Result<(), TableFault> {
     let later = later(rt.alloc())?;
     assert!(rt; verdict(rt.alloc(), &later)? == Some(Verdict::Conflict));
     Ok(())
@@ -261,17 +276,7 @@ fn all_joined_back(alloc: Global) -> Result<Table, TableFault> {
 }
 
 #[test]
-fn joins(rt: HostRuntime) -> Result<(), Fail> {
-    let whole = table(rt.alloc(), &WHOLE)?;
-    let joined = all_joined(rt.alloc())?;
-    assert!(rt; joined == whole);
-    assert!(rt; all_joined_back(rt.alloc())? == whole);
-    assert!(rt; whole.joined(rt.alloc(), &joined)? == whole);
-    Ok(())
-}
-
-#[test]
-fn different_tables(rt: HostRuntime) -> Result<(), Fail> {
+fn different_tables(rt: HostRuntime) -> Result<(), TableFault> {
     let tables = tables(rt.alloc())?;
     assert!(rt; tables.len() == 3);
     assert!(rt; tables[1] != tables[2]);
@@ -287,14 +292,31 @@ pub(crate) fn gathered(alloc: Global, tables: &[Table]) -> Result<Table, TableFa
     gathering.finish(alloc)
 }
 
-fn gathered_line(alloc: Global) -> Result<String, TableFault> {
-    lines_of(alloc, &gathered(alloc, tables(alloc)?.as_slice())?)
+// The table of them all, by one of several ways, of which the last two begin with it.
+fn made(alloc: Global, way: &str, whole: &Table) -> Result<Table, TableFault> {
+    match way {
+        "joined" => all_joined(alloc),
+        "joined from behind" => all_joined_back(alloc),
+        "gathered" => gathered(alloc, tables(alloc)?.as_slice()),
+        "joined with all" => whole.joined(alloc, &all_joined(alloc)?),
+        _ => whole.copied(alloc),
+    }
 }
 
+const WAYS: [&str; 5] = [
+    "joined",
+    "joined from behind",
+    "gathered",
+    "joined with all",
+    "copied",
+];
+
 #[test]
-fn gathers_tables(rt: HostRuntime) -> Result<(), Fail> {
-    let line = gathered_line(rt.alloc())?;
-    assert!(rt; line == table_line(rt.alloc(), &WHOLE)?);
+fn joins(rt: HostRuntime) -> Result<(), TableFault> {
+    let whole = table(rt.alloc(), &WHOLE)?;
+    for way in &WAYS {
+        expect(&rt, way, made(rt.alloc(), way, &whole)? == whole);
+    }
     Ok(())
 }
 
@@ -340,7 +362,7 @@ const DEMANDED: [(&str, &str); 3] = [
 ];
 
 #[test]
-fn entries(rt: HostRuntime) -> Result<(), Fail> {
+fn entries(rt: HostRuntime) -> Result<(), TableFault> {
     let table = table(rt.alloc(), &ENTRIES)?;
     for &(name, want) in &DEMANDED {
         let line = entry_of_line(rt.alloc(), &table, name)?;
@@ -363,19 +385,12 @@ fn joined_entry_line(alloc: Global, table: &Table, both: &Entry) -> Result<Strin
 }
 
 #[test]
-fn joined_entries(rt: HostRuntime) -> Result<(), Fail> {
+fn joined_entries(rt: HostRuntime) -> Result<(), TableFault> {
     let table = table(rt.alloc(), &ENTRIES)?;
     let both = joined_entry(rt.alloc(), &table)?;
     let line = joined_entry_line(rt.alloc(), &table, &both)?;
     let want = "extras[x][y] urls[https://x.test/1] texts[1.0] ranges 1 true true";
     expect_line(&rt, line.as_str(), want);
-    Ok(())
-}
-
-#[test]
-fn copies(rt: HostRuntime) -> Result<(), Fail> {
-    let table = table(rt.alloc(), &ENTRIES)?;
-    assert!(rt; table.copied(rt.alloc())? == table);
     Ok(())
 }
 
@@ -395,7 +410,7 @@ fn sorted_line(alloc: Global, values: &Sorted<Name>) -> Result<String, TableFaul
 }
 
 #[test]
-fn sorted_values(rt: HostRuntime) -> Result<(), Fail> {
+fn sorted_values(rt: HostRuntime) -> Result<(), TableFault> {
     let union = joined_extras(rt.alloc(), &["a[y,x]", "b[z,x]"])?;
     let line = sorted_line(rt.alloc(), &union)?;
     expect_line(&rt, line.as_str(), "[x][y][z] true");
@@ -404,7 +419,7 @@ fn sorted_values(rt: HostRuntime) -> Result<(), Fail> {
 }
 
 #[test]
-fn kept_values(rt: HostRuntime) -> Result<(), Fail> {
+fn kept_values(rt: HostRuntime) -> Result<(), TableFault> {
     let text = String::from_str(rt.alloc(), "1.0")?;
     assert!(rt; text.kept(rt.alloc())?.as_str() == "1.0");
     let a = name(rt.alloc(), "a")?;
@@ -458,7 +473,7 @@ pub(crate) fn answer(
 }
 
 #[test]
-fn answers(rt: HostRuntime) -> Result<(), Fail> {
+fn answers(rt: HostRuntime) -> Result<(), TableFault> {
     for &(lines, version, want_pre, wanted) in &ANSWERS {
         let answer = answer(rt.alloc(), lines, version, want_pre)?;
         expect_same(&rt, version, answer, wanted);
@@ -481,7 +496,7 @@ fn verdict_of(alloc: Global, lines: &[&str]) -> Result<Option<Verdict>, TableFau
 }
 
 #[test]
-fn verdicts(rt: HostRuntime) -> Result<(), Fail> {
+fn verdicts(rt: HostRuntime) -> Result<(), TableFault> {
     for &(lines, wanted) in &VERDICTS {
         let verdict = verdict_of(rt.alloc(), lines)?;
         expect_same(&rt, lines, verdict, wanted);
