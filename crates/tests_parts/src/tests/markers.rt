@@ -258,13 +258,20 @@ fn expect_judged(
     expect_row(rt, text, word_of(markers.judge(rt.alloc(), text)), want);
 }
 
+// By `==` where the number is even, which holds of one, and else by `!=`, which holds.
 fn expect_micro(
     rt: &(impl Abort + AllocGlobal),
     markers: &mut JudgedMarkers<'_>,
     micro: u32,
 ) -> Result<(), AllocError> {
-    let text = format!(in rt.alloc(); "python_full_version == '3.9.{micro}'")?;
-    let want = if micro == 18 { "true" } else { "false" };
+    let is_even = micro % 2 == 0;
+    let operator = if is_even { "==" } else { "!=" };
+    let text = format!(in rt.alloc(); "python_full_version {operator} '3.9.{micro}'")?;
+    let want = if is_even && micro != 18 {
+        "false"
+    } else {
+        "true"
+    };
     expect_judged(rt, markers, text.as_str(), want);
     Ok(())
 }

@@ -147,7 +147,8 @@ fn key_line(alloc: Global, line: &KeyLine, key: &Key) -> Result<String, VersionF
     }
 }
 
-// Neither the beginnings of a key nor the key with a byte more is one.
+// Keys are made of versions and read of their bytes; neither the beginnings of a key nor the key with a
+// byte more is one; a copy has the key's text.
 #[test]
 fn keys(rt: HostRuntime) -> Result<(), VersionFault> {
     expect_lines(&rt, &KeyLine::Made, &KEYS)?;
@@ -276,8 +277,9 @@ pub(crate) enum CutLine {
     Bytes,
     /// Whether it has more bytes than lie in the value, and its text.
     Size,
-    /// The same of its copy.
+    /// The bytes and the text of its copy.
     BytesOfCopy,
+    /// The size and the text of its copy.
     SizeOfCopy,
 }
 

@@ -99,8 +99,8 @@ const CHANGES: [(usize, &str, &str); 33] = [
     (15, "  range before 2 to end", "41 15, 41 15"),
 ];
 
-// Texts that are read with an extra: those that end in their header, of which the last line is told, and
-// the header alone.
+// Texts, the extra with which they are read, and what is told: of the header alone, and of texts that end in
+// their header, of which the last line is told.
 const HEADERS: [(&str, &str, &str); 7] = [
     (MACHINE_HEADER, "", "read, read"),
     (MACHINE_HEADER, "x", "43 13, 43 13"),
