@@ -3,7 +3,7 @@
 //! that is no square of it.
 
 ghost use Rattle.std.specs.Prelude.{◌≡◌, ◌<◌, IfErr, IfOk, IsTrue, OnOk, length};
-ghost use Rattle.pep_clause.specs.VersionSet.{IsNormal, all_versions};
+ghost use Rattle.pep_clause.specs.VersionSet.{all_versions};
 ghost use Rattle.demands.specs.Join.{IsIntersection};
 ghost use Rattle.demands.specs.PartialJoins.{AreNormal, joined_sets};
 

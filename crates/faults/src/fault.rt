@@ -324,7 +324,22 @@ impl Fault {
     }
 }
 
-/// The fault with this cause in this place. Want of memory has no place.
+/// The cause of a fault of the line or text with this number, counted from 1. Want of memory has no
+/// number. Public for the crates above alone.
+pub fn line_cause(number: u64, fault: LineFault) -> Cause
+    ensures memory { fault ≡ LineFault.Requirement RequireFault.NoMemory → result ≡ Cause.NoMemory }
+    ensures line { fault ≢ LineFault.Requirement RequireFault.NoMemory →
+        result ≡ Cause.Line number fault }
+    ensures apart { result ≢ Cause.ReadFault }
+{
+    match fault {
+        LineFault::Requirement(RequireFault::NoMemory) => Cause::NoMemory,
+        fault => Cause::Line(number, fault),
+    }
+}
+
+/// The fault with this cause in this place. Want of memory has no place. Public for the crates above
+/// alone.
 pub fn fault_in(place: Place, cause: Cause) -> Fault
     ensures cause { result.cause ≡ cause }
     ensures memory { cause ≡ Cause.NoMemory → result ≡ no_memory }

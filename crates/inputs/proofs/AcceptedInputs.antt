@@ -16,6 +16,8 @@ use Rattle.demands.specs.Table.{HasExactPoints, IsTable, IsValidTable, TableDema
 use Rattle.demands.specs.Table.{TableParts}
 use Rattle.pep_table.proofs.TextFronts.{read_as_one}
 use Rattle.faults.specs.declared.fault.Cause.{Cause}
+use Rattle.documents.specs.RefusedProject.{IsOverflow}
+use Rattle.documents.proofs.Projects.{one_project, refused_project}
 use Rattle.inputs.specs.declared.input.Input.{Input}
 use Rattle.inputs.specs.declared.input.Kind.{Kind}
 use Rattle.inputs.specs.declared.input.Kind.TheVariants as kind
@@ -24,12 +26,11 @@ use Rattle.inputs.specs.Gathered.{AcceptsBytes, BytesDemand, Gathered, IsAccepte
 use Rattle.inputs.specs.Streams.{ReadsDefined}
 use Rattle.inputs.specs.Lists.{HoldsTable, IsListBy, IsRequirementList, Lists, content}
 use Rattle.inputs.specs.Lists.{requirement_lines}
-use Rattle.inputs.specs.Refusal.{IsOverflow, IsRefused, IsUndefinedList}
+use Rattle.inputs.specs.Refusal.{IsRefused, IsUndefinedList}
 use Rattle.inputs.specs.TableFiles.{IsRefusedTable, IsTableFile, by_encoding, by_environment, by_size, by_text}
 use Rattle.inputs.specs.Wanted.{TakesWanted, Wanted}
-use Rattle.inputs.proofs.DefinedMarkers.{both_markers}
+use Rattle.inputs.proofs.DefinedMarkers.{both_markers, undefined_project}
 use Rattle.inputs.proofs.ListLemmas.{line_of_list, refused_list}
-use Rattle.inputs.proofs.Projects.{one_project, refused_project, undefined_project}
 use Rattle.inputs.proofs.WantedDemands.{nothing_besides, part_joined, wanted_is_table}
 use Rattle.inputs.proofs.WantedDemands.{wanted_nothing, wanted_same}
 

@@ -9,23 +9,24 @@ use Rattle.pep_marker.specs.declared.fault.MarkerFault.{MarkerFault}
 use Rattle.pep_marker.specs.declared.fault.MarkerFault.TheVariants as marker_fault
 use Rattle.pep_marker.specs.Environment.{EnvironmentParts, extra_in, value_at}
 use Rattle.pep_require.specs.Requirement.{HasUndefinedMarker, RequirementParts}
-use Rattle.pep_table.proofs.FirstFault.{next_mapped}
+use Rattle.pep_require.proofs.Members.{next_mapped}
 use Rattle.demands.specs.Table.{TableParts}
 use Rattle.faults.specs.declared.fault.Cause.{Cause}
 use Rattle.faults.specs.declared.fault.Cause.TheVariants as cause
 use Rattle.faults.specs.declared.fault.Fault.{Fault}
 use Rattle.faults.specs.declared.fault.LineFault.TheVariants as line_fault
 use Rattle.faults.specs.declared.fault.Place.TheVariants as place
+use Rattle.documents.specs.ProjectRequirements.{IsProjectOf}
+use Rattle.documents.specs.RefusedProject.{IsRefusedProject}
+use Rattle.documents.proofs.Placed.{placed}
+use Rattle.documents.proofs.ReadTexts.{numbered, numbered_mapped}
 use Rattle.inputs.specs.declared.input.Input.{Input}
 use Rattle.inputs.specs.declared.input.Kind.TheVariants as kind
 use Rattle.inputs.specs.GatheredLines.{GathersBytes, GathersInputs, RefusesAsInput}
-use Rattle.inputs.specs.Lists.{IsProjectOf}
-use Rattle.inputs.specs.Refusal.{IsRefused, IsRefusedProject, IsUndefinedAt}
+use Rattle.inputs.specs.Refusal.{IsRefused, IsUndefinedAt}
 use Rattle.inputs.specs.Refusal.{RefusesInputs, no_memory}
 use Rattle.inputs.specs.Wanted.{TakesWanted}
 use Rattle.inputs.proofs.AcceptedInputs.{refused_in}
-use Rattle.inputs.proofs.Placed.{placed}
-use Rattle.inputs.proofs.ReadTexts.{numbered, numbered_mapped}
 use Rattle.inputs.proofs.WantedDemands.{all_wanted}
 
 -- ---- inputs

@@ -14,6 +14,7 @@ use Rattle.faults.specs.declared.fault.Cause.{Cause}
 use Rattle.faults.specs.declared.fault.Cause.TheVariants as cause
 use Rattle.faults.specs.declared.fault.Fault.{Fault}
 use Rattle.faults.specs.declared.fault.Place.TheVariants as place
+use Rattle.documents.proofs.Placed.{memory_or_other}
 use Rattle.inputs.specs.declared.input.Kind.TheVariants as kind
 use Rattle.inputs.specs.declared.input.Input.{Input}
 use Rattle.inputs.specs.Gathered.{AcceptsBytes, BytesDemand, Gathered, IsAccepted}
@@ -21,7 +22,7 @@ use Rattle.inputs.specs.Merge.{IsMerge}
 use Rattle.pep_table.specs.TableText.{IsTableText}
 use Rattle.inputs.proofs.MergeLemmas.{shows_verdicts}
 use Rattle.inputs.specs.GatheredLines.{GathersBytes}
-use Rattle.inputs.specs.LineReading.{HasTaken, RefusesSource, TakesInTurn, TakesSource}
+use Rattle.inputs.specs.LineReading.{RefusesSource, TakesInTurn, TakesSource}
 use Rattle.inputs.specs.LineReading as reading
 use Rattle.pep_require.specs.Requirement.{RequirementParts}
 use Rattle.pep_marker.specs.Environment.{extra_in}
@@ -33,7 +34,6 @@ use Rattle.inputs.specs.Streams.{ReadsTable, RefusesReading, by_bytes, by_failur
 use Rattle.inputs.specs.TakenTexts.{GathersText, RefusesTextIn}
 use Rattle.inputs.specs.Wanted.{Wanted}
 use Rattle.inputs.proofs.AcceptedInputs.{bytes_demand_in, defined_all, refused_bytes}
-use Rattle.inputs.proofs.Placed.{memory_or_other}
 use Rattle.inputs.proofs.TakenTexts.{list_gathered, list_refused_in}
 use Rattle.inputs.proofs.WantedDemands.{nothing_besides, wanted_is_table, wanted_nothing}
 

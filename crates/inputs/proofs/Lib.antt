@@ -1,11 +1,4 @@
-pub mod Documents
 pub mod DefinedMarkers
-pub mod Placed
-pub mod ReadTexts
-pub mod Projects
-pub mod ProjectExtras
-pub mod ProjectTexts
-pub mod EnvironmentPairs
 pub mod ListLemmas
 pub mod MergeLemmas
 pub mod LineTexts
@@ -19,12 +12,6 @@ pub mod WantedDemands
 pub mod AcceptedInputs
 pub mod GatheredLists
 pub mod GatheredSource
-pub mod GroupArrays
-pub mod GroupEnds
-pub mod GroupLaws
-pub mod GroupSteps
-pub mod GroupTables
-pub mod GroupViews
 pub mod PrintedInputs
 pub mod OneEnvironment
 pub mod SameInputs

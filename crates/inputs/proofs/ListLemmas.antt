@@ -1,7 +1,7 @@
 -- The lines of a list, and what they give.
-use Rattle.std.proofs.Common.{◌≡◌, ◌≢◌, ℕ, ◌<◌, ◌≤◌, ◌⊎◌}
+use Rattle.std.proofs.Common.{◌≡◌, ◌≢◌, ℕ, ◌<◌, ◌≤◌}
 use Rattle.std.proofs.Common.{false, not, List, [], ◌∷◌, ◌++◌, length, length-append, map, refl}
-use Rattle.std.proofs.Common.{ap, subst, ◌∙◌, arith, inl, inr}
+use Rattle.std.proofs.Common.{ap, subst, ◌∙◌, arith}
 use Rattle.std.specs.Prelude.{slice_index_or, filter, IsUtf8}
 use Rattle.std.specs.List.{AllZip}
 use Rattle.std.proofs.lemmas.List.{map-append}
@@ -9,16 +9,17 @@ use Rattle.std.proofs.lemmas.List.Elements.{filter-append}
 use Rattle.pep_require.specs.Reads.{Reads}
 use Rattle.texts.specs.Limits.{line_limit}
 use Rattle.pep_require.specs.Requirement.{RequirementParts}
-use Rattle.pep_require.specs.declared.fault.RequireFault.{RequireFault}
 use Rattle.pep_require.specs.declared.fault.RequireFault.TheVariants as fault
 use Rattle.faults.specs.declared.fault.Cause.{Cause}
 use Rattle.faults.specs.declared.fault.Cause.TheVariants as cause
 use Rattle.faults.specs.declared.fault.LineFault.{LineFault}
 use Rattle.faults.specs.declared.fault.LineFault.TheVariants as line_fault
 use Rattle.pep_require.proofs.LineLaws.{refused_is_not_read}
+use Rattle.documents.specs.RefusedProject.{IsOverflow}
+use Rattle.documents.proofs.Placed.{known}
 use Rattle.inputs.specs.Lists.{IsListBy, IsRequirementList, content}
 use Rattle.inputs.specs.Lists.{is_skipped, lines_of, requirement_lines, requirements_among}
-use Rattle.inputs.specs.Refusal.{IsOverflow, IsRefusedLine, IsRefusedList}
+use Rattle.inputs.specs.Refusal.{IsRefusedLine, IsRefusedList}
 use Rattle.inputs.specs.Refusal.{by_content, by_encoding, by_length, by_line, by_size}
 use Rattle.inputs.specs.Streams.{IsGoodLine}
 
@@ -93,10 +94,6 @@ refused_list bytes c rs told (by_size large e) s = absurd (omega (arith, large, 
 refused_list bytes c rs told (by_line number line f at refused e) s =
     spoiled line f (λ over. told (number, e ∙ ap (cause.Line number) over)) refused
     (line_of_list {reads = Reads} bytes at.before line at.behind rs at.whole s)
-
-pub known : (f : RequireFault) → (f ≡ fault.NoMemory) ⊎ (f ≢ fault.NoMemory)
-known fault.NoMemory = inl refl
-known f = inr (λ e. cc e)
 
 -- a fault of a line is no want of memory, whatever a line is refused for
 pub line_known : (line : List ℕ) (f : LineFault) →

@@ -1,11 +1,8 @@
 -- Environments of one header are one: what is accepted, demanded and merged in the one is so in the
 -- other.
-use Rattle.std.proofs.Common.{◌≡◌, ◌≢◌, ℕ, ◌==◌, Bool, true, false, List, [], ◌∷◌, ◌++◌, length, ap, refl}
-use Rattle.std.proofs.Common.{sym, ◌∙◌, inl, inr, Option, Some, None, Result, Ok, arith}
-use Rattle.std.proofs.lemmas.Bool.Decides.{nat_tests}
+use Rattle.std.proofs.Common.{◌≡◌, ℕ, List, [], ◌∷◌, ◌++◌, ap, sym, ◌∙◌, inl, inr, Option, Some, None}
+use Rattle.std.proofs.Common.{Ok, true}
 use Rattle.std.proofs.lemmas.List.Elements.{All-weaker}
-use Rattle.texts.specs.Bytes.{is_separator}
-use Rattle.toml.specs.Data.{Members}
 use Rattle.pep_marker.specs.declared.environment.Variable.TheVariants.{Extra}
 use Rattle.pep_marker.specs.Environment.{EnvironmentParts, IsEnvironment, extra_in}
 use Rattle.pep_marker.specs.Header.{header}
@@ -18,47 +15,14 @@ use Rattle.demands.specs.Demand.{Demand, HaveSameDemands}
 use Rattle.demands.specs.Table.{TableParts}
 use Rattle.pep_table.specs.TableText.{IsReadAs}
 use Rattle.pep_table.proofs.SameDemands.{same_demands}
-use Rattle.faults.specs.declared.fault.Cause.{Cause}
+use Rattle.documents.proofs.EqualExtras.{texts_alike}
 use Rattle.inputs.specs.declared.input.Input.{Input}
 use Rattle.inputs.specs.declared.input.Kind.{Kind}
 use Rattle.inputs.specs.declared.input.Kind.TheVariants as kind
-use Rattle.inputs.specs.Document.{◌>>=◌, document_of}
 use Rattle.inputs.specs.Gathered.{AcceptsBytes, BytesDemand, Gathered, IsAccepted}
-use Rattle.inputs.specs.Lists.{HoldsTable, Lists, ProjectTexts}
+use Rattle.inputs.specs.Lists.{HoldsTable, Lists}
 use Rattle.inputs.specs.Merge.{IsMerge}
-use Rattle.inputs.specs.Project.{project_file, project_texts}
 use Rattle.inputs.proofs.MergeLemmas.{shows_verdicts}
-
--- ---- extras of one normal form
-
--- no text but the empty one has an empty normal form
-some_normal : (b : ℕ) (x : List ℕ) → normalized (b ∷ x) ≢ []
-some_normal b [] h = by (is_separator b) refl
-  where
-    by : (s : Bool) → is_separator b ≡ s → ⊥
-    by true e = let some : 45 ∷ [] ≡ [] = rw e at h in cc some
-    by false e = let some = rw e at h in cc some
-some_normal b (c ∷ x) h = by (is_separator b) refl (is_separator c) refl (some_normal c x)
-  where
-    by : (s : Bool) → is_separator b ≡ s → (t : Bool) → is_separator c ≡ t →
-        normalized (c ∷ x) ≢ [] → ⊥
-    by true e true f rest = let short = rw (e, f) at h in rest (rw f short)
-    by true e false f rest = let some = rw (e, f) at h in cc some
-    by false e t f rest = let some = rw e at h in cc some
-
-both_empty : (x y : List ℕ) → normalized x ≡ normalized y → (length x == 0) ≡ (length y == 0)
-both_empty [] [] h = refl
-both_empty [] (c ∷ y) h = absurd (some_normal c y (sym h))
-both_empty (b ∷ x) [] h = absurd (some_normal b x h)
-both_empty (b ∷ x) (c ∷ y) h = grind (arith, nat_tests)
-
-texts_alike : (x y : List ℕ) → normalized x ≡ normalized y → (document : Members) →
-    project_texts x document ≡ project_texts y document
-texts_alike x y h document = rw (both_empty x y h, h) refl
-
-file_alike : (x y : List ℕ) → normalized x ≡ normalized y → (bytes : List ℕ) →
-    project_file x bytes ≡ project_file y bytes
-file_alike x y h bytes = λ i. document_of bytes >>= (λ document. texts_alike x y h document i)
 
 -- ---- what is so in the other environment
 
@@ -74,15 +38,11 @@ module _ (e f : EnvironmentParts) (is : IsEnvironment e) (are : IsEnvironment f)
   extras : normalized (extra_in e) ≡ normalized (extra_in f)
   extras = header_values e f is are same Extra
 
-  texts : (group : Option (List ℕ)) (bytes : List ℕ) (found : Result (List (List ℕ)) Cause) →
-      ProjectTexts (extra_in e) group bytes found → ProjectTexts (extra_in f) group bytes found
-  texts None bytes found h = sym (file_alike (extra_in e) (extra_in f) extras bytes) ∙ h
-  texts (Some group) bytes found h = h
-
   lists : (k : Kind) (group : Option (List ℕ)) (bytes : List ℕ) (rs : List RequirementParts) →
       Lists (extra_in e) k group bytes rs → Lists (extra_in f) k group bytes rs
   lists kind.List group bytes rs h = h
-  lists kind.Project group bytes rs (xs, found, reads) = (xs, texts group bytes (Ok xs) found, reads)
+  lists kind.Project group bytes rs (xs, found, reads) =
+      (xs, texts_alike (extra_in e) (extra_in f) extras group bytes (Ok xs) found, reads)
   lists kind.Table group bytes rs h = h
 
   read : (t : TableParts) (x : List ℕ) → IsReadAs e t x → IsReadAs f t x

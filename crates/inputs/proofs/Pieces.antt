@@ -13,10 +13,11 @@ use Rattle.faults.specs.declared.fault.Cause.{Cause}
 use Rattle.faults.specs.declared.fault.Cause.TheVariants as cause
 use Rattle.faults.specs.declared.fault.LineFault.{LineFault}
 use Rattle.faults.specs.declared.fault.LineFault.TheVariants as line_fault
+use Rattle.documents.specs.RefusedProject.{IsNumbered}
 use Rattle.inputs.specs.LineReading.{IsCauseOf, IsHeld, RefusesEnded, RefusesHeld, RefusesLineBytes}
 use Rattle.inputs.specs.LineReading.{RefusesList, RefusesPiece}
 use Rattle.inputs.specs.Lists.{lines_of}
-use Rattle.inputs.specs.Refusal.{IsNumbered, by_length, by_line, by_size}
+use Rattle.inputs.specs.Refusal.{by_length, by_line, by_size}
 use Rattle.inputs.proofs.ListLemmas.{line_known}
 
 -- ---- the lines of a text that goes on

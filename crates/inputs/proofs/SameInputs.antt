@@ -6,17 +6,17 @@ use Rattle.pep_marker.specs.Environment.{EnvironmentParts, extra_in}
 use Rattle.pep_require.proofs.LineLaws.{one_requirement}
 use Rattle.pep_require.specs.Reads.{Reads}
 use Rattle.pep_require.specs.Requirement.{Applies, RequirementParts}
-use Rattle.pep_table.proofs.Members.{in_either, in_first, in_none, in_rest}
+use Rattle.pep_require.proofs.Members.{in_either, in_first, in_none, in_rest}
 use Rattle.demands.specs.Demand.{Demand, Demands, HaveSameDemands, RequirementDemands}
 use Rattle.demands.specs.Table.{TableDemands, TableParts}
+use Rattle.documents.proofs.GroupEnds.{one_texts}
+use Rattle.documents.proofs.ReadTexts.{zip_line, zip_read}
 use Rattle.inputs.specs.declared.input.Input.{Input}
 use Rattle.inputs.specs.declared.input.Kind.{Kind}
 use Rattle.inputs.specs.declared.input.Kind.TheVariants as kind
 use Rattle.inputs.specs.Gathered.{BytesDemand, Gathered, HasLine, HasRequirement, HaveSameLines}
 use Rattle.inputs.specs.Gathered.{AcceptsBytes, HasTable, HaveSameRequirements, IsAccepted}
 use Rattle.inputs.specs.Lists.{HoldsTable, IsInputText, Lists, requirement_lines}
-use Rattle.inputs.proofs.GroupEnds.{one_texts}
-use Rattle.inputs.proofs.ReadTexts.{zip_line, zip_read}
 
 -- ---- by requirements
 

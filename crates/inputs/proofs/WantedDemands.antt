@@ -7,8 +7,8 @@ use Rattle.pep_marker.specs.Environment.{EnvironmentParts}
 use Rattle.pep_marker.specs.Name.{IsNormalName}
 use Rattle.pep_require.specs.Requirement.{Applies, RequirementParts}
 use Rattle.pep_require.proofs.Ascending.{Contains-from_IsIn}
+use Rattle.pep_require.proofs.Members.{in_none}
 use Rattle.pep_table.proofs.JoinedDemands.{joined_is_table, own_table}
-use Rattle.pep_table.proofs.Members.{in_none}
 use Rattle.pep_table.proofs.SameDemands.{same_demands, with_nothing}
 use Rattle.pep_table.proofs.Taking.{demand_name, marker_one, no_demands, taken_is_table}
 use Rattle.pep_table.proofs.Taking.{with_taken, without_passed}

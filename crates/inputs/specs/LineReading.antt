@@ -9,9 +9,10 @@ use Rattle.faults.specs.declared.fault.Cause.{Cause}
 use Rattle.faults.specs.declared.fault.Cause.TheVariants as cause
 use Rattle.faults.specs.declared.fault.LineFault.{LineFault}
 use Rattle.faults.specs.declared.fault.LineFault.TheVariants as line_fault
+use Rattle.documents.specs.RefusedProject.{IsNumbered}
 use Rattle.inputs.specs.Lists.{content, is_skipped, lines_of, requirement_lines, requirements_among}
 use Rattle.texts.specs.Limits.{input_limit}
-use Rattle.inputs.specs.Refusal.{IsNumbered, IsRefusedLine, IsRefusedList}
+use Rattle.inputs.specs.Refusal.{IsRefusedLine, IsRefusedList}
 use Rattle.inputs.specs.Streams.{MayFollow}
 use Rattle.std.specs.Io.KnownBytes.{Consumes, IsAtEnd}
 

@@ -1,7 +1,6 @@
 -- The requirements of an input: a list, with a requirement on each line, or a project file.
-use Rattle.std.specs.Prelude.{◌≡◌, ℕ, ◌≤◌, Bool, not, ◌||◌, ◌==◌, List, length, map, filter}
-use Rattle.std.specs.Prelude.{All, Contains, Option, Some, None}
-use Rattle.std.specs.Prelude.{IsUtf8, Ok, Result}
+use Rattle.std.specs.Prelude.{ℕ, ◌≤◌, Bool, not, ◌||◌, ◌==◌, List, length, map, filter}
+use Rattle.std.specs.Prelude.{All, Contains, IsUtf8, Ok, Option}
 use Rattle.std.specs.List.{AllZip, slice_split}
 use Rattle.std.specs.Str.Lines.{strip_carriage_return}
 use Rattle.texts.specs.Runs.{begins, without_outer_blanks}
@@ -9,15 +8,11 @@ use Rattle.pep_require.specs.Reads.{Reads}
 use Rattle.texts.specs.Limits.{line_limit}
 use Rattle.pep_marker.specs.Environment.{EnvironmentParts}
 use Rattle.pep_require.specs.Requirement.{RequirementParts}
+use Rattle.documents.specs.ProjectRequirements.{IsProjectOf, ProjectTexts}
 use Rattle.inputs.specs.declared.input.Kind.{Kind}
 use Rattle.inputs.specs.declared.input.Kind.TheVariants as kind
 pub use Rattle.texts.specs.Limits.{input_limit}
 use Rattle.demands.specs.Table.{TableParts}
-use Rattle.faults.specs.declared.fault.Cause.{Cause}
-use Rattle.inputs.specs.GroupWalk.{ComesTo, group_file, group_step}
-use Rattle.inputs.specs.Groups.{groups_in}
-use Rattle.inputs.specs.Project.{project_file, project_texts}
-use Rattle.toml.specs.Data.{Members}
 use Rattle.inputs.specs.TableFiles.{IsTableFile}
 
 -- ---- lists
@@ -53,25 +48,6 @@ pub record IsListBy (reads : List ℕ → RequirementParts → Type 0) (bytes : 
 -- .. a requirement each (PEP 508, "Grammar")
 abbrev pub IsRequirementList : List ℕ → List RequirementParts → Type 0
 IsRequirementList bytes rs = IsListBy Reads bytes rs
-
--- ---- project files
-
--- the texts that a project file is asked for, or the first check that fails: those of a dependency
--- group, or where none is asked for, of its dependencies and of an extra
-abbrev pub ProjectTexts : List ℕ → Option (List ℕ) → List ℕ → Result (List (List ℕ)) Cause → Type 0
-ProjectTexts extra None bytes texts = project_file extra bytes ≡ texts
-ProjectTexts extra (Some group) bytes texts = ComesTo (group_file group bytes) texts
-
--- .. of the document that it is
-abbrev pub AskedTexts : List ℕ → Option (List ℕ) → Members → Result (List (List ℕ)) Cause → Type 0
-AskedTexts extra None document texts = project_texts extra document ≡ texts
-AskedTexts extra (Some group) document texts = ComesTo (group_step group (groups_in document)) texts
-
--- the bytes are a project file whose texts are these requirements, in an extra's environment or of
--- a dependency group
-abbrev pub IsProjectOf : List ℕ → Option (List ℕ) → List ℕ → List RequirementParts → Type 0
-IsProjectOf extra group bytes rs =
-    (texts : List (List ℕ)) × ProjectTexts extra group bytes (Ok texts) × AllZip Reads texts rs
 
 -- ---- inputs
 

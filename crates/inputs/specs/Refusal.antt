@@ -1,7 +1,6 @@
 -- What a refusal says of the inputs: which of them is at fault, which line of it, and why. Nothing
 -- else is answered.
-use Rattle.std.specs.Prelude.{◌≡◌, ◌≢◌, ℕ, ◌+◌, ◌<◌, ◌≤◌, ◌⊎◌, false, List, ◌∷◌, ◌++◌, length}
-use Rattle.std.specs.Prelude.{IsUtf8, Ok, Err, Option}
+use Rattle.std.specs.Prelude.{◌≡◌, ◌≢◌, ℕ, ◌<◌, ◌≤◌, ◌⊎◌, false, List, length, IsUtf8, Option}
 use Rattle.pep_marker.specs.Environment.{EnvironmentParts, extra_in}
 use Rattle.pep_require.specs.LineParts.{RefusesLine}
 use Rattle.pep_require.specs.Reads.{Reads}
@@ -16,20 +15,15 @@ use Rattle.faults.specs.declared.fault.LineFault.{LineFault}
 use Rattle.faults.specs.declared.fault.LineFault.TheVariants as line_fault
 use Rattle.faults.specs.declared.fault.Place.TheVariants as place
 pub use Rattle.faults.specs.NoMemory.{no_memory}
+use Rattle.documents.specs.ProjectRequirements.{IsProjectOf}
+use Rattle.documents.specs.RefusedProject.{IsNumbered, IsOverflow, IsRefusedProject}
 use Rattle.inputs.specs.declared.input.Input.{Input}
 use Rattle.inputs.specs.declared.input.Kind.{Kind}
 use Rattle.inputs.specs.declared.input.Kind.TheVariants as kind
 use Rattle.inputs.specs.Gathered.{IsAccepted}
-use Rattle.inputs.specs.Lists.{IsProjectOf, ProjectTexts, content, is_skipped, lines_of}
+use Rattle.inputs.specs.Lists.{content, is_skipped, lines_of}
 use Rattle.texts.specs.Limits.{input_limit}
 use Rattle.inputs.specs.TableFiles.{IsRefusedTable}
-
--- the element with this number, counted from 1
-pub record IsNumbered {A : Type 0} (xs : List A) (number : ℕ) (x : A) : Type 0 where
-  pub before : List A
-  pub behind : List A
-  pub whole : xs ≡ before ++ x ∷ behind
-  pub counted : number ≡ length before + 1
 
 -- ---- bytes that are no list of requirements
 
@@ -54,11 +48,6 @@ pub data IsRefusedList (bytes : List ℕ) (c : Cause) : Type 0 where
       → IsRefusedLine line fault → c ≡ cause.Line number fault →
       IsRefusedList bytes c
 
--- the reader of URLs answered its own overflow, of which no more is known than `RefusesLine` says
-abbrev pub IsOverflow : Cause → Type 0
-IsOverflow c =
-    (number : ℕ) × (c ≡ cause.Line number (line_fault.Requirement require.UrlOverflow))
-
 -- ---- requirements that are undefined in an environment
 
 -- the line is one that a list may have, and its requirement has a marker that is undefined there
@@ -79,24 +68,6 @@ pub record IsUndefinedList (e : EnvironmentParts) (bytes : List ℕ) (c : Cause)
   pub is : c ≡ cause.Line number line_fault.Undefined
 
 -- ---- project files
-
--- the cause names a text that is refused as a requirement, by its number
-pub record IsRefusedText (texts : List (List ℕ)) (c : Cause) : Type 0 where
-  pub number : ℕ
-  pub text : List ℕ
-  pub numbered : IsNumbered texts number text
-  pub reason : RequireFault
-  pub known : reason ≢ require.NoMemory
-  pub refuses : RefusesLine text reason
-  pub is : c ≡ cause.Line number (line_fault.Requirement reason)
-
--- Why bytes are refused as a project file, for an extra or a dependency group: a check of the file
--- fails, or one of its texts is refused.
-pub data IsRefusedProject (extra : List ℕ) (group : Option (List ℕ)) (bytes : List ℕ) (c : Cause) :
-    Type 0 where
-  by_check : ProjectTexts extra group bytes (Err c) → IsRefusedProject extra group bytes c
-  by_text : (texts : List (List ℕ)) → ProjectTexts extra group bytes (Ok texts) →
-      IsRefusedText texts c → IsRefusedProject extra group bytes c
 
 -- the cause names a requirement whose marker is undefined there, by its number
 pub record IsUndefinedAt (e : EnvironmentParts) (rs : List RequirementParts) (c : Cause) : Type 0

@@ -11,10 +11,11 @@ use Rattle.demands.specs.Table.{HasExactPoints, IsTable, TableParts}
 use Rattle.faults.specs.declared.fault.Cause.TheVariants as cause
 use Rattle.faults.specs.declared.fault.Fault.{Fault}
 use Rattle.faults.specs.declared.fault.Place.TheVariants as place
+use Rattle.documents.specs.RefusedProject.{IsOverflow}
 use Rattle.inputs.specs.declared.input.Kind.TheVariants as kind
 use Rattle.inputs.specs.Gathered.{AcceptsBytes, BytesDemand}
 use Rattle.inputs.specs.Lists.{content, input_limit, is_skipped, lines_of}
-use Rattle.inputs.specs.Refusal.{IsOverflow, IsRefused}
+use Rattle.inputs.specs.Refusal.{IsRefused}
 
 -- of a reader that tells its bytes: at most so many of them were read
 abbrev pub ReadsUpTo : ℕ → Option (List ℕ) → Option (List ℕ) → Type 0

@@ -38,9 +38,9 @@ ghost use Rattle.inputs.specs.Wanted.{
 
 use crate::input::{Input, Kind};
 use crate::lines::{Taker, take_lines};
-use crate::project::project_requirements;
 use crate::table_file::table_in;
 use clause_memory::ClauseMemory;
+use documents::project_requirements;
 use faults::{Cause, Fault, LineFault, Place, fault_in};
 use pep_marker::{Environment, JudgedMarkers, MarkerFault, Name};
 use pep_require::{RequireFault, Requirement, marker_text};

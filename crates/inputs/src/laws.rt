@@ -1,6 +1,6 @@
 //! Laws of the definitions.
 
-ghost use Rattle.std.specs.Prelude.{◌≡◌, ◌↔◌, ◌∷◌, ◌++◌, [], ℕ, All, Contains, Err, List, Ok, Option};
+ghost use Rattle.std.specs.Prelude.{◌≡◌, ◌∷◌, ◌++◌, [], ℕ, All, List};
 ghost use Rattle.pep_marker.specs.Environment.{EnvironmentParts, IsEnvironment};
 ghost use Rattle.pep_marker.specs.Header.{header};
 ghost use Rattle.pep_require.specs.Requirement.{RequirementParts};
@@ -8,6 +8,7 @@ ghost use Rattle.demands.specs.Demand.{HaveSameDemands};
 ghost use Rattle.demands.specs.Table.{HasExactPoints, IsTable, TableParts};
 ghost use Rattle.pep_table.specs.TableText.{IsTableText};
 ghost use Rattle.faults.specs.declared.fault.Cause.{Cause};
+ghost use Rattle.documents.specs.RefusedProject.{IsOverflow};
 ghost use Rattle.inputs.specs.declared.input.Input.{Input};
 ghost use Rattle.inputs.specs.declared.input.Kind.TheVariants as Kind;
 ghost use Rattle.inputs.specs.Gathered.{
@@ -16,12 +17,12 @@ ghost use Rattle.inputs.specs.Gathered.{
   HaveSameRequirements,
   IsAccepted,
 };
-ghost use Rattle.inputs.specs.Groups.{Group, IsGroupFault, IsGroupWhole, IsTextOfGroup};
-ghost use Rattle.inputs.specs.GroupWalk.{ComesTo, at_first, open_group};
-ghost use Rattle.inputs.specs.Lists.{IsProjectOf, IsRequirementList};
+ghost use Rattle.inputs.specs.Lists.{IsRequirementList};
 ghost use Rattle.inputs.specs.Merge.{IsMerge};
-ghost use Rattle.inputs.specs.Refusal.{IsOverflow, IsRefused, IsRefusedList, IsRefusedProject};
+ghost use Rattle.inputs.specs.Refusal.{IsRefused, IsRefusedList};
 ghost use Rattle.inputs.specs.Streams.{IsTableOfList};
+
+pub use documents::laws::{group_is_walked, one_project, refused_project_is_not_read};
 
 /// Inputs that demand the same have one text, whatever the order, the grouping and the repeats of
 /// their lines, in environments of one header.
@@ -105,35 +106,6 @@ pub fn one_list()
 pub fn refused_list_is_not_read()
     ensures { (bytes : List ℕ) (c : Cause) (rs : List RequirementParts) → ¬ IsOverflow c
         → IsRefusedList bytes c → ¬ IsRequirementList bytes rs }
-{}
-
-/// Bytes are a project file of one list of requirements at most, for an extra or a dependency group.
-pub fn one_project()
-    ensures { (extra : List ℕ) (group : Option (List ℕ)) (bytes : List ℕ)
-        (rs qs : List RequirementParts) → IsProjectOf extra group bytes rs
-        → IsProjectOf extra group bytes qs → rs ≡ qs }
-{}
-
-/// Bytes that are refused as a project file, for an extra or a dependency group, have no
-/// requirements for it. Of an overflow of the reader of URLs, nothing is known.
-pub fn refused_project_is_not_read()
-    ensures { (extra : List ℕ) (group : Option (List ℕ)) (bytes : List ℕ) (c : Cause)
-        (rs : List RequirementParts) → ¬ IsOverflow c → IsRefusedProject extra group bytes c
-        → ¬ IsProjectOf extra group bytes rs }
-{}
-
-/// The walk through a dependency group comes to texts exactly where each group that it reaches by
-/// includes (PyPA "Dependency Groups") is there, has in its array what may stand there, and doesn't
-/// come back to itself; and then these are the texts of the groups that it reaches. Where the walk is
-/// refused, one of them isn't so, which is the fault.
-pub fn group_is_walked()
-    ensures texts { (groups : List Group) (root : List ℕ) (xs : List (List ℕ))
-        → ComesTo (open_group (at_first groups) root) (Ok xs) → IsGroupWhole groups root
-        × ((x : List ℕ) → Contains xs x ↔ IsTextOfGroup groups root x) }
-    ensures fault { (groups : List Group) (root : List ℕ) (c : Cause)
-        → ComesTo (open_group (at_first groups) root) (Err c) → IsGroupFault groups root c }
-    ensures whole { (groups : List Group) (root : List ℕ) → IsGroupWhole groups root
-        → (xs : List (List ℕ)) × ComesTo (open_group (at_first groups) root) (Ok xs) }
 {}
 
 /// An input that is refused in an environment, with whatever cause, isn't accepted there. Of an

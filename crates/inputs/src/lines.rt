@@ -40,7 +40,7 @@ ghost use Rattle.inputs.specs.LineReading.{
   TakesLines,
 };
 
-use faults::{Cause, LineFault};
+use faults::{Cause, LineFault, line_cause};
 use memchr::memchr;
 use pep_require::RequireFault;
 use std::alloc::Global;
@@ -102,19 +102,6 @@ fn text_on(line: &[u8]) -> Result<Option<&str>, LineFault>
         return Ok(None);
     }
     Ok(Some(text))
-}
-
-/// Why the bytes are no list: a fault of a line, or want of memory, which has no place.
-pub(crate) fn line_cause(number: u64, fault: LineFault) -> Cause
-    ensures memory { fault ≡ LineFault.Requirement RequireFault.NoMemory → result ≡ Cause.NoMemory }
-    ensures line { fault ≢ LineFault.Requirement RequireFault.NoMemory →
-        result ≡ Cause.Line number fault }
-    ensures apart { result ≢ Cause.ReadFault }
-{
-    match fault {
-        LineFault::Requirement(RequireFault::NoMemory) => Cause::NoMemory,
-        fault => Cause::Line(number, fault),
-    }
 }
 
 // What was taken before, and the text on a line, if the line isn't skipped.

@@ -2,19 +2,16 @@
 
 ghost use Rattle.std.specs.Prelude.{
   ◌≡◌,
-  ◌≢◌,
   ◌⊎◌,
   ◌↔◌,
   ◌≤◌,
   ◌+◌,
-  ◌++◌,
   IfErr,
   IfOk,
   IsErrOf,
   IsTrue,
   OnOk,
   false,
-  length,
 };
 ghost use Rattle.devices.specs.Device.{IsFresh};
 ghost use Rattle.inputs.specs.Lists.{input_limit};

@@ -13,8 +13,8 @@ use Rattle.faults.specs.InnerFault.{fault_of_argument}
 use Rattle.faults.specs.declared.fault.ArgumentFault.TheVariants as argument
 use Rattle.faults.specs.declared.fault.Fault.{Fault}
 use Rattle.faults.specs.declared.fault.Place.TheVariants as place
+use Rattle.documents.specs.EnvironmentFile.{environment_file}
 use Rattle.inputs.specs.declared.input.Input.{Input}
-use Rattle.inputs.specs.EnvironmentFile.{environment_file}
 use Rattle.inputs.specs.Gathered.{Gathered, IsAccepted}
 use Rattle.inputs.specs.Merge.{IsMerge}
 use Rattle.inputs.specs.Refusal.{BlamesInput}

@@ -1,10 +1,8 @@
 //! What a call gives back.
 
-ghost use Rattle.std.specs.Prelude.{◌≡◌, ◌⊎◌, ◌∷◌, [], Contains, Err, Ok, pos, string_bytes};
+ghost use Rattle.std.specs.Prelude.{◌≡◌, ◌⊎◌, Err, Ok, pos, string_bytes};
 ghost use Rattle.std.specs.declared.string.String.{String};
-ghost use Rattle.faults.specs.FaultLine.{fault_line};
 ghost use Rattle.faults.specs.declared.fault.Fault.{Fault};
-ghost use Rattle.faults.specs.NoMemory.{no_memory};
 ghost use Rattle.pep_c.specs.Room.{GivesNothing, GoesOut, TellsRefusal};
 
 use faults::Fault;

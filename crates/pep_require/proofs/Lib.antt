@@ -4,6 +4,8 @@ pub mod BoundPieces
 pub mod BoundLaws
 pub mod BoundLoops
 pub mod Ascending
+pub mod Members
+pub mod Exits
 pub mod ExtrasPieces
 pub mod FaultLaws
 pub mod ExtrasLaws

@@ -4,13 +4,7 @@ ghost use Rattle.std.specs.Prelude.{◌≡◌, ◌≤◌, ◌⊎◌, ◌∷◌, 
 ghost use Rattle.std.specs.List.{prefix_len};
 ghost use Rattle.texts.specs.Runs.{begins};
 ghost use Rattle.texts.specs.Bytes.{is_blank_byte};
-ghost use Rattle.pep_require.specs.LineParts.{
-  RefusesTarget,
-  RefusesUrl,
-  TargetFrom,
-  UrlFrom,
-  is_bare_byte,
-};
+ghost use Rattle.pep_require.specs.LineParts.{RefusesTarget, TargetFrom, is_bare_byte};
 ghost use Rattle.pep_require.specs.View.{target_parts};
 
 use crate::clauses::clauses_at;

@@ -4,7 +4,7 @@ use Rattle.std.proofs.Common.{◌≡◌, List, [], ◌∷◌, refl, subst, sym, 
 use Rattle.std.proofs.lemmas.List.Elements.{All-cons, All-contains, All-head, All-nil, All-tail}
 use Rattle.std.specs.List.{All, Contains}
 use Rattle.std.specs.Prelude.{◌↔◌}
-use Rattle.pep_table.proofs.Members.{in_first, in_none, in_rest}
+use Rattle.pep_require.proofs.Members.{in_first, in_none, in_rest}
 use Rattle.demands.specs.Join.{IsJoin, JoinsAll}
 
 module _ {X : Type 0} {IsValue : X → Type 0} {Joins : X → X → X → Type 0}

@@ -1,8 +1,8 @@
 -- The requirements that are taken one by one, up to the first whose marker is undefined.
-use Rattle.std.proofs.Common.{◌≡◌, ◌≢◌, ℕ, suc, ◌+◌, ◌<◌, List, [], ◌∷◌, ◌++◌, length}
+use Rattle.std.proofs.Common.{◌≡◌, ◌≢◌, ℕ, suc, ◌+◌, ◌<◌, List, [], ◌∷◌, length}
 use Rattle.std.proofs.Common.{take, drop, get_or, map, sym, ap, subst, ◌∙◌, inl, inr, ◌⊎◌, arith}
 use Rattle.std.proofs.Common.{Result, IfOk}
-use Rattle.std.proofs.lemmas.List.{length-map, length-take-le, map-append, map_more}
+use Rattle.std.proofs.lemmas.List.{length-map, length-take-le, map-append}
 use Rattle.std.proofs.lemmas.List.Elements.{All-from_recursion}
 use Rattle.std.proofs.lemmas.Result.{IfOk-weaker}
 use Rattle.std.specs.List.{All, AllByRecursion}
@@ -10,11 +10,11 @@ use Rattle.pep_marker.specs.Environment.{EnvironmentParts}
 use Rattle.pep_marker.specs.declared.fault.MarkerFault.{MarkerFault}
 use Rattle.pep_marker.specs.declared.fault.MarkerFault.TheVariants as marker_fault
 use Rattle.pep_require.specs.Requirement.{HasDefinedMarker, HasUndefinedMarker, RequirementParts}
+use Rattle.pep_require.proofs.Members.{split_at_index}
 use Rattle.demands.specs.Gathering.{IsFirstUndefined, TakesApplying}
 use Rattle.demands.specs.Table.{TableParts}
 use Rattle.demands.specs.declared.fault.TableFault.{TableFault}
 use Rattle.demands.specs.declared.fault.TableFault.TheVariants as table_fault
-use Rattle.pep_table.proofs.EntryPlaces.{whole}
 
 -- where requirements are taken, the marker of each is defined
 defined : (e : EnvironmentParts) (s : TableParts) (rs : List RequirementParts) (t : TableParts) →
@@ -26,11 +26,6 @@ pub all_defined : (e : EnvironmentParts) (s : TableParts) (rs : List Requirement
     (t : TableParts) → TakesApplying e s rs t → All (HasDefinedMarker e) rs
 all_defined e s rs t taken =
     All-from_recursion (HasDefinedMarker e) rs (defined e s rs t taken)
-
-pub next_mapped : {A B : Type 0} (f : A → B) (xs : List A) (i : ℕ) (x : A) →
-    x ≡ get_or xs i x → i < length xs → map f (take (i + 1) xs) ≡ map f (take i xs) ++ f x ∷ []
-next_mapped f xs i x is lt =
-    map_more f xs i x lt ∙ ap (λ y. map f (take i xs) ++ f y ∷ []) (sym is)
 
 -- the requirement behind those that are taken is the first whose marker is undefined
 pub first_undefined : {A : Type 0} (parts : A → RequirementParts) (e : EnvironmentParts)
@@ -48,7 +43,7 @@ first_undefined {A} parts e s t xs i x fault given is lt taken (inr why) memory 
       before = map parts (take i xs);
       first = parts x;
       behind = map parts (drop (suc i) xs);
-      whole = ap (map parts) (whole xs i x is lt)
+      whole = ap (map parts) (split_at_index xs i x is lt)
           ∙ map-append parts (take i xs) (x ∷ drop (suc i) xs);
       defined = all_defined e s (map parts (take i xs)) t taken;
       undefined = why.1;

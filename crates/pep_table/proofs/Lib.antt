@@ -1,4 +1,3 @@
-pub mod Exits
 pub mod NamedEntries
 pub mod EntryPlaces
 pub mod FirstFault
@@ -9,7 +8,6 @@ pub mod TableAnswers
 pub mod TextFronts
 pub mod MergeLaws
 pub mod SameDemands
-pub mod Members
 pub mod Taking
 pub mod TakenVersions
 pub mod EntryRanges

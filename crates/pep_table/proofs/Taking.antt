@@ -22,9 +22,9 @@ use Rattle.pep_marker.specs.Holds.{Truth}
 use Rattle.pep_marker.specs.Marker.{MarkerParts}
 use Rattle.pep_require.specs.Requirement.{Applies, MarkerSays, RequirementParts, TargetParts}
 use Rattle.pep_require.specs.Requirement.{bounds, direct}
+use Rattle.pep_require.proofs.Members.{in_either, in_first, in_none, in_rest, passes_from, passes_of}
 use Rattle.pep_table.proofs.JoinedDemands.{ExactEntry, HasEntry, at_place, either, from_both}
 use Rattle.pep_table.proofs.JoinedDemands.{same_at, table_at, undemanded}
-use Rattle.pep_table.proofs.Members.{in_either, in_first, in_none, in_rest, passes_from, passes_of}
 use Rattle.pep_table.proofs.SameDemands.{same_demands, table_from_entries, with_nothing}
 use Rattle.demands.specs.Demand.{AdmitsBesideTexts, ApplyingDemands, Demand, Demands}
 use Rattle.demands.specs.Demand.{RequirementDemands, TargetDemands, Together, presence, extra}

@@ -6,6 +6,7 @@ use Rattle.std.specs.Fmt.{digits}
 use Rattle.std.specs.Io.KnownBytes.{Keeps}
 use Rattle.std.specs.Prelude.{All, IsTrue}
 use Rattle.std.proofs.lemmas.Result.{IfErr-weaker}
+use Rattle.pep_require.proofs.Exits.{further}
 use Rattle.command_line.specs.Plan.{Text}
 use Rattle.pep_marker.specs.Environment.{EnvironmentParts}
 use Rattle.pep_marker.specs.Name.{name_of}
@@ -14,7 +15,6 @@ use Rattle.pep_marker.specs.declared.fault.MarkerFault.TheVariants as marker_fau
 use Rattle.pep_require.specs.Requirement.{RequirementParts}
 use Rattle.demands.specs.Answer.{IsAnswer}
 use Rattle.demands.specs.declared.verdict.Answer.{Answer}
-use Rattle.pep_table.proofs.Exits.{further}
 use Rattle.pep_version.specs.Spelling.{Reads}
 use Rattle.pep_version.specs.Version.{Version}
 use Rattle.pep_version.specs.declared.fault.VersionFault.{VersionFault}

@@ -7,9 +7,8 @@ use Rattle.std.proofs.lemmas.List.{length-map, length-take-le, map-append}
 use Rattle.std.specs.Io.KnownBytes.{Consumes, IsAtEnd, Keeps}
 use Rattle.std.specs.List.{AllZip}
 use Rattle.std.specs.Prelude.{◌↔◌, IsErrOf, IsTrue}
+use Rattle.pep_require.proofs.Members.{next_mapped, split_at_index}
 use Rattle.command_line.specs.Plan.{Text}
-use Rattle.pep_table.proofs.EntryPlaces.{whole}
-use Rattle.pep_table.proofs.FirstFault.{next_mapped}
 use Rattle.faults.specs.declared.fault.Cause.{Cause}
 use Rattle.faults.specs.declared.fault.Fault.{Fault}
 use Rattle.faults.specs.declared.fault.Place.{Place}
@@ -158,7 +157,7 @@ one_unread text files left_of device_of group paths k number path given inputs f
       numbered = record {
         before = map text (take k paths);
         behind = map text (drop (suc k) paths);
-        whole = ap (map text) (whole paths k path is lt)
+        whole = ap (map text) (split_at_index paths k path is lt)
             ∙ map-append text (take k paths) (path ∷ drop (suc k) paths);
         counted = ap (λ n. n + 1) (at ∙ sym (length-map (take k paths) text
             ∙ length-take-le k paths (omega (arith, lt))));

@@ -3,6 +3,8 @@ use Rattle.std.specs.Prelude.{◌≡◌, ℕ, ◌≤◌, ◌+◌, IsTrue, false,
 use Rattle.std.specs.Prelude.{codes, if◌then◌else◌, nat_eq}
 use Rattle.std.specs.Io.KnownBytes.{Consumes, IsAtEnd, Keeps}
 use Rattle.std.specs.List.{AllZip, ends_with}
+use Rattle.documents.specs.EnvironmentFile.{environment_file}
+use Rattle.documents.specs.RefusedProject.{IsNumbered}
 use Rattle.command_line.specs.Plan.{Text}
 use Rattle.pep_marker.specs.Environment.{EnvironmentParts}
 use Rattle.faults.specs.declared.fault.Cause.{Cause}
@@ -14,10 +16,8 @@ use Rattle.inputs.specs.declared.input.Input.{Input}
 use Rattle.inputs.specs.declared.input.Kind.{Kind}
 use Rattle.inputs.specs.declared.input.Kind.TheVariants as kind
 use Rattle.devices.specs.Device.{Device}
-use Rattle.inputs.specs.EnvironmentFile.{environment_file}
 use Rattle.devices.specs.Folder.{KnownFile}
 use Rattle.inputs.specs.Lists.{input_limit}
-use Rattle.inputs.specs.Refusal.{IsNumbered}
 use Rattle.inputs.specs.Streams.{ReadsUpTo}
 
 -- what lies in this place can't be opened, or reading it failed

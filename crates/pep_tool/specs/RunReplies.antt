@@ -3,6 +3,7 @@ use Rattle.std.specs.Prelude.{◌≡◌, ◌≢◌, ℕ, List, [], ◌++◌, Opt
 use Rattle.std.specs.Prelude.{None, All, Ok, Err, codes, Bool, String, map, option_map, string_bytes}
 use Rattle.std.specs.declared.alloc.Global.{Global}
 use Rattle.std.specs.Io.KnownBytes.{Consumes, IsAtEnd, Keeps}
+use Rattle.documents.specs.RefusedProject.{IsRefusedProject}
 use Rattle.command_line.specs.Plan.{Text}
 use Rattle.pep_marker.specs.Environment.{EnvironmentParts}
 use Rattle.pep_marker.specs.Name.{name_of}
@@ -35,7 +36,7 @@ use Rattle.demands.specs.Table.{TableParts}
 use Rattle.pep_table.specs.TableText.{IsTableText}
 use Rattle.command_line.specs.Plan.{CheckRequest, Request, check_version, merge_files, show_lines}
 use Rattle.command_line.specs.Plan.{show_version, standard}
-use Rattle.inputs.specs.Refusal.{BlamesInput, IsRefusedList, IsRefusedProject}
+use Rattle.inputs.specs.Refusal.{BlamesInput, IsRefusedList}
 use Rattle.pep_tool.specs.RunFiles.{CannotReadOne, ReadsEnvironment, ReadsFile, ReadsInputs}
 use Rattle.pep_tool.specs.RunFiles.{RefusesEnvironment, RefusesFile, kind_of}
 use Rattle.pep_tool.specs.Standard.{standard_environment}

@@ -14,7 +14,7 @@ ghost use Rattle.std.specs.Prelude.{
   string_bytes,
 };
 ghost use Rattle.std.specs.Io.KnownBytes.{Keeps};
-ghost use Rattle.devices.specs.Device.{Device, IsFresh};
+ghost use Rattle.devices.specs.Device.{IsFresh};
 ghost use Rattle.devices.specs.Folder.{unknown_files};
 ghost use Rattle.inputs.specs.Lists.{input_limit};
 ghost use Rattle.inputs.specs.Streams.{ReadsUpTo};

@@ -1,8 +1,8 @@
 //! Versions that are left out of all, between two places at a time.
 
-ghost use Rattle.std.specs.Prelude.{◌≡◌, ◌↔◌, ◌&&◌, ◌||◌, ◌++◌, not, All, IfErr, IfOk, IsTrue, OnOk};
+ghost use Rattle.std.specs.Prelude.{◌≡◌, ◌↔◌, ◌&&◌, ◌||◌, ◌++◌, All, IfErr, IfOk, IsTrue, OnOk};
 ghost use Rattle.std.specs.List.Sorted.{IsPermutation};
-ghost use Rattle.pep_clause.specs.Cut.{Cut, IsCut, cut_cmp, end};
+ghost use Rattle.pep_clause.specs.Cut.{Cut, IsCut, end};
 ghost use Rattle.pep_clause.specs.Joined.{joined};
 ghost use Rattle.pep_clause.specs.OperatorTable.{outside, range};
 ghost use Rattle.pep_clause.specs.VersionSet.{IsNormal, all_versions, is_point};

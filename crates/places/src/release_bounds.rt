@@ -2,15 +2,7 @@
 
 ghost use Rattle.std.specs.Prelude.{◌≡◌, ◌↔◌, ◌<◌, length, IfSome, IsSome, Some};
 ghost use Rattle.specifiers.specs.Clause.{compatible, matching, matching_prefix};
-ghost use Rattle.pep_clause.specs.Cut.{IsCut};
-ghost use Rattle.pep_clause.specs.OperatorTable.{
-  before_place,
-  before_prefix,
-  next,
-  prefix_end,
-  range,
-  set_of,
-};
+ghost use Rattle.pep_clause.specs.OperatorTable.{before_place, next, prefix_end, range, set_of};
 ghost use Rattle.places.specs.Bounds.{
   HasBounds,
   HoldsPrefix,

@@ -8,7 +8,6 @@ ghost use Rattle.std.specs.Prelude.{
   ◌&&◌,
   ◌∷◌,
   [],
-  All,
   IfErr,
   IfOk,
   IfSome,

@@ -17,7 +17,7 @@ ghost use Rattle.std.specs.Prelude.{
   string_bytes,
 };
 ghost use Rattle.std.specs.Io.KnownBytes.{Consumes, IsAtEnd};
-ghost use Rattle.devices.specs.Device.{Device, IsFresh};
+ghost use Rattle.devices.specs.Device.{IsFresh};
 ghost use Rattle.inputs.specs.Lists.{input_limit};
 ghost use Rattle.inputs.specs.Refusal.{no_memory};
 ghost use Rattle.inputs.specs.Streams.{ReadsUpTo};

@@ -21,7 +21,7 @@ ghost use Rattle.std.specs.Prelude.{
 ghost use Rattle.pep_marker.specs.Name.{name_of};
 ghost use Rattle.pep_require.specs.View.{requirement_parts};
 ghost use Rattle.pep_version.specs.Spelling.{Reads};
-ghost use Rattle.devices.specs.Device.{Device, IsFresh};
+ghost use Rattle.devices.specs.Device.{IsFresh};
 ghost use Rattle.inputs.specs.Lists.{Lists};
 ghost use Rattle.inputs.specs.Lists.{input_limit};
 ghost use Rattle.command_line.specs.Plan.{request, standard};

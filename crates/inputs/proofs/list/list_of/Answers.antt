@@ -1,8 +1,8 @@
 use Rattle.std.proofs.Common.{◌≡◌, [], ap, map, rules}
 use Rattle.pep_require.specs.View.{requirement_parts}
 use Rattle.faults.specs.declared.fault.Place.TheVariants.{Input}
+use Rattle.documents.proofs.Placed.{placed}
 use Rattle.inputs.specs.Refusal.{IsRefusedList}
-use Rattle.inputs.proofs.Placed.{placed}
 use Rattle.inputs.proofs.TakenTexts.{list_read, list_refused}
 use Rattle.inputs.proofs.list.list_of.Goals as goal
 

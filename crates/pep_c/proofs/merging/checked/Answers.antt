@@ -1,4 +1,4 @@
-use Rattle.pep_table.proofs.Exits.{further, handed_on}
+use Rattle.pep_require.proofs.Exits.{further, handed_on}
 use Rattle.pep_c.specs.Inputs.{by_environment, by_input, by_inputs, by_name, by_version}
 use Rattle.pep_c.proofs.CallLemmas.{kept_answer}
 use Rattle.pep_c.proofs.merging.checked.Goals as goal

@@ -1,5 +1,5 @@
 use Rattle.std.proofs.lemmas.Result.{IfErr-weaker}
-use Rattle.pep_table.proofs.Exits.{further}
+use Rattle.pep_require.proofs.Exits.{further}
 use Rattle.pep_c.specs.Inputs.{by_input}
 use Rattle.pep_c.proofs.merging.merged.Goals as goal
 

@@ -1,4 +1,4 @@
-use Rattle.pep_table.proofs.Exits.{further, handed_on}
+use Rattle.pep_require.proofs.Exits.{further, handed_on}
 use Rattle.pep_c.specs.Versions.{by_clause, by_version}
 use Rattle.pep_c.proofs.versions.admitted.Goals as goal
 

@@ -1,5 +1,5 @@
 use Rattle.std.proofs.Common.{◌∙◌, ap}
-use Rattle.pep_table.proofs.Exits.{further, handed_on}
+use Rattle.pep_require.proofs.Exits.{further, handed_on}
 use Rattle.pep_version.specs.Order.{version_cmp}
 use Rattle.pep_c.specs.Versions.{by_first, by_second, order_number}
 use Rattle.pep_c.proofs.CallLemmas.{kept_order}

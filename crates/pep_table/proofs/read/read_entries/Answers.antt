@@ -1,5 +1,5 @@
 use Rattle.std.proofs.Common.{◌≡◌, [], length, rules, subst, sym}
-use Rattle.pep_table.proofs.Exits.{further, handed_on}
+use Rattle.pep_require.proofs.Exits.{further, handed_on}
 use Rattle.pep_table.proofs.ReadTables.{EntriesSoFar, all_read, entry_more, next_alike, no_next}
 use Rattle.pep_table.proofs.ReadTables.{none_alike}
 use Rattle.pep_table.specs.EntryReading.{FollowsAlike, last_name}

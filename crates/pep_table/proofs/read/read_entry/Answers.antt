@@ -1,7 +1,7 @@
 use Rattle.std.proofs.Common.{◌++◌, ◌∷◌, [], inr, rules}
 use Rattle.pep_require.specs.Requirement.{IsAscending}
+use Rattle.pep_require.proofs.Exits.{further}
 use Rattle.pep_table.specs.EntryReading.{last_name}
-use Rattle.pep_table.proofs.Exits.{further}
 use Rattle.pep_table.proofs.ReadTables.{entry_read, not_behind, not_read}
 use Rattle.pep_table.proofs.read.read_entry.Goals as goal
 

@@ -1,5 +1,5 @@
 use Rattle.std.proofs.Common.{◌≡◌, inl, inr, rules, subst}
-use Rattle.pep_table.proofs.Exits.{further, handed_on}
+use Rattle.pep_require.proofs.Exits.{further, handed_on}
 use Rattle.pep_table.specs.TableText.{Shows}
 use Rattle.pep_table.proofs.read.read_judged.Goals as goal
 

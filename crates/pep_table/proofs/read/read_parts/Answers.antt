@@ -1,5 +1,5 @@
 use Rattle.std.proofs.Common.{subst, sym}
-use Rattle.pep_table.proofs.Exits.{further, handed_on}
+use Rattle.pep_require.proofs.Exits.{further, handed_on}
 use Rattle.pep_table.proofs.ReadParts.{no_extras, no_ranges, no_texts, no_urls, parts_read}
 use Rattle.pep_table.specs.EntryReading.{HasParts}
 use Rattle.pep_table.proofs.read.read_parts.Goals as goal

@@ -1,6 +1,6 @@
 use Rattle.std.proofs.Common.{◌≡◌, ◌∷◌, [], length, rules, subst, sym}
 use Rattle.std.specs.Option.{option_copied, option_to_list}
-use Rattle.pep_table.proofs.Exits.{further, handed_on}
+use Rattle.pep_require.proofs.Exits.{further, handed_on}
 use Rattle.pep_table.proofs.ReadTables.{NamedSoFar, named_more, named_read, no_named}
 use Rattle.pep_table.proofs.ReadTables.{none_named}
 use Rattle.pep_table.specs.EntryReading.{HasNext, HasNoNext}

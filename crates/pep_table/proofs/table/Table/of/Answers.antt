@@ -2,12 +2,13 @@ use Rattle.std.proofs.Common.{◌≡◌, [], ◌∷◌, List, map, rules, subst,
 use Rattle.pep_require.specs.Requirement.{RequirementParts}
 use Rattle.pep_require.specs.View.{requirement_parts}
 use Rattle.std.proofs.Math.Seq.{take_all}
+use Rattle.pep_require.proofs.Members.{next_mapped}
 use Rattle.demands.specs.Demand.{ApplyingDemands}
 use Rattle.demands.specs.Table.{HasExactPoints, IsTable}
 use Rattle.demands.specs.Gathering.{TakesApplying}
 use Rattle.pep_table.specs.EntryRanges.{HasFewEntryRanges}
 use Rattle.pep_table.proofs.EntryRanges.{few_entry_ranges}
-use Rattle.pep_table.proofs.FirstFault.{all_defined, first_undefined, next_mapped, table_made}
+use Rattle.pep_table.proofs.FirstFault.{all_defined, first_undefined, table_made}
 use Rattle.demands.proofs.TakenClauses.{always}
 use Rattle.pep_table.proofs.Taking.{all_taken, table_of_applying}
 use Rattle.pep_table.proofs.table.Table.of.Goals as goal

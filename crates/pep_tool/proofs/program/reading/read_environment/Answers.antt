@@ -1,7 +1,7 @@
 use Rattle.std.proofs.Common.{◌≡◌, Err}
 use Rattle.std.proofs.lemmas.Result.{IfErr-weaker, err_from_is_err_and}
 use Rattle.faults.specs.declared.fault.Place.TheVariants.{Environment}
-use Rattle.inputs.specs.EnvironmentFile.{environment_file}
+use Rattle.documents.specs.EnvironmentFile.{environment_file}
 use Rattle.pep_tool.proofs.RunFiles.{file_refuses, file_unread_refuses}
 use Rattle.pep_tool.proofs.program.reading.read_environment.Goals as goal
 

@@ -1,5 +1,5 @@
 use Rattle.std.proofs.Common.{map, string_bytes}
-use Rattle.pep_table.proofs.Exits.{further, handed_on}
+use Rattle.pep_require.proofs.Exits.{further, handed_on}
 use Rattle.pep_tool.specs.RunReplies.{by_check_group, by_environment, by_files, by_name}
 use Rattle.pep_tool.proofs.Refusals.{asked, check_refused, checks_files, files_refuse}
 use Rattle.pep_tool.proofs.program.reply.check_files.Goals as goal

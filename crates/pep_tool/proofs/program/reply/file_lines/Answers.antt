@@ -1,11 +1,11 @@
 use Rattle.std.proofs.Common.{◌≡◌, ◌≢◌, ap, inr, map, option_copied, option_map, refl, rules, string_bytes}
 use Rattle.std.proofs.lemmas.Result.{err_from_is_err_and}
 use Rattle.pep_require.specs.View.{requirement_parts}
+use Rattle.pep_require.proofs.Exits.{further}
 use Rattle.faults.specs.declared.fault.Place.TheVariants.{Input}
 use Rattle.inputs.specs.declared.input.Kind.TheVariants as kind
 use Rattle.pep_tool.specs.RunReplies.{IsUnlisted, by_group, by_kind, by_listing}
 use Rattle.pep_tool.specs.RunFiles.{kind_of}
-use Rattle.pep_table.proofs.Exits.{further}
 use Rattle.pep_tool.proofs.Refusals.{lists_file}
 use Rattle.pep_tool.proofs.RunFiles.{file_refuses, file_unread_refuses}
 use Rattle.pep_tool.proofs.program.reply.file_lines.Goals as goal

@@ -1,5 +1,5 @@
 use Rattle.std.proofs.Common.{map, option_map, string_bytes}
-use Rattle.pep_table.proofs.Exits.{further, handed_on}
+use Rattle.pep_require.proofs.Exits.{further, handed_on}
 use Rattle.pep_tool.specs.RunReplies.{by_environment, by_files, by_merge_group, by_merged}
 use Rattle.pep_tool.proofs.Refusals.{files_refuse, merge_refused, merges_files}
 use Rattle.pep_tool.proofs.program.reply.merge_files.Goals as goal

@@ -1,0 +1,10 @@
+pub mod Document
+pub mod EnvironmentFile
+pub mod GroupViews
+pub mod GroupWalk
+pub mod Groups
+pub mod Project
+pub mod ProjectExtras
+pub mod ProjectRequirements
+pub mod RefusedProject
+pub mod Texts

@@ -1,0 +1,11 @@
+//! TOML documents: project files with their dependency groups, and environment files.
+#![tactic(auto)]
+
+mod document;
+mod environment_file;
+mod groups;
+pub mod laws;
+mod project;
+
+pub use crate::environment_file::environment_of;
+pub use crate::project::{project_of, project_requirements};

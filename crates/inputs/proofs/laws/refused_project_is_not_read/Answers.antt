@@ -1,5 +1,0 @@
-use Rattle.inputs.proofs.Projects.{refused_project}
-use Rattle.inputs.proofs.laws.refused_project_is_not_read.Goals as goal
-
-pub returns : goal.returns
-returns c = refused_project
