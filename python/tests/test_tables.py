@@ -90,15 +90,49 @@ class Tables(unittest.TestCase):
         self.assertTrue(package.admits("2.0rc1", prereleases=True))
         self.assertEqual(package.ranges, (Range("before 1", "end"),))
 
-    def test_sources(self):
+    def test_files(self):
         with tempfile.TemporaryDirectory() as folder:
-            path = pathlib.Path(folder, "pyproject.toml")
-            path.write_text(PROJECT, encoding="utf-8")
-            of_path = merge(projects=[path], environment={**STANDARD, "extra": "dev_tools"})
+            project, faulty = pathlib.Path(folder, "pyproject.toml"), pathlib.Path(folder, "list.txt")
+            project.write_text(PROJECT, encoding="utf-8")
+            faulty.write_text("a\nb>=\n", encoding="utf-8")
+            of_path = merge(project, environment={**STANDARD, "extra": "dev_tools"})
+            of_path.save(f"{folder}/all.table")
+            again = merge(f"{folder}/all.table", environment={**STANDARD, "extra": "dev_tools"})
             with self.assertRaises(OSError):
-                merge(lists=[pathlib.Path(folder, "none")])
+                merge(pathlib.Path(folder, "none"))
+            with self.assertRaises(Refused) as caught:
+                merge(str(project), str(faulty), lists=["c"], environment=STANDARD)
+            with self.assertRaisesRegex(ValueError, "write merge"):
+                merge(lists=[str(faulty)], environment=STANDARD)
+            with self.assertRaisesRegex(OSError, "."):
+                of_path.save(f"{folder}/none/all.table")
+            self.assertEqual(sorted(os.listdir(folder)), ["all.table", "list.txt", "pyproject.toml"])
+        self.assertEqual(str(caught.exception), f"{faulty}, line 2: what follows the operator is no version, or behind `===` no text (code 57 33 12)")
         self.assertEqual(list(of_path), ["flask", "pytest"])
+        self.assertEqual(of_path, again)
         self.assertEqual(of_path, merge(projects=[PROJECT.encode()], environment={**STANDARD, "extra": "Dev-Tools"}))
+
+    def test_joins(self):
+        one, other = (merge(lists=[text], environment=STANDARD) for text in ("a>=1\nb\nc[x]\nd>=1", "a<2\nb\nc\ne"))
+        both = one | other
+        self.assertEqual(both, merge(lists=["e\nb\na<2,>=1\nc[x]\nd>=1"], environment=STANDARD))
+        self.assertEqual((both <= one, both >= one, one <= other, one <= one), (True, False, False, True))
+        self.assertEqual(one.diff(other), tubrambutan.Difference(("e",), ("d",), (), ("c",), ("a",)))
+        self.assertEqual(one.diff(both), tubrambutan.Difference(("e",), (), ("a",), (), ()))
+        with self.assertRaises(Refused) as caught:
+            one | merge(environment={**STANDARD, "os_name": "nt"})
+        self.assertEqual(caught.exception.codes, (57, 43))
+        with self.assertRaises(TypeError):
+            one | {}
+
+    def test_pickled(self):
+        table = merge(lists=["a>=1,!=1.5\nb[x]"], environment=STANDARD)
+        again = pickle.loads(pickle.dumps(table))
+        self.assertEqual((again, again["a"]), (table, table["a"]))
+        self.assertEqual(hash(again["a"]), hash(table["a"]))
+        self.assertNotEqual(table["a"], table["b"])
+        package = pickle.loads(pickle.dumps(table["a"]))
+        self.assertEqual([package.admits(it) for it in ("1", "1.5")], [True, False])
 
     def test_a_table_longer_than_its_inputs(self):
         count = 20_000
@@ -113,7 +147,7 @@ class Refusals(unittest.TestCase):
             with self.subTest(line=line), self.assertRaises(Refused) as caught:
                 merge(**inputs, environment={**STANDARD, **more})
             self.assertEqual(caught.exception.text, line)
-            self.assertEqual(str(caught.exception), f"{line}: {caught.exception.meaning}")
+            self.assertTrue(str(caught.exception).endswith(f"{caught.exception.meaning} (code {line.partition(' code ')[2]})"))
             self.assertEqual(caught.exception.is_environment, "environment" in line)
             self.assertEqual(" ".join(map(str, caught.exception.codes)), line.partition(" code ")[2])
 
@@ -138,12 +172,15 @@ class Refusals(unittest.TestCase):
         self.assertEqual([table["a"].admits(it) for it in ("0", "1", "999", "1000")], [True, False, False, True])
 
     def test_one_input_without_a_list(self):
-        for source in ("flask", b"flask", pathlib.Path("flask.txt")):
+        for source in ("flask", b"flask", pathlib.Path("flask.txt"), 0, [0], [pathlib.Path("flask.txt")]):
             for kind in ("lists", "projects", "tables"):
-                with self.subTest(kind=kind, source=source), self.assertRaises(TypeError):
+                with self.subTest(kind=kind, source=source), self.assertRaisesRegex(TypeError, kind):
                     merge(**{kind: source}, environment=STANDARD)
-        with self.assertRaises(TypeError):
-            merge(lists=[0], environment=STANDARD)
+        for wrong in ({"environment": 1}, {"environment": ["os_name"]}):
+            with self.assertRaisesRegex(TypeError, "environment"):
+                merge(**wrong)
+        with self.assertRaisesRegex(TypeError, "path"):
+            merge(0, environment=STANDARD)
 
     def test_names_that_are_none(self):
         table = merge(lists=["keras"], environment=STANDARD)
@@ -155,22 +192,37 @@ class Refusals(unittest.TestCase):
     def test_requirements(self):
         self.assertEqual(tubrambutan.requirement_text("A_b [x,X] >=1.0 ; extra=='y'"), 'a-b[x]>=1.0 ; extra == "y"')
         for text, codes in [("", (57, 31)), ("a[", (57, 32)), ("a\nb", (57, 36)), ("a @ b", (57, 34)), ("a;b", (57, 35, 26)), ("\udcff", (57, 51)), ("a @ \ud800", (57, 51))]:
-            with self.subTest(text=text), self.assertRaises(Refused) as caught:
+            with self.subTest(text=text), self.assertRaises(tubrambutan.InvalidRequirement) as caught:
                 tubrambutan.requirement_text(text)
-            self.assertEqual((caught.exception.input, caught.exception.line, caught.exception.codes), (1, 1, codes))
+            self.assertEqual((caught.exception.input, caught.exception.line, caught.exception.codes), (None, None, codes))
+
+    def test_kinds_and_messages(self):
+        rows = [
+            (lambda: tubrambutan.Version("1.x"), tubrambutan.InvalidVersion, "'1.x': the text is no version (code 62 1)"),
+            (lambda: tubrambutan.admits(">=1.*", "1"), tubrambutan.InvalidSpecifier, "'>=1.*': `.*` stands behind more than a release, or with another operator than `==` and `!=` (code 57 33 13)"),
+            (lambda: tubrambutan.admits(">=1", "x"), tubrambutan.InvalidVersion, "'x': the text is no version (code 62 1)"),
+            (lambda: merge(lists=["a"], environment=STANDARD)["a"].admits("x"), tubrambutan.InvalidVersion, "'x': the text is no version (code 62 1)"),
+            (lambda: merge(environment={}), Refused, "the environment lacks one of the eleven variables (code 59 23)"),
+        ]
+        for call, kind, message in rows:
+            with self.subTest(message), self.assertRaises(kind) as caught:
+                call()
+            self.assertEqual((type(caught.exception), str(caught.exception)), (kind, message))
+            self.assertIsInstance(caught.exception, ValueError)
+
+    def test_a_code_without_words(self):
+        self.assertEqual(str(Refused("refused input 1 code 98 7\n")), "input 1: a refusal that this package has no words for (code 98 7)")
 
     def test_what_codes_mean(self):
         with open(f"{ROOT}/docs/CODES.md", encoding="utf-8") as it:
-            rows = re.findall(r"^\| ([0-9 ]+) \|", it.read(), re.M)
-        told = {tuple(map(int, it.split())) for it in rows}
-        # What is told of files, words, groups and streams, none of which this package has.
-        others = {(58,), (61,), (63,), (64,), (65,), (66,), (67,)}
-        self.assertEqual(set(tubrambutan._codes.MEANINGS), told - others)
+            rows = re.findall(r"^\| ([0-9 ]+) \| (.*?) \|", it.read(), re.M)
+        self.assertEqual({tuple(map(int, codes.split())): words for codes, words in rows}, tubrambutan._codes.MEANINGS)
 
     def test_a_refusal_is_pickled(self):
         with self.assertRaises(Refused) as caught:
             tubrambutan.Version("x")
-        self.assertEqual(str(pickle.loads(pickle.dumps(caught.exception))), str(caught.exception))
+        again = pickle.loads(pickle.dumps(caught.exception))
+        self.assertEqual((type(again), str(again)), (type(caught.exception), str(caught.exception)))
 
 
 class Environments(unittest.TestCase):

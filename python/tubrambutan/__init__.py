@@ -17,12 +17,16 @@ the forked child of a process with threads.
 
 from ._environment import default_environment
 from ._merge import merge
-from ._refused import Refused
+from ._refused import InvalidRequirement, InvalidSpecifier, InvalidVersion, Refused
 from ._requirement import admits, requirement_text
-from ._table import Package, Range, Table
+from ._table import Difference, Package, Range, Table
 from ._version import Version
 
 __all__ = [
+    "Difference",
+    "InvalidRequirement",
+    "InvalidSpecifier",
+    "InvalidVersion",
     "Package",
     "Range",
     "Refused",

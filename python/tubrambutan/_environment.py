@@ -20,8 +20,19 @@ def _full_version(info: Any) -> str:
     return version if info.releaselevel == "final" else f"{version}{info.releaselevel[0]}{info.serial}"
 
 
+def _repaired(version: str) -> str:
+    """Returns a version of an interpreter that was built between two releases, as `3.13.0+`, with a local version label, so that it is one.
+
+    >>> _repaired("3.13.0+"), _repaired("3.13.0")
+    ('3.13.0+local', '3.13.0')
+    """
+    return f"{version}local" if version.endswith("+") else version
+
+
 def default_environment() -> dict[str, str]:
     """Returns the environment of the running interpreter: the eleven variables of PEP 508, derived as it says, without an `extra`.
+
+    The full version of an interpreter that was built between two releases gets a local version label, as `packaging` gives it one.
 
     >>> import sys, tubrambutan
     >>> environment = tubrambutan.default_environment()
@@ -40,7 +51,7 @@ def default_environment() -> dict[str, str]:
         "platform_system": platform.system(),
         "platform_version": platform.version(),
         "python_version": ".".join(platform.python_version_tuple()[:2]),
-        "python_full_version": platform.python_version(),
+        "python_full_version": _repaired(platform.python_version()),
         "implementation_name": sys.implementation.name,
         "implementation_version": _full_version(sys.implementation.version),
     }

@@ -20,6 +20,13 @@ _SIZE = 512
 _Room = ctypes.c_char * _SIZE
 
 
+def _path() -> pathlib.Path:
+    """Returns the library of a wheel, or in a clone that of `dist/`."""
+    here = pathlib.Path(__file__).resolve()
+    beside = here.with_name("libtubrambutan.so")
+    return beside if beside.exists() else here.parents[2] / "dist" / beside.name
+
+
 class _Part(ctypes.Structure):
     _fields_ = [("kind", ctypes.c_uint32), ("size", ctypes.c_size_t)]
 
@@ -32,10 +39,10 @@ _BYTES = [ctypes.c_char_p, ctypes.c_size_t]
 _INPUTS = [*_BYTES, ctypes.c_void_p, ctypes.c_size_t, *_BYTES]
 _ROOM_FOR_TEXT = [ctypes.c_void_p, ctypes.c_size_t]
 # (a `CDLL` gives the interpreter's lock back while a call runs)
-_LIBRARY = ctypes.CDLL(str(pathlib.Path(__file__).with_name("libtubrambutan.so")))
+_LIBRARY = ctypes.CDLL(str(_path()))
 
 
-def _export(name: str, *types: Any) -> Callable[..., Any]:
+def _export(name: str, *types: Any) -> Any:
     """Returns the function of the library with this name and these types of arguments."""
     function = getattr(_LIBRARY, name)
     function.argtypes = [*types, *_ROOM_FOR_TEXT]
@@ -76,14 +83,14 @@ def _answer(function: Callable[..., Any], *arguments: Any) -> int:
     reply = function(*arguments, room, _SIZE)
     if reply.status != _ANSWERED:
         raise _refused(reply, room)
-    return reply.answer
+    return int(reply.answer)
 
 
 class Inputs:
     """Inputs in one buffer, each with its kind."""
 
     def __init__(self, environment: bytes, inputs: Sequence[tuple[int, bytes]]) -> None:
-        parts = (_Part * max(len(inputs), 1))(*((kind, len(data)) for kind, data in inputs))
+        parts = (_Part * max(len(inputs), 1))(*[_Part(kind, len(data)) for kind, data in inputs])
         data = b"".join(it for _, it in inputs)
         self._size = len(data)
         self._arguments = (environment, len(environment), parts, len(inputs), data, len(data))

@@ -7,11 +7,13 @@ from typing import Optional
 
 from ._codes import meaning_of
 
-_LINE = re.compile(r"refused( environment)?(?: input (\d+))?(?: line (\d+))? code((?: \d+)+)\n")
+_LINE = re.compile(r"refused( environment)?(?: input (\d+))?(?: line (\d+))? code((?: \d+)+)\n?")
+# How much of a text a message shows.
+_SHOWN = 60
 
 
 class Refused(ValueError):
-    r"""What was handed in is refused.
+    r"""What was handed in is refused. The message says what is wrong, where, and with which codes.
 
     >>> import tubrambutan
     >>> try:
@@ -20,15 +22,16 @@ class Refused(ValueError):
     ...     print(refused.input, refused.line, refused.codes)
     ...     print(refused)
     1 2 (57, 33, 12)
-    refused input 1 line 2 code 57 33 12: what follows the operator is no version, or behind `===` no text
+    input 1, line 2: what follows the operator is no version, or behind `===` no text (code 57 33 12)
 
     Attributes:
         text: the line that the program tells of the same, without its line feed.
         is_environment: whether the environment is at fault.
-        input: the number of the input at fault, counted from 1 through lists, project files and tables in this order; None where none is.
+        input: the number of the input at fault, counted from 1 through paths, lists, projects and tables in this order; None where none is.
         line: the number of the line at fault, or of the text of a project file, counted from 1; None where none is.
         codes: the codes, from the outermost to the innermost.
         meaning: what the codes mean, in words.
+        subject: the text that was refused, or the path of its file; None where neither is known.
     """
 
     text: str
@@ -37,8 +40,9 @@ class Refused(ValueError):
     line: Optional[int]
     codes: tuple[int, ...]
     meaning: str
+    subject: Optional[str]
 
-    def __init__(self, text: str) -> None:
+    def __init__(self, text: str, subject: Optional[str] = None) -> None:
         found = _LINE.fullmatch(text)
         if not found:
             raise AssertionError(f"no line of a refusal: {text!r}")
@@ -49,7 +53,34 @@ class Refused(ValueError):
         self.line = int(line) if line else None
         self.codes = tuple(map(int, codes.split()))
         self.meaning = meaning_of(self.codes)
-        super().__init__(f"{self.text}: {self.meaning}")
+        self.subject = subject
+        super().__init__(f"{self._where()}{self.meaning} (code{codes})")
 
-    def __reduce__(self) -> tuple[type[Refused], tuple[str]]:
-        return Refused, (f"{self.text}\n",)
+    def _where(self) -> str:
+        """Returns what is at fault, with a colon, or nothing where that isn't known."""
+        told = [f"input {self.input}"] if self.input else []
+        if self.subject is not None:
+            told = [self.subject if len(self.subject) <= _SHOWN else f"{self.subject[:_SHOWN]}.."]
+        if self.line:
+            told.append(f"line {self.line}")
+        return f"{', '.join(told)}: " if told else ""
+
+    def __reduce__(self) -> tuple[type[Refused], tuple[str, Optional[str]]]:
+        return type(self), (self.text, self.subject)
+
+
+class InvalidVersion(Refused):
+    """A text is no version (PEP 440), or has a number above 18446744073709551615."""
+
+
+class InvalidSpecifier(Refused):
+    """A text is no version specifier clause (PEP 440)."""
+
+
+class InvalidRequirement(Refused):
+    """A text is no requirement (PEP 508)."""
+
+
+def of_text(kind: type[Refused], refused: Refused, text: str) -> Refused:
+    """Returns the refusal of a text that stands alone, or that of the call where memory is at fault."""
+    return Refused(refused.text) if refused.codes == (60,) else kind(refused.text.replace(" input 1 line 1", ""), repr(text))

@@ -5,6 +5,7 @@ from __future__ import annotations
 from typing import Union
 
 from . import _library
+from ._refused import InvalidRequirement, InvalidSpecifier, InvalidVersion, Refused, of_text
 from ._texts import encoded
 from ._version import Version
 
@@ -17,9 +18,12 @@ def requirement_text(requirement: str) -> str:
     'requests[security]>=2.8.1 ; os_name == "nt"'
 
     Raises:
-        Refused: the text is no requirement. It is named as line 1 of input 1.
+        InvalidRequirement: the text is no requirement.
     """
-    return _library.requirement_text(encoded(requirement))
+    try:
+        return _library.requirement_text(encoded(requirement))
+    except Refused as refused:
+        raise of_text(InvalidRequirement, refused, requirement) from None
 
 
 def admits(clause: str, version: Union[Version, str]) -> bool:
@@ -30,6 +34,12 @@ def admits(clause: str, version: Union[Version, str]) -> bool:
     (True, False)
 
     Raises:
-        Refused: the one is no clause, which is named as line 1 of input 1, or the other no version.
+        InvalidSpecifier: the text is no clause.
+        InvalidVersion: the text is no version.
     """
-    return _library.clause_admits(encoded(clause), encoded(str(version)))
+    try:
+        return _library.clause_admits(encoded(clause), encoded(str(version)))
+    except Refused as refused:
+        if refused.input:
+            raise of_text(InvalidSpecifier, refused, clause) from None
+        raise of_text(InvalidVersion, refused, str(version)) from None

@@ -2,10 +2,14 @@
 
 from __future__ import annotations
 
+import contextlib
+import os
 import re
+import secrets
 from typing import Iterator, Mapping, NamedTuple, Union
 
 from ._library import TABLE, Inputs
+from ._refused import InvalidVersion, Refused, of_text
 from ._texts import encoded
 from ._version import Version
 
@@ -47,6 +51,7 @@ class Package:
     """
 
     def __init__(self, lines: list[str], environment: bytes) -> None:
+        self._given = lines, environment
         found = _OF_NAME.fullmatch(lines[0])
         if not found:
             raise AssertionError(f"no line of a name: {lines[0]!r}")
@@ -72,12 +77,47 @@ class Package:
         (True, False, True, False)
 
         Raises:
-            Refused: the text is no version; or what is demanded has more than 16,777,216 bytes, which no input may have.
+            InvalidVersion: the text is no version.
+            Refused: what is demanded has more than 16,777,216 bytes, which no input may have.
         """
-        return self._inputs.answer(self.name.encode(), encoded(str(version)), prereleases) == 1
+        try:
+            return self._inputs.answer(self.name.encode(), encoded(str(version)), prereleases) == 1
+        except Refused as refused:
+            if refused.codes[0] == 62:
+                raise of_text(InvalidVersion, refused, str(version)) from None
+            raise
+
+    def __eq__(self, other: object) -> bool:
+        if not isinstance(other, Package):
+            return NotImplemented
+        return self._given[0] == other._given[0]
+
+    def __hash__(self) -> int:
+        return hash(tuple(self._given[0]))
+
+    def __reduce__(self) -> tuple[type[Package], tuple[list[str], bytes]]:
+        return Package, self._given
 
     def __repr__(self) -> str:
         return f"<Package {self.name} {self.verdict}>"
+
+
+class Difference(NamedTuple):
+    """What another table says of packages that a table doesn't say.
+
+    Attributes:
+        added: the names that the other table alone has.
+        removed: the names that it hasn't.
+        narrowed: the names of which it demands all that the table does, and more.
+        widened: the names of which the table demands all that it does, and more.
+        changed: the names that changed otherwise.
+    """
+
+    added: tuple[str, ...]
+    removed: tuple[str, ...]
+    narrowed: tuple[str, ...]
+    widened: tuple[str, ...]
+    changed: tuple[str, ...]
 
 
 class Table(Mapping[str, Package]):
@@ -92,16 +132,25 @@ class Table(Mapping[str, Package]):
     >>> table["zope_interface"].name
     'zope-interface'
 
+    `a | b` is the table of all that both demand, which their environments must have in common. `a <= b` says that joining b to a
+    changes nothing: a demands all that b demands.
+
+    >>> one, other = tubrambutan.merge(lists=["demo>=1"]), tubrambutan.merge(lists=["demo<2"])
+    >>> (one | other)["demo"].ranges, (one | other) <= one, one <= other
+    ((Range(low='before 1', high='before 2.dev0'),), True, False)
+
     Attributes:
         text: the printed table, its header too, which is an input of `merge` again where it has at most 16,777,216 bytes.
+        lines: the text without the header.
     """
 
     def __init__(self, text: str, environment: bytes) -> None:
         self.text = text
+        self.lines = text.split("\n", _HEADER)[_HEADER]
         self._environment = environment
         self._lines: dict[str, list[str]] = {}
         lines: list[str] = []
-        for line in text.split("\n")[_HEADER:-1]:
+        for line in self.lines.split("\n")[:-1]:
             if not line.startswith(" "):
                 lines = self._lines.setdefault(line.partition(" ")[0], [])
             lines.append(line)
@@ -119,8 +168,61 @@ class Table(Mapping[str, Package]):
     def __len__(self) -> int:
         return len(self._lines)
 
+    def __or__(self, other: Table) -> Table:
+        if not isinstance(other, Table):
+            return NotImplemented
+        tables = [(TABLE, encoded(it.text)) for it in (self, other)]
+        return Table(Inputs(self._environment, tables).merged(), self._environment)
+
+    def __le__(self, other: Table) -> bool:
+        return self | other == self if isinstance(other, Table) else NotImplemented
+
+    def __ge__(self, other: Table) -> bool:
+        return other <= self if isinstance(other, Table) else NotImplemented
+
+    def diff(self, other: Table) -> Difference:
+        """Returns how another table of the same environment differs.
+
+        >>> import tubrambutan
+        >>> old, new = tubrambutan.merge(lists=["a\\nb>=1\\nc"]), tubrambutan.merge(lists=["b>=2\\nc\\nd"])
+        >>> old.diff(new)
+        Difference(added=('d',), removed=('a',), narrowed=('b',), widened=(), changed=())
+
+        Raises:
+            Refused: the environments differ.
+        """
+        both = self | other
+        kinds: dict[str, list[str]] = {kind: [] for kind in Difference._fields}
+        for name in both:
+            ours, theirs = self._lines.get(name), other._lines.get(name)
+            if ours != theirs:
+                whole = both._lines[name]
+                kind = "added" if ours is None else "removed" if theirs is None else "narrowed" if whole == theirs else "widened"
+                kinds["changed" if ours and theirs and whole not in (ours, theirs) else kind].append(name)
+        return Difference(*(tuple(kinds[kind]) for kind in Difference._fields))
+
+    def save(self, path: Union[str, os.PathLike[str]]) -> None:
+        """Writes the printed table to a file: beside it first, and then in its place, so that no part of a table remains where writing fails.
+
+        Raises:
+            OSError: the file can't be written.
+        """
+        target = os.fspath(path)
+        folder, name = os.path.split(target)
+        beside = os.path.join(folder, f".{name}.{secrets.token_hex(8)}")
+        try:
+            with open(beside, "xb") as file:
+                file.write(encoded(self.text))
+            os.replace(beside, target)
+        except BaseException:
+            with contextlib.suppress(FileNotFoundError):
+                os.unlink(beside)
+            raise
+
     def __eq__(self, other: object) -> bool:
-        return self.text == other.text if isinstance(other, Table) else NotImplemented
+        if not isinstance(other, Table):
+            return NotImplemented
+        return self.text == other.text
 
     def __hash__(self) -> int:
         return hash(self.text)

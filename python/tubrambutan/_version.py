@@ -6,6 +6,7 @@ import functools
 import re
 
 from . import _library
+from ._refused import InvalidVersion, Refused, of_text
 from ._texts import encoded
 
 # The epoch and the release, with which a normal text begins.
@@ -25,13 +26,16 @@ class Version:
     [Version('1.9'), Version('1.10rc1'), Version('1.10')]
 
     Raises:
-        Refused: the text is no version, or has a number above 18446744073709551615.
+        InvalidVersion: the text is no version, or has a number above 18446744073709551615.
     """
 
     __slots__ = ("_bytes", "_text")
 
     def __init__(self, text: str) -> None:
-        self._text = _library.version_text(encoded(text))
+        try:
+            self._text = _library.version_text(encoded(text))
+        except Refused as refused:
+            raise of_text(InvalidVersion, refused, text) from None
         self._bytes = self._text.encode()
 
     def __str__(self) -> str:
