@@ -86,7 +86,7 @@ class Clauses(unittest.TestCase):
         for clause, code in rows:
             with self.subTest(clause=clause), self.assertRaises(Refused) as caught:
                 admits(clause, "1.0")
-            self.assertEqual((caught.exception.line, caught.exception.codes), (1, (57, 33, code)))
+            self.assertEqual((caught.exception.line, caught.exception.codes), (None, (57, 33, code)))
         for clause in (">=\ud800", "\ud800"):
             with self.subTest(clause=clause), self.assertRaises(Refused) as caught:
                 admits(clause, "1.0")
