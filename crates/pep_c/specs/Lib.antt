@@ -1,4 +1,7 @@
+pub mod ClauseLists
+pub mod Fields
 pub mod FirstLine
+pub mod Keys
 pub mod Inputs
 pub mod Parts
 pub mod Requirements
