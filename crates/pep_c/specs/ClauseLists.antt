@@ -3,6 +3,7 @@ use Rattle.std.specs.Prelude.{◌≡◌, ℕ, ◌==◌, ◌⊎◌, Bool, true, f
 use Rattle.std.specs.List.{AllZip, list_all, slice_split}
 use Rattle.texts.specs.Bytes.{is_white_space}
 use Rattle.pep_version.specs.Spelling.{Reads}
+use Rattle.pep_version.specs.Version.{is_pre_release}
 use Rattle.pep_version.specs.Version.{Version}
 use Rattle.specifiers.specs.Admits.{admits}
 use Rattle.specifiers.specs.Clause.{Clause, IsClause, clause_text}
@@ -42,14 +43,17 @@ pub record AreClauseLines (bytes lines : List ℕ) : Type 0 where
 
 -- ---- versions
 
-abbrev pub truth_byte : Bool → ℕ
-truth_byte true = 1
-truth_byte false = 0
+-- by whether it is admitted, and whether it is a pre-release
+abbrev pub answer_byte : Bool → Bool → ℕ
+answer_byte false is_pre = 0
+answer_byte true false = 1
+answer_byte true true = 3
 
--- 1 if all clauses admit the version that the text spells, 0 if one doesn't, and 2 if it spells none
+-- 0 if a clause doesn't admit the version that the text spells, 1 if all do, or 3 if it is a pre-release too; and 2 if the
+-- text spells none
 abbrev pub AnswersText : List Clause → List ℕ → ℕ → Type 0
 AnswersText cs text n =
-    ((v : Version) × Reads text (Ok v) × (n ≡ truth_byte (list_all (λ c. admits c v) cs)))
+    ((v : Version) × Reads text (Ok v) × (n ≡ answer_byte (list_all (λ c. admits c v) cs) (is_pre_release v)))
     ⊎ ((n ≡ 2) × (fault : Fault) × RefusesVersion text fault)
 
 -- such an answer for each text between zero bytes

@@ -7,7 +7,7 @@ ghost use Rattle.specifiers.specs.Admits.{admits};
 ghost use Rattle.specifiers.specs.Clause.{Clause, clause_text};
 ghost use Rattle.faults.specs.NoMemory.{no_memory};
 ghost use Rattle.pep_c.specs.ClauseLists.{AnswersEach, AnswersText, AnswersTexts, AreClauseLines};
-ghost use Rattle.pep_c.specs.ClauseLists.{AreClauses, RefusesClauses, WriteClauses, truth_byte};
+ghost use Rattle.pep_c.specs.ClauseLists.{AreClauses, RefusesClauses, WriteClauses, answer_byte};
 ghost use Rattle.pep_c.specs.Fields.{fields};
 ghost use Rattle.pep_c.specs.Room.{GivesText, TellsRefusal};
 ghost use Rattle.pep_c.specs.Versions.{IsNoClause};
@@ -89,6 +89,17 @@ fn admits_all(alloc: Global, clauses: &[Clause], version: &Version) -> Result<bo
     Ok(true)
 }
 
+// The answer on a version, by whether all clauses admit it, and whether it is a pre-release.
+fn answer_byte(is_admitted: bool, is_pre: bool) -> u8
+    ensures { result ≡ answer_byte is_admitted is_pre }
+{
+    match (is_admitted, is_pre) {
+        (false, _) => 0,
+        (true, false) => 1,
+        (true, true) => 3,
+    }
+}
+
 // The answer of the clauses on the version that a text spells.
 fn answer_of(alloc: Global, clauses: &[Clause], text: &[u8]) -> Result<u8, AllocError>
     ensures { IfOk result (AnswersText clauses.now text.now) }
@@ -96,7 +107,7 @@ fn answer_of(alloc: Global, clauses: &[Clause], text: &[u8]) -> Result<u8, Alloc
     match read_version(alloc, text) {
         Ok(version) => {
             let is_admitted = admits_all(alloc, clauses, &version)?;
-            Ok(if is_admitted { 1 } else { 0 })
+            Ok(answer_byte(is_admitted, version.is_pre()))
         }
         Err(fault) => match fault.cause {
             Cause::NoMemory => Err(AllocError),
@@ -149,7 +160,8 @@ pub extern "C" fn tubrambutan_clauses(alloc: Global, bytes: &[u8], room: &mut [u
 }
 
 /// Which versions all clauses admit that the bytes write (see [`tubrambutan_clauses`], whose refusals it has): for each text between zero
-/// bytes one byte, 1 if they admit the version that the text spells, pre-releases too, 0 if one of them doesn't, and 2 if the text is no version.
+/// bytes one byte: 0 if one of the clauses doesn't admit the version that the text spells; 1 if they all do and it is no pre-release, 3 if they all do and it is
+/// one; and 2 if the text is no version.
 #[unsafe(no_mangle)]
 pub extern "C" fn tubrambutan_admits_each(
     alloc: Global,

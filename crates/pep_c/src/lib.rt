@@ -18,7 +18,7 @@ mod versions;
 
 pub use crate::clause_lists::{tubrambutan_admits_each, tubrambutan_clauses};
 pub use crate::keys::{tubrambutan_key, tubrambutan_keys, tubrambutan_version_numbers};
-pub use crate::merging::{tubrambutan_check, tubrambutan_merge};
+pub use crate::merging::{tubrambutan_check, tubrambutan_merge, tubrambutan_name};
 pub use crate::parts::Part;
 pub use crate::reply::{ANSWERED, MISCUT, REFUSED, Reply};
 pub use crate::requirements::{tubrambutan_requirement, tubrambutan_requirement_parts};

@@ -84,7 +84,11 @@ fn requirement_fields(alloc: Global, bytes: &[u8]) -> Result<String, Fault>
 /// extra, in byte order; `clause C` for each clause, as it stands there, or `url U`, as it was written; and `marker M`, where there is one. It is refused as line 1 of input 1,
 /// as 57 with 31 to 39 or 51; or as 60.
 #[unsafe(no_mangle)]
-pub extern "C" fn tubrambutan_requirement_parts(alloc: Global, bytes: &[u8], room: &mut [u8]) -> Reply
+pub extern "C" fn tubrambutan_requirement_parts(
+    alloc: Global,
+    bytes: &[u8],
+    room: &mut [u8],
+) -> Reply
     ensures status { (result.status ≡ ANSWERED) ⊎ (result.status ≡ REFUSED) }
     ensures answer { result.answer ≡ pos 0 }
     ensures fields { result.status ≡ ANSWERED →
