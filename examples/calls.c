@@ -92,6 +92,45 @@ static void versions_and_clauses(void)
     show("compare", tubrambutan_compare(BYTES("1.0"), BYTES("1.0rc1"), room, sizeof room), room);
 }
 
+/* Texts with a zero byte between two, as two arguments of a call. */
+#define TEXTS(array) (const uint8_t *)(array), sizeof(array) - 1
+
+static void show_bytes(const char *call, tubrambutan_reply reply, const uint8_t *room)
+{
+    printf("%s:", call);
+    for (size_t at = 0; at < reply.size; at++) {
+        printf(" %02x", room[at]);
+    }
+    printf("\n");
+}
+
+static void parts_and_keys(void)
+{
+    uint8_t room[256] = {0};
+    uint64_t numbers[16] = {0};
+    tubrambutan_reply reply;
+
+    show("requirement parts", tubrambutan_requirement_parts(BYTES("Flask[B,a] >=2.0, <3 ; os_name=='nt'"), room, sizeof room), room);
+    show("requirement parts", tubrambutan_requirement_parts(BYTES("a @ https://x.test/1"), room, sizeof room), room);
+    show("requirement parts", tubrambutan_requirement_parts(BYTES("a>="), room, sizeof room), room);
+    show("name", tubrambutan_name(BYTES("Zope.Interface"), room, sizeof room), room);
+    show("name", tubrambutan_name(BYTES("-"), room, sizeof room), room);
+    show("clauses", tubrambutan_clauses(BYTES(" >= 1.0 ,, ~=2.2,==1.*"), room, sizeof room), room);
+    show("clauses", tubrambutan_clauses(BYTES(">=1,1"), room, sizeof room), room);
+    show_bytes("admits each", tubrambutan_admits_each(BYTES(">=1,!=2"), TEXTS("1\0" "0.9\0" "x\0" "3rc1\0" "2.0"), room, sizeof room), room);
+    show("admits each", tubrambutan_admits_each(BYTES(">=1.*"), TEXTS("1"), room, sizeof room), room);
+    show_bytes("key", tubrambutan_key(BYTES("1.0a2"), room, sizeof room), room);
+    show("key", tubrambutan_key(BYTES("x"), room, sizeof room), room);
+    show_bytes("keys", tubrambutan_keys(TEXTS("1+x\0" "y"), room, sizeof room), room);
+    reply = tubrambutan_version_numbers(BYTES("1!2.0rc3.post4.dev5+x"), numbers, 16, room, sizeof room);
+    printf("version numbers:");
+    for (size_t at = 0; at < reply.size; at++) {
+        printf(" %llu", (unsigned long long)numbers[at]);
+    }
+    printf("\n");
+    show("version numbers", tubrambutan_version_numbers(BYTES("1.x"), numbers, 16, room, sizeof room), room);
+}
+
 /* As README has it. */
 static void read_me(void)
 {
@@ -114,6 +153,7 @@ int main(void)
 {
     merge_and_check();
     versions_and_clauses();
+    parts_and_keys();
     read_me();
     too_little_room();
     return EXIT_SUCCESS;

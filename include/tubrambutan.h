@@ -1,8 +1,8 @@
 /* Tubrambutan as a library in C: reads Python requirements and merges them into one table.
  *
  * Each call is one export of crates/pep_c, which is proved to meet its contract (docs/PROVED.md). Nothing is proved of what
- * calls it. Link libpep_c.a ("rt lib" in crates/pep_c makes it in out/) with c/liblibc_c.a of the kit, whose allocator is malloc,
- * realloc and free of the program.
+ * calls it. Link dist/libtubrambutan.so, or libpep_c.a ("rt lib" in crates/pep_c makes it in out/) with c/liblibc_c.a of the kit. The allocator is
+ * malloc, realloc and free of the program.
  *
  * What goes out. A call returns a reply. Where its `status` is TUBRAMBUTAN_ANSWERED, its `answer` is that of a call that asks
  * something, and 0 of any other; and `size` is the length of the text that goes out, 0 where none does. Where the room has as many
@@ -87,6 +87,37 @@ tubrambutan_reply tubrambutan_admits(const uint8_t *clause, size_t clause_size, 
 /* The order of two versions (PEP 440): -1 where the first is below the second, 0 where they are the same, 1 where it is above. */
 tubrambutan_reply tubrambutan_compare(const uint8_t *first, size_t first_size, const uint8_t *second, size_t second_size,
                                       uint8_t *room, size_t room_size);
+
+/* The key of a version: of two versions the one whose key is below the other's in byte order (memcmp, and of keys that begin alike the
+ * shorter) is below it, and versions that are the same in order have one key. */
+tubrambutan_reply tubrambutan_key(const uint8_t *version, size_t version_size, uint8_t *room, size_t room_size);
+
+/* The keys of many versions, whose texts have a zero byte between two: of each its length as eight bytes, the most significant first,
+ * and the key. A text that is no version has the length 0. */
+tubrambutan_reply tubrambutan_keys(const uint8_t *versions, size_t versions_size, uint8_t *room, size_t room_size);
+
+/* The numbers of a version: the epoch; the phase of a pre-release (1 for a, 2 for b, 3 for rc) and its number; 1 and the number of a
+ * post-release; 1 and the number of a developmental release; each of these 0 and 0 where there is none; and then the numbers of the
+ * release. The size of the reply counts them, and they go out if there is room for as many. The line of a refusal goes into the other room. */
+tubrambutan_reply tubrambutan_version_numbers(const uint8_t *version, size_t version_size, uint64_t *numbers, size_t number_count,
+                                              uint8_t *room, size_t room_size);
+
+/* The parts of a requirement, each on a line of its own: "name N", normalized; "extra E" for each extra, in byte order; "clause C" for
+ * each clause, or "url U" as it was written; and "marker M" where there is one. A refusal names it as line 1 of input 1. */
+tubrambutan_reply tubrambutan_requirement_parts(const uint8_t *requirement, size_t requirement_size, uint8_t *room,
+                                                size_t room_size);
+
+/* The normalized text of a name (PEP 503). */
+tubrambutan_reply tubrambutan_name(const uint8_t *name, size_t name_size, uint8_t *room, size_t room_size);
+
+/* The normal texts of version specifier clauses with a comma between two, each on a line of its own. What stands between two commas
+ * may be white space alone. A refusal names the first that is no clause as line 1 of input 1. */
+tubrambutan_reply tubrambutan_clauses(const uint8_t *clauses, size_t clauses_size, uint8_t *room, size_t room_size);
+
+/* Which of many versions, whose texts have a zero byte between two, such clauses admit: for each one byte, 0 where a clause doesn't admit
+ * it; 1 where all do and it is no pre-release; 3 where all do and it is one; 2 where the text is no version. */
+tubrambutan_reply tubrambutan_admits_each(const uint8_t *clauses, size_t clauses_size, const uint8_t *versions,
+                                          size_t versions_size, uint8_t *room, size_t room_size);
 
 #ifdef __cplusplus
 }

@@ -17,22 +17,31 @@ the forked child of a process with threads.
 
 from ._environment import default_environment
 from ._merge import merge
-from ._refused import InvalidRequirement, InvalidSpecifier, InvalidVersion, Refused
-from ._requirement import admits, requirement_text
+from ._refused import InvalidMarker, InvalidName, InvalidRequirement, InvalidSpecifier, InvalidVersion, Refused, UndefinedComparison
+from ._requirement import Marker, Requirement, admits, canonicalize_name, requirement_text
+from ._specifiers import Specifier, SpecifierSet
 from ._table import Difference, Package, Range, Table
 from ._version import Version
 
 __all__ = [
     "Difference",
+    "InvalidMarker",
+    "InvalidName",
     "InvalidRequirement",
     "InvalidSpecifier",
     "InvalidVersion",
+    "Marker",
     "Package",
     "Range",
     "Refused",
+    "Requirement",
+    "Specifier",
+    "SpecifierSet",
     "Table",
+    "UndefinedComparison",
     "Version",
     "admits",
+    "canonicalize_name",
     "default_environment",
     "merge",
     "requirement_text",

@@ -54,8 +54,14 @@ _merge = _export("tubrambutan_merge", *_INPUTS)
 _check = _export("tubrambutan_check", *_INPUTS, *_BYTES, *_BYTES, ctypes.c_bool)
 _version = _export("tubrambutan_version", *_BYTES)
 _requirement = _export("tubrambutan_requirement", *_BYTES)
+_requirement_parts = _export("tubrambutan_requirement_parts", *_BYTES)
+_name = _export("tubrambutan_name", *_BYTES)
 _admits = _export("tubrambutan_admits", *_BYTES, *_BYTES)
-_compare = _export("tubrambutan_compare", *_BYTES, *_BYTES)
+_clauses = _export("tubrambutan_clauses", *_BYTES)
+_admits_each = _export("tubrambutan_admits_each", *_BYTES, *_BYTES)
+_key = _export("tubrambutan_key", *_BYTES)
+_keys = _export("tubrambutan_keys", *_BYTES)
+_version_numbers = _export("tubrambutan_version_numbers", *_BYTES, ctypes.c_void_p, ctypes.c_size_t)
 
 
 def _refused(reply: Any, room: Any) -> Exception:
@@ -65,16 +71,21 @@ def _refused(reply: Any, room: Any) -> Exception:
     return AssertionError("inputs that aren't cut as they were joined")
 
 
-def _text(function: Callable[..., Any], size: int, *arguments: Any) -> str:
-    """Returns the text that goes out of a call, for which there is room of this size, which is enough for a refusal, at first."""
+def _given(function: Callable[..., Any], size: int, *arguments: Any) -> bytes:
+    """Returns the bytes that go out of a call, for which there is room of this size, which is enough for a refusal, at first."""
     while True:
         room = ctypes.create_string_buffer(size)
         reply = function(*arguments, room, size)
         if reply.status != _ANSWERED:
             raise _refused(reply, room)
         if reply.size <= size:
-            return ctypes.string_at(room, reply.size).decode()
+            return ctypes.string_at(room, reply.size)
         size = reply.size
+
+
+def _text(function: Callable[..., Any], size: int, *arguments: Any) -> str:
+    """Returns the text that goes out of a call."""
+    return _given(function, size, *arguments).decode()
 
 
 def _answer(function: Callable[..., Any], *arguments: Any) -> int:
@@ -119,6 +130,58 @@ def clause_admits(clause: bytes, version: bytes) -> bool:
     return _answer(_admits, clause, len(clause), version, len(version)) == 1
 
 
-def order(first: bytes, second: bytes) -> int:
-    """Returns -1 where the first version is below the second, 0 where they are the same, 1 where it is above."""
-    return _answer(_compare, first, len(first), second, len(second))
+def requirement_parts(requirement: bytes) -> list[str]:
+    """Returns the lines of the parts of a requirement: `name N`, `extra E`, `clause C` or `url U`, and `marker M`."""
+    return _text(_requirement_parts, _SIZE, requirement, len(requirement)).split("\n")[:-1]
+
+
+def name_text(name: bytes) -> str:
+    """Returns the normalized text of a name."""
+    return _text(_name, _SIZE, name, len(name))
+
+
+def clause_texts(clauses: bytes) -> list[str]:
+    """Returns the normal text of each clause between commas."""
+    return _text(_clauses, _SIZE, clauses, len(clauses)).split("\n")[:-1]
+
+
+def admits_each(clauses: bytes, versions: Sequence[bytes]) -> bytes:
+    """Returns a byte for each version, in which there is no zero byte: 1 where all clauses admit it, or 3 where it is a pre-release too; 0 where
+    a clause doesn't admit it; 2 where it is no version."""
+    joined = b"\0".join(versions)
+    return _given(_admits_each, len(versions) + _SIZE, clauses, len(clauses), joined, len(joined)) if versions else b""
+
+
+def version_key(version: bytes) -> bytes:
+    """Returns the key of a version: the order of keys as bytes is that of versions."""
+    room = _Room()
+    reply = _key(version, len(version), room, _SIZE)
+    if reply.status == _ANSWERED and reply.size <= _SIZE:
+        return room.raw[: reply.size]
+    return _given(_key, max(_SIZE, reply.size), version, len(version))
+
+
+def version_keys(versions: Sequence[bytes]) -> list[bytes]:
+    """Returns the key of each version, in which there is no zero byte, and no bytes where it is none."""
+    joined = b"\0".join(versions)
+    given = _given(_keys, 64 * len(versions) + 10 * len(joined) + _SIZE, joined, len(joined)) if versions else b""
+    keys, at = [], 0
+    while at < len(given):
+        begin = at + 8
+        at = begin + int.from_bytes(given[at:begin], "big")
+        keys.append(given[begin:at])
+    return keys
+
+
+def version_numbers(version: bytes) -> tuple[int, ...]:
+    """Returns the numbers of a version: epoch; phase and number of a pre-release; 1 and the number of a post-release, and of a developmental release;
+    and the release. What isn't there has two zeros."""
+    count = 32
+    while True:
+        numbers, room = (ctypes.c_uint64 * count)(), _Room()
+        reply = _version_numbers(version, len(version), numbers, count, room, _SIZE)
+        if reply.status != _ANSWERED:
+            raise _refused(reply, room)
+        if reply.size <= count:
+            return tuple(numbers[: reply.size])
+        count = reply.size

@@ -81,6 +81,18 @@ class InvalidRequirement(Refused):
     """A text is no requirement (PEP 508)."""
 
 
+class InvalidMarker(Refused):
+    """A text is no environment marker (PEP 508)."""
+
+
+class InvalidName(Refused):
+    """A text is no name (PEP 508)."""
+
+
+class UndefinedComparison(Refused):
+    """A marker has no truth in an environment: `~=` stands between texts that aren't versions."""
+
+
 def of_text(kind: type[Refused], refused: Refused, text: str) -> Refused:
     """Returns the refusal of a text that stands alone, or that of the call where memory is at fault."""
     return Refused(refused.text) if refused.codes == (60,) else kind(refused.text.replace(" input 1 line 1", ""), repr(text))

@@ -1,13 +1,147 @@
-"""Requirements and clauses."""
+"""Requirements, markers and names."""
 
 from __future__ import annotations
 
-from typing import Union
+from typing import Mapping, Optional, Union
 
 from . import _library
-from ._refused import InvalidRequirement, InvalidSpecifier, InvalidVersion, Refused, of_text
+from ._environment import default_environment, file_of
+from ._library import LIST, Inputs
+from ._refused import InvalidMarker, InvalidName, InvalidRequirement, InvalidSpecifier, InvalidVersion, Refused, UndefinedComparison, of_text
+from ._specifiers import SpecifierSet
 from ._texts import encoded
 from ._version import Version
+
+
+class Marker:
+    """An environment marker (PEP 508).
+
+    >>> from tubrambutan import Marker
+    >>> marker = Marker("python_version<'4' and extra == 'dev'")
+    >>> str(marker)
+    'python_version < "4" and extra == "dev"'
+    >>> marker.evaluate(), marker.evaluate({"extra": "dev"})
+    (False, True)
+
+    Raises:
+        InvalidMarker: the text is no marker.
+        TypeError: it is no text.
+    """
+
+    __slots__ = ("_text", "__weakref__")
+
+    def __init__(self, marker: str) -> None:
+        if not isinstance(marker, str):
+            raise TypeError(f"marker is a str, and not {type(marker).__name__}")
+        try:
+            parts = _library.requirement_parts(b"x;" + encoded(marker))
+        except Refused as refused:
+            raise of_text(InvalidMarker, refused, marker) from None
+        self._text = parts[-1].partition(" ")[2]
+
+    def evaluate(self, environment: Optional[Mapping[str, str]] = None) -> bool:
+        """Returns whether the marker holds in the environment of the interpreter, with the variables of a mapping in place of its own.
+
+        Raises:
+            UndefinedComparison: `~=` stands between texts that aren't versions.
+            Refused: a variable is none of the eleven nor `extra`, or has a control character.
+        """
+        file = file_of({**default_environment(), **(environment or {})})
+        try:
+            return len(Inputs(file, [(LIST, f"x;{self}".encode())]).merged().split("\n", 13)[13]) > 0
+        except Refused as refused:
+            if refused.codes == (57, 28):
+                raise of_text(UndefinedComparison, refused, str(self)) from None
+            raise
+
+    def __str__(self) -> str:
+        return self._text
+
+    def __repr__(self) -> str:
+        return f"<Marker({self._text!r})>"
+
+    def __reduce__(self) -> tuple[type[Marker], tuple[str]]:
+        return type(self), (self._text,)
+
+    def __eq__(self, other: object) -> bool:
+        if not isinstance(other, Marker):
+            return NotImplemented
+        return self._text == other._text
+
+    def __hash__(self) -> int:
+        return hash(self._text)
+
+
+class Requirement:
+    """A requirement (PEP 508). Its name and its extras are normalized.
+
+    >>> from tubrambutan import Requirement
+    >>> requirement = Requirement("Flask[Async] >=2.0,<3 ; python_version < '4'")
+    >>> requirement.name, requirement.extras, str(requirement.specifier), str(requirement.marker), requirement.url
+    ('flask', {'async'}, '<3,>=2.0', 'python_version < "4"', None)
+    >>> str(requirement)
+    'flask[async]>=2.0,<3 ; python_version < "4"'
+
+    Raises:
+        InvalidRequirement: the text is no requirement.
+        TypeError: it is no text.
+
+    Attributes:
+        name: the normalized name.
+        extras: the normalized extras.
+        specifier: the clauses.
+        url: the URL, as it was written, or None.
+        marker: the marker, or None.
+    """
+
+    __slots__ = ("_given", "name", "extras", "specifier", "url", "marker", "__weakref__")
+
+    def __init__(self, requirement: str) -> None:
+        if not isinstance(requirement, str):
+            raise TypeError(f"requirement is a str, and not {type(requirement).__name__}")
+        self._given = requirement
+        try:
+            parts = [it.partition(" ") for it in _library.requirement_parts(encoded(requirement))]
+        except Refused as refused:
+            raise of_text(InvalidRequirement, refused, requirement) from None
+        self.name = parts[0][2]
+        self.extras = {text for kind, _, text in parts if kind == "extra"}
+        self.specifier = SpecifierSet(",".join(text for kind, _, text in parts if kind == "clause"))
+        self.url: Optional[str] = next((text for kind, _, text in parts if kind == "url"), None)
+        self.marker: Optional[Marker] = next((Marker(text) for kind, _, text in parts if kind == "marker"), None)
+
+    def __str__(self) -> str:
+        return requirement_text(self._given)
+
+    def __repr__(self) -> str:
+        return f"<Requirement({str(self)!r})>"
+
+    def __reduce__(self) -> tuple[type[Requirement], tuple[str]]:
+        return type(self), (self._given,)
+
+    def __eq__(self, other: object) -> bool:
+        if not isinstance(other, Requirement):
+            return NotImplemented
+        return (self.name, self.extras, self.specifier, self.url, self.marker) == (other.name, other.extras, other.specifier, other.url, other.marker)
+
+    def __hash__(self) -> int:
+        return hash((self.name, frozenset(self.extras), self.specifier, self.url, self.marker))
+
+
+def canonicalize_name(name: str) -> str:
+    """Returns the normalized text of a name (PEP 503).
+
+    >>> import tubrambutan
+    >>> tubrambutan.canonicalize_name("Zope.Interface")
+    'zope-interface'
+
+    Raises:
+        InvalidName: the text is no name.
+    """
+    try:
+        return _library.name_text(encoded(name))
+    except Refused as refused:
+        raise of_text(InvalidName, refused, name) from None
 
 
 def requirement_text(requirement: str) -> str:

@@ -8,7 +8,7 @@ import re
 import secrets
 from typing import Iterator, Mapping, NamedTuple, Union
 
-from ._library import TABLE, Inputs
+from ._library import TABLE, Inputs, name_text
 from ._refused import InvalidVersion, Refused, of_text
 from ._texts import encoded
 from ._version import Version
@@ -156,10 +156,12 @@ class Table(Mapping[str, Package]):
             lines.append(line)
 
     def __getitem__(self, name: str) -> Package:
-        # (PEP 503, "Normalized Names"; no name has a letter beyond ASCII)
-        lines = self._lines.get(re.sub(r"[-_.]+", "-", name).lower()) if name.isascii() else None
+        lines = self._lines.get(name)
         if lines is None:
-            raise KeyError(name)
+            try:
+                lines = self._lines[name_text(encoded(name))]
+            except (Refused, KeyError):
+                raise KeyError(name) from None
         return Package(lines, self._environment)
 
     def __iter__(self) -> Iterator[str]:

@@ -2,63 +2,194 @@
 
 from __future__ import annotations
 
-import functools
-import re
+from typing import Iterable, Optional
 
 from . import _library
 from ._refused import InvalidVersion, Refused, of_text
-from ._texts import encoded
+from ._texts import encoded, without_zero_bytes
 
-# The epoch and the release, with which a normal text begins.
-_RELEASE = re.compile(r"[0-9.!]*[0-9]")
+_PHASES = ("a", "b", "rc")
 
 
-@functools.total_ordering
 class Version:
-    """A version (PEP 440). Versions are equal where they are the same in order, as `1.0` and `1.0.0`.
+    """A version (PEP 440). Versions are equal where they are the same in order, as `1.0` and `1.0.0`. None changes.
 
     >>> from tubrambutan import Version
     >>> str(Version(" v1.0-ALPHA.1"))
     '1.0a1'
     >>> Version("1.0") == Version("1.0.0"), Version("1.0.dev1") < Version("1.0a1") < Version("1.0")
     (True, True)
-    >>> sorted(map(Version, ["1.10", "1.9", "1.10rc1"]))
-    [Version('1.9'), Version('1.10rc1'), Version('1.10')]
+    >>> sorted(Version.read_all(["1.10", "1.9", "1.10rc1"]))
+    [<Version('1.9')>, <Version('1.10rc1')>, <Version('1.10')>]
+    >>> version = Version("1!2.0rc3.post4.dev5+ubuntu.6")
+    >>> version.epoch, version.release, version.pre, version.post, version.dev, version.local
+    (1, (2, 0), ('rc', 3), 4, 5, 'ubuntu.6')
 
     Raises:
         InvalidVersion: the text is no version, or has a number above 18446744073709551615.
+        TypeError: it is no text.
     """
 
-    __slots__ = ("_bytes", "_text")
+    __slots__ = ("_bytes", "_key", "_text", "_numbers", "__weakref__")
+    _bytes: bytes
+    _key: bytes
+    _text: Optional[str]
+    _numbers: Optional[tuple[int, ...]]
 
-    def __init__(self, text: str) -> None:
+    def __init__(self, version: str) -> None:
+        if not isinstance(version, str):
+            raise TypeError(f"version is a str, and not {type(version).__name__}")
+        self._bytes = encoded(version)
         try:
-            self._text = _library.version_text(encoded(text))
+            self._key = _library.version_key(self._bytes)
         except Refused as refused:
-            raise of_text(InvalidVersion, refused, text) from None
-        self._bytes = self._text.encode()
+            raise of_text(InvalidVersion, refused, version) from None
+        self._text = self._numbers = None
+
+    @classmethod
+    def read_all(cls, versions: Iterable[str]) -> list[Version]:
+        """Returns the versions that texts spell, all read in one call of the library.
+
+        >>> from tubrambutan import Version
+        >>> Version.read_all(["1.0", "2"])
+        [<Version('1.0')>, <Version('2')>]
+
+        Raises:
+            InvalidVersion: one of them is no version; the first such is told.
+        """
+        texts = list(versions)
+        data = [without_zero_bytes(encoded(it)) for it in texts]
+        found = []
+        for text, given, key in zip(texts, data, _library.version_keys(data)):
+            if not key:
+                cls(text)
+            version = cls.__new__(cls)
+            version._bytes, version._key, version._text, version._numbers = given, key, None, None
+            found.append(version)
+        return found
 
     def __str__(self) -> str:
+        if self._text is None:
+            self._text = _library.version_text(self._bytes)
         return self._text
 
     def __repr__(self) -> str:
-        return f"Version({self._text!r})"
+        return f"<Version('{self}')>"
+
+    def __reduce__(self) -> tuple[type[Version], tuple[str]]:
+        return type(self), (str(self),)
 
     def __eq__(self, other: object) -> bool:
         if not isinstance(other, Version):
             return NotImplemented
-        return self._bytes == other._bytes or _library.order(self._bytes, other._bytes) == 0
+        return self._key == other._key
 
-    def __lt__(self, other: object) -> bool:
+    def __lt__(self, other: Version) -> bool:
         if not isinstance(other, Version):
             return NotImplemented
-        return _library.order(self._bytes, other._bytes) < 0
+        return self._key < other._key
+
+    def __le__(self, other: Version) -> bool:
+        if not isinstance(other, Version):
+            return NotImplemented
+        return self._key <= other._key
+
+    def __gt__(self, other: Version) -> bool:
+        if not isinstance(other, Version):
+            return NotImplemented
+        return self._key > other._key
+
+    def __ge__(self, other: Version) -> bool:
+        if not isinstance(other, Version):
+            return NotImplemented
+        return self._key >= other._key
 
     def __hash__(self) -> int:
-        # Versions that are the same have one normal text but for the zeros at the end of the release.
-        found = _RELEASE.match(self._text)
-        release = found[0] if found else ""
-        numbers = release.split(".")
-        while len(numbers) > 1 and numbers[-1] == "0":
-            numbers.pop()
-        return hash((*numbers, self._text[len(release) :]))
+        return hash(self._key)
+
+    @property
+    def key(self) -> bytes:
+        """The key: byte order of keys is the order of versions, and versions that are the same in order have one key."""
+        return self._key
+
+    @property
+    def _parts(self) -> tuple[int, ...]:
+        if self._numbers is None:
+            self._numbers = _library.version_numbers(self._bytes)
+        return self._numbers
+
+    @property
+    def epoch(self) -> int:
+        """The epoch, 0 where none is written."""
+        return self._parts[0]
+
+    @property
+    def release(self) -> tuple[int, ...]:
+        """The numbers of the release, with the zeros at its end."""
+        return self._parts[7:]
+
+    @property
+    def pre(self) -> Optional[tuple[str, int]]:
+        """The phase of the pre-release, `a`, `b` or `rc`, and its number."""
+        return (_PHASES[self._parts[1] - 1], self._parts[2]) if self._parts[1] else None
+
+    @property
+    def post(self) -> Optional[int]:
+        """The number of the post-release."""
+        return self._parts[4] if self._parts[3] else None
+
+    @property
+    def dev(self) -> Optional[int]:
+        """The number of the developmental release."""
+        return self._parts[6] if self._parts[5] else None
+
+    @property
+    def local(self) -> Optional[str]:
+        """The local version label."""
+        return str(self).partition("+")[2] or None
+
+    @property
+    def public(self) -> str:
+        """The normal text without the local version label."""
+        return str(self).partition("+")[0]
+
+    @property
+    def base_version(self) -> str:
+        """The epoch and the release alone.
+
+        >>> from tubrambutan import Version
+        >>> Version("1!2.0rc3+x").base_version
+        '1!2.0'
+        """
+        release = ".".join(map(str, self.release))
+        return f"{self.epoch}!{release}" if self.epoch else release
+
+    @property
+    def major(self) -> int:
+        """The first number of the release."""
+        return self.release[0]
+
+    @property
+    def minor(self) -> int:
+        """The second number of the release, or 0."""
+        return self.release[1] if len(self.release) > 1 else 0
+
+    @property
+    def micro(self) -> int:
+        """The third number of the release, or 0."""
+        return self.release[2] if len(self.release) > 2 else 0
+
+    @property
+    def is_prerelease(self) -> bool:
+        """Whether it is a pre-release or a developmental release."""
+        return self.pre is not None or self.dev is not None
+
+    @property
+    def is_postrelease(self) -> bool:
+        """Whether it is a post-release."""
+        return self.post is not None
+
+    @property
+    def is_devrelease(self) -> bool:
+        """Whether it is a developmental release."""
+        return self.dev is not None

@@ -1,0 +1,122 @@
+"""Versions, specifiers, requirements, markers and names as types."""
+
+import pickle
+import unittest
+import weakref
+
+import tubrambutan
+from tubrambutan import InvalidMarker, InvalidName, InvalidRequirement, InvalidSpecifier, InvalidVersion, Marker, Range, Requirement, Specifier
+from tubrambutan import SpecifierSet, UndefinedComparison, Version, canonicalize_name
+
+# The parts of versions: epoch, release, pre, post, dev, local, and the public and the base version (PEP 440).
+PARTS = [
+    ("1", 0, (1,), None, None, None, None, "1", "1"),
+    ("v01.002.PREVIEW_3", 0, (1, 2), ("rc", 3), None, None, None, "1.2rc3", "1.2"),
+    ("1!2.0a1.post2.dev3+Ubuntu-01", 1, (2, 0), ("a", 1), 2, 3, "ubuntu.1", "1!2.0a1.post2.dev3", "1!2.0"),
+    ("1.0.0b2", 0, (1, 0, 0), ("b", 2), None, None, None, "1.0.0b2", "1.0.0"),
+    ("1.0-1", 0, (1, 0), None, 1, None, None, "1.0.post1", "1.0"),
+    (".".join(["7"] * 40), 0, (7,) * 40, None, None, None, None, ".".join(["7"] * 40), ".".join(["7"] * 40)),
+]
+# Each is below the next one.
+ORDERED = "0.dev0 0a0.dev0 0 0.0.1.dev0 1.0.dev1 1.0a1.dev1 1.0a1 1.0a1.post0 1.0b1 1.0rc1 1.0 1.0+abc.5 1.0+abc.10 1.0+9 1.0+10 1.0.post1.dev3 1.0.post1 1!0".split()
+ADMITTED = [("~=2.2.post3", "2.2 2.3 3"), ("==1.1.*", "1.1a1 1.1.0.2+x 1.2"), ("", "1 2rc1"), ("===1.0", "1.0 1.0.0 1"), (">1.7,!=1.8", "1.7.0.post1 1.7.1 1.8+x")]
+WANTED = ["2.3", "1.1a1 1.1.0.2+x", "1 2rc1", "1.0", "1.7.1"]
+
+
+class Types(unittest.TestCase):
+    def test_parts(self):
+        for text, *parts in PARTS:
+            it = Version(text)
+            with self.subTest(text):
+                self.assertEqual([it.epoch, it.release, it.pre, it.post, it.dev, it.local, it.public, it.base_version], parts)
+                self.assertEqual((it.is_prerelease, it.is_postrelease, it.is_devrelease), (bool(it.pre or it.dev is not None), it.post is not None, it.dev is not None))
+                self.assertEqual((it.major, it.minor, it.micro), (it.release + (0, 0))[:3])
+
+    def test_order(self):
+        versions = Version.read_all(ORDERED)
+        self.assertEqual(sorted(reversed(versions)), versions)
+        self.assertEqual([it.key for it in versions], [Version(text).key for text in ORDERED])
+        for low, high in zip(versions, versions[1:]):
+            self.assertEqual((low < high, low <= high, low > high, low >= high, low == high), (True, True, False, False, False))
+        self.assertEqual((Version("1.0"), hash(Version("1.0"))), (Version("1.0.0"), hash(Version("1.0.0"))))
+        self.assertEqual(max(versions), Version("1!0"))
+        self.assertEqual(Version.read_all([]), [])
+        for wrong in ("x", "1\0", ""):
+            with self.assertRaises(InvalidVersion):
+                Version.read_all(["1", wrong, "2"])
+        with self.assertRaises(TypeError):
+            Version("1") < "2"
+        with self.assertRaises(TypeError):
+            Version(1)
+
+    def test_values_are_kept(self):
+        values = [Version("1.0a1"), Specifier("~=1.0"), SpecifierSet(">=1,<2", prereleases=True), Requirement("a[x]>=1; os_name=='nt'"), Marker("extra=='a'")]
+        for value in values:
+            for protocol in range(pickle.HIGHEST_PROTOCOL + 1):
+                again = pickle.loads(pickle.dumps(value, protocol))
+                self.assertEqual((type(again), again, str(again), hash(again)), (type(value), value, str(value), hash(value)))
+            self.assertIs(weakref.ref(value)(), value)
+        with self.assertRaises(AttributeError):
+            values[0].epoch = 2
+
+    def test_specifiers(self):
+        for (clauses, texts), wanted in zip(ADMITTED, WANTED):
+            with self.subTest(clauses):
+                versions = SpecifierSet(clauses)
+                self.assertEqual(list(versions.filter(texts.split(), prereleases=True)), wanted.split())
+                self.assertEqual([it for it in texts.split() if versions.contains(Version(it), prereleases=True)], wanted.split())
+                self.assertEqual(list(versions.filter(texts.split())), [it for it in wanted.split() if not Version(it).is_prerelease or versions.prereleases])
+        self.assertEqual([str(it) for it in SpecifierSet(" >=1.0,, <2")], ["<2", ">=1.0"])
+        self.assertEqual((SpecifierSet(">=1.0"), len(SpecifierSet(""))), (SpecifierSet(">=1"), 0))
+        self.assertNotEqual(SpecifierSet("~=1.0"), SpecifierSet("~=1.0.0"))
+        self.assertEqual(str(SpecifierSet(">=1") & "<2"), "<2,>=1")
+        self.assertEqual([SpecifierSet(it).prereleases for it in ("", ">=1", ">=1rc1", "<1rc1", "==1.*")], [None, False, True, False, False])
+        for wrong in (">=", "1", ">=1,x", ">=1.*"):
+            with self.subTest(wrong), self.assertRaises(InvalidSpecifier):
+                SpecifierSet(wrong)
+        for wrong in ("", ">=1,<2"):
+            with self.subTest(wrong), self.assertRaises(InvalidSpecifier):
+                Specifier(wrong)
+        with self.assertRaises(InvalidVersion):
+            SpecifierSet(">=1").contains("x")
+
+    def test_sets(self):
+        self.assertEqual(SpecifierSet("!=1.0").ranges, (Range("before 0.dev0", "before 1"), Range("before 1.post0.dev0", "end")))
+        empty = [">=2,<1", ">1.0a5,<1.0a6.dev0", "===1.0,===1.00", "===x"]
+        self.assertEqual([SpecifierSet(it).is_empty() for it in [*empty, "", ">=1", "===1.0"]], [True] * 4 + [False] * 3)
+        within = [("==1.5", ">=1"), ("===1.5", ">=1"), (">=2,<1", "==7"), (">=1", ""), ("~=1.4", ">=1.4,==1.*"), ("===1.0", "===1.0")]
+        outside = [(">=1", "==1.5"), ("", ">=0"), (">=1", "===1.0"), ("===0.5", ">=1"), ("!=1.0", "!=1.0,!=2.0")]
+        self.assertEqual([SpecifierSet(low) <= SpecifierSet(high) for low, high in [*within, *outside]], [True] * len(within) + [False] * len(outside))
+        self.assertTrue(SpecifierSet(">=1") >= SpecifierSet(">=2"))
+
+    def test_requirements(self):
+        it = Requirement("Zope.Interface [B,a_c] >=5 ,!=5.1 ; python_version<'4'")
+        self.assertEqual((it.name, it.extras, it.specifier, it.url, str(it.marker)), ("zope-interface", {"b", "a-c"}, SpecifierSet(">=5,!=5.1"), None, 'python_version < "4"'))
+        it = Requirement("a @ HTTPS://x.test/1")
+        self.assertEqual((it.url, str(it.specifier), it.marker, str(it)), ("HTTPS://x.test/1", "", None, "a @ HTTPS://x.test/1"))
+        for wrong in ("", "a>", "a[", "a;b", "-e ."):
+            with self.subTest(wrong), self.assertRaises(InvalidRequirement):
+                Requirement(wrong)
+
+    def test_markers(self):
+        variables = {"python_version": "3.9", "os_name": "posix"}
+        rows = [("python_version < '3.10'", True), ("os_name == 'nt'", False), ("extra == 'x' or os_name=='posix'", True), ("'3.8' in python_version", False)]
+        self.assertEqual([Marker(text).evaluate(variables) for text, _ in rows], [wanted for _, wanted in rows])
+        self.assertTrue(Marker("extra == 'A_b'").evaluate({"extra": "a-B"}))
+        with self.assertRaises(UndefinedComparison):
+            Marker("os_name ~= 'x'").evaluate(variables)
+        for wrong in ("", "a", "os_name == 'x", "python_version >= '1' garbage"):
+            with self.subTest(wrong), self.assertRaises(InvalidMarker):
+                Marker(wrong)
+        with self.assertRaises(tubrambutan.Refused):
+            Marker("os_name == 'x'").evaluate({"other": "x"})
+
+    def test_names(self):
+        self.assertEqual([canonicalize_name(it) for it in ("A", "a--B_.c", "x1")], ["a", "a-b-c", "x1"])
+        for wrong in ("", "-", "a-", "a b"):
+            with self.subTest(wrong), self.assertRaises(InvalidName):
+                canonicalize_name(wrong)
+
+
+if __name__ == "__main__":
+    unittest.main()

@@ -1,0 +1,261 @@
+"""Version specifiers: clauses, and sets of them."""
+
+from __future__ import annotations
+
+from typing import Iterable, Iterator, Optional, TypeVar, Union
+
+from . import _library
+from ._library import LIST, Inputs
+from ._environment import file_of
+from ._refused import InvalidSpecifier, InvalidVersion, Refused, of_text
+from ._table import Range, Table
+from ._texts import encoded, without_zero_bytes
+from ._version import Version
+
+AnyVersion = TypeVar("AnyVersion", bound=Union[Version, str])
+_OPERATORS = ("===", "~=", "==", "!=", "<=", ">=", "<", ">")
+# What the library answers of a version: whether all clauses admit it, and then whether it is a pre-release.
+_FINAL, _NO_VERSION, _PRE_RELEASE = 1, 2, 3
+# Which versions clauses admit depends on no variable.
+_VARIABLES = (
+    "os_name sys_platform platform_machine platform_python_implementation platform_release platform_system platform_version "
+    "python_version python_full_version implementation_name implementation_version"
+)
+_ENVIRONMENT = file_of({name: "" for name in _VARIABLES.split()})
+
+
+def _bytes_of(version: Union[Version, str]) -> bytes:
+    """Returns the bytes of a version's text."""
+    return version._bytes if isinstance(version, Version) else encoded(version)
+
+
+class SpecifierSet:
+    """A set of version specifier clauses, with a comma between two (PEP 440): it admits what all of them admit.
+
+    >>> from tubrambutan import SpecifierSet
+    >>> versions = SpecifierSet(">=1.0, <2, !=1.5")
+    >>> "1.4" in versions, "1.5" in versions, versions.contains("1.6rc1"), versions.contains("1.6rc1", prereleases=True)
+    (True, False, False, True)
+    >>> list(versions.filter(["0.9", "1.2", "1.5", "1.9"]))
+    ['1.2', '1.9']
+    >>> versions.ranges
+    (Range(low='before 1', high='before 1.5'), Range(low='before 1.5.post0.dev0', high='before 2.dev0'))
+    >>> SpecifierSet(">=2,<1").is_empty(), versions <= SpecifierSet(">=1"), SpecifierSet(">=1") <= versions
+    (True, True, False)
+
+    Raises:
+        InvalidSpecifier: a text between commas is no clause.
+        TypeError: the specifiers are no text.
+    """
+
+    __slots__ = ("_clauses", "_prereleases", "_table", "__weakref__")
+    _clauses: tuple[str, ...]
+    _prereleases: Optional[bool]
+    _table: Optional[Table]
+
+    def __init__(self, specifiers: str = "", prereleases: Optional[bool] = None) -> None:
+        if not isinstance(specifiers, str):
+            raise TypeError(f"specifiers is a str, and not {type(specifiers).__name__}")
+        try:
+            texts = _library.clause_texts(encoded(specifiers))
+        except Refused as refused:
+            raise of_text(InvalidSpecifier, refused, specifiers) from None
+        self._clauses = tuple(sorted(set(texts)))
+        self._prereleases = prereleases
+        self._table = None
+
+    def __str__(self) -> str:
+        return ",".join(self._clauses)
+
+    def __repr__(self) -> str:
+        wanted = "" if self._prereleases is None else f", prereleases={self._prereleases}"
+        return f"<{type(self).__name__}({str(self)!r}{wanted})>"
+
+    def __reduce__(self) -> tuple[type[SpecifierSet], tuple[str, Optional[bool]]]:
+        return type(self), (str(self), self._prereleases)
+
+    @property
+    def prereleases(self) -> Optional[bool]:
+        """Whether pre-releases are admitted: as it was given, or else whether a clause with `==`, `>=`, `<=`, `~=` or `===` names one."""
+        if self._prereleases is not None or not self._clauses:
+            return self._prereleases
+        return any(it.prereleases for it in self)
+
+    @prereleases.setter
+    def prereleases(self, value: Optional[bool]) -> None:
+        self._prereleases = value
+
+    def _answers(self, versions: list[Union[Version, str]]) -> bytes:
+        """Returns the answer on each version."""
+        answers = _library.admits_each(encoded(str(self)), [without_zero_bytes(_bytes_of(it)) for it in versions])
+        for version, answer in zip(versions, answers):
+            if answer == _NO_VERSION:
+                Version(str(version))
+        return answers
+
+    def contains(self, item: Union[Version, str], prereleases: Optional[bool] = None) -> bool:
+        """Returns whether all clauses admit a version, and it is no pre-release unless these are wanted.
+
+        Raises:
+            InvalidVersion: the text is no version.
+        """
+        return next(iter(self.filter([item], prereleases)), None) is not None
+
+    def __contains__(self, item: Union[Version, str]) -> bool:
+        return self.contains(item)
+
+    def filter(self, iterable: Iterable[AnyVersion], prereleases: Optional[bool] = None) -> Iterator[AnyVersion]:
+        """Returns the versions that the set contains, in their order, all asked of in one call of the library.
+
+        Raises:
+            InvalidVersion: one of them is no version.
+        """
+        versions = list(iterable)
+        if prereleases is None:
+            prereleases = self.prereleases
+        for version, answer in zip(versions, self._answers(list(versions))):
+            if answer == _FINAL or (answer == _PRE_RELEASE and prereleases):
+                yield version
+
+    def __and__(self, other: Union[SpecifierSet, str]) -> SpecifierSet:
+        if isinstance(other, str):
+            other = SpecifierSet(other)
+        if not isinstance(other, SpecifierSet):
+            return NotImplemented
+        wanted = {self._prereleases, other._prereleases} - {None}
+        if len(wanted) > 1:
+            raise ValueError("the sets say different things of pre-releases")
+        return SpecifierSet(",".join((*self._clauses, *other._clauses)), wanted.pop() if wanted else None)
+
+    def __iter__(self) -> Iterator[Specifier]:
+        return (Specifier(it) for it in self._clauses)
+
+    def __len__(self) -> int:
+        return len(self._clauses)
+
+    def __eq__(self, other: object) -> bool:
+        if isinstance(other, str):
+            other = SpecifierSet(other)
+        if not isinstance(other, SpecifierSet):
+            return NotImplemented
+        return set(self) == set(other)
+
+    def __hash__(self) -> int:
+        return hash(frozenset(self))
+
+    def _merged(self) -> Table:
+        """Returns the table of one package of which the clauses are demanded."""
+        if self._table is None:
+            text = f"package{self}".encode()
+            self._table = Table(Inputs(_ENVIRONMENT, [(LIST, text)]).merged(), _ENVIRONMENT)
+        return self._table
+
+    @property
+    def ranges(self) -> tuple[Range, ...]:
+        """The versions that every clause but `===` admits, pre-releases too, as sorted ranges."""
+        return self._merged()["package"].ranges
+
+    def is_empty(self) -> bool:
+        """Returns whether no version whatever is admitted, pre-releases too. This is proved of the library."""
+        return self._merged()["package"].verdict == "none"
+
+    def __le__(self, other: SpecifierSet) -> bool:
+        """Returns whether the other set admits every version that this one admits, pre-releases too."""
+        if not isinstance(other, SpecifierSet):
+            return NotImplemented
+        if self.is_empty():
+            return True
+        texts = self._merged()["package"].texts
+        if texts:
+            # (the set isn't empty, so the one text is the normal text of the one version that it admits)
+            return other.contains(texts[0], prereleases=True)
+        # (a range that isn't empty has more versions than one)
+        both = (SpecifierSet(str(self)) & SpecifierSet(str(other)))._merged()["package"]
+        return not both.texts and both.ranges == self.ranges
+
+    def __ge__(self, other: SpecifierSet) -> bool:
+        return other <= self if isinstance(other, SpecifierSet) else NotImplemented
+
+
+class Specifier:
+    """One version specifier clause (PEP 440).
+
+    >>> from tubrambutan import Specifier
+    >>> clause = Specifier("~= 2.2")
+    >>> str(clause), clause.operator, clause.version, "2.9" in clause, "3.0" in clause
+    ('~=2.2', '~=', '2.2', True, False)
+
+    Raises:
+        InvalidSpecifier: the text is no clause.
+        TypeError: it is no text.
+    """
+
+    __slots__ = ("_set", "__weakref__")
+    _set: SpecifierSet
+
+    def __init__(self, spec: str, prereleases: Optional[bool] = None) -> None:
+        self._set = SpecifierSet(spec, prereleases)
+        if len(self._set) != 1:
+            raise InvalidSpecifier("refused code 57 33 11", repr(spec))
+
+    @property
+    def operator(self) -> str:
+        """The operator, as `~=`."""
+        return next(it for it in _OPERATORS if str(self).startswith(it))
+
+    @property
+    def version(self) -> str:
+        """What follows the operator: a version's normal text, a prefix as `1.*`, or for `===` a text."""
+        return str(self)[len(self.operator) :]
+
+    @property
+    def prereleases(self) -> bool:
+        """Whether pre-releases are admitted: as it was given, or else whether a clause with `==`, `>=`, `<=`, `~=` or `===` names one."""
+        if self._set._prereleases is not None:
+            return self._set._prereleases
+        if self.operator in ("!=", "<", ">"):
+            return False
+        try:
+            return Version(self.version[:-2] if self.version.endswith(".*") else self.version).is_prerelease
+        except InvalidVersion:
+            return False
+
+    @prereleases.setter
+    def prereleases(self, value: Optional[bool]) -> None:
+        self._set._prereleases = value
+
+    def contains(self, item: Union[Version, str], prereleases: Optional[bool] = None) -> bool:
+        """Returns whether the clause admits a version, and it is no pre-release unless these are wanted."""
+        return self._set.contains(item, self.prereleases if prereleases is None else prereleases)
+
+    def __contains__(self, item: Union[Version, str]) -> bool:
+        return self.contains(item)
+
+    def filter(self, iterable: Iterable[AnyVersion], prereleases: Optional[bool] = None) -> Iterator[AnyVersion]:
+        """Returns the versions that the clause contains, in their order."""
+        return self._set.filter(iterable, self.prereleases if prereleases is None else prereleases)
+
+    def _canonical(self) -> tuple[str, object]:
+        # (`~=2.2` and `~=2.2.0` are two clauses, and so are texts behind `===`)
+        if self.operator in ("~=", "===") or self.version.endswith(".*"):
+            return self.operator, self.version
+        return self.operator, Version(self.version)
+
+    def __str__(self) -> str:
+        return str(self._set)
+
+    def __repr__(self) -> str:
+        return f"<Specifier({str(self)!r})>"
+
+    def __reduce__(self) -> tuple[type[Specifier], tuple[str, Optional[bool]]]:
+        return type(self), (str(self), self._set._prereleases)
+
+    def __eq__(self, other: object) -> bool:
+        if isinstance(other, str):
+            other = Specifier(other)
+        if not isinstance(other, Specifier):
+            return NotImplemented
+        return self._canonical() == other._canonical()
+
+    def __hash__(self) -> int:
+        return hash(self._canonical())
