@@ -1,3 +1,5 @@
 pub mod CallLemmas
+pub mod ClauseListLemmas
+pub mod KeyLemmas
 pub mod PartLemmas
 pub mod RefusedLines

@@ -1,5 +1,8 @@
+pub mod ClauseLists
+pub mod Fields
 pub mod FirstLine
 pub mod Inputs
+pub mod Keys
 pub mod Parts
 pub mod Requirements
 pub mod Room

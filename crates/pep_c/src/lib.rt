@@ -6,15 +6,20 @@
 //! says what a caller owes, of which nothing is proved.
 #![tactic(auto)]
 
+mod clause_lists;
+mod fields;
 mod first_line;
+mod keys;
 mod merging;
 mod parts;
 mod reply;
 mod requirements;
 mod versions;
 
-pub use crate::merging::{tubrambutan_check, tubrambutan_merge};
+pub use crate::clause_lists::{tubrambutan_admits_each, tubrambutan_clauses};
+pub use crate::keys::{tubrambutan_key, tubrambutan_keys, tubrambutan_version_numbers};
+pub use crate::merging::{tubrambutan_check, tubrambutan_merge, tubrambutan_name};
 pub use crate::parts::Part;
 pub use crate::reply::{ANSWERED, MISCUT, REFUSED, Reply};
-pub use crate::requirements::tubrambutan_requirement;
+pub use crate::requirements::{tubrambutan_requirement, tubrambutan_requirement_parts};
 pub use crate::versions::{tubrambutan_admits, tubrambutan_compare, tubrambutan_version};

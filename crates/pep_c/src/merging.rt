@@ -51,6 +51,18 @@ fn read_name(alloc: Global, bytes: &[u8]) -> Result<Name, Fault>
     }
 }
 
+// The normalized text of a name.
+fn name_text(alloc: Global, bytes: &[u8]) -> Result<String, Fault>
+    ensures text { IfOk result (λ text. name_of bytes.now ≡ Some (string_bytes text)) }
+    ensures refused { IfErr result (λ fault. (fault ≡ no_memory) ⊎ IsNoName bytes.now fault) }
+{
+    let name = read_name(alloc, bytes)?;
+    match String::from_str(alloc, name.text()) {
+        Ok(text) => Ok(text),
+        Err(_) => Err(Fault::no_memory()),
+    }
+}
+
 // An answer as a number.
 fn answer_number(answer: Answer) -> i32
     ensures { result ≡ answer_number answer }
@@ -150,4 +162,17 @@ pub extern "C" fn tubrambutan_check(
         Err(CutFault::Miscut) => miscut(),
         Err(CutFault::NoMemory) => tell(alloc, &Fault::no_memory(), room),
     }
+}
+
+/// The normalized text of the name that the bytes are (PEP 503, "Normalized Names"). It is refused as 62 with 21, or as 60.
+#[unsafe(no_mangle)]
+pub extern "C" fn tubrambutan_name(alloc: Global, bytes: &[u8], room: &mut [u8]) -> Reply
+    ensures status { (result.status ≡ ANSWERED) ⊎ (result.status ≡ REFUSED) }
+    ensures answer { result.answer ≡ pos 0 }
+    ensures text { result.status ≡ ANSWERED →
+        GivesText (λ text. name_of bytes.now ≡ Some text) result.size room.old room.new }
+    ensures refused { result.status ≡ REFUSED →
+        TellsRefusal (IsNoName bytes.now) result.size room.old room.new }
+{
+    give_text(alloc, name_text(alloc, bytes), room)
 }

@@ -1,7 +1,9 @@
 //! What a call gives back.
 
 ghost use Rattle.std.specs.Prelude.{◌≡◌, ◌⊎◌, Err, Ok, pos, string_bytes};
+ghost use Rattle.std.specs.Prelude.{ℕ};
 ghost use Rattle.std.specs.declared.string.String.{String};
+ghost use Rattle.std.specs.declared.vec.Vec.{Vec};
 ghost use Rattle.faults.specs.declared.fault.Fault.{Fault};
 ghost use Rattle.pep_c.specs.Room.{GivesNothing, GoesOut, TellsRefusal};
 
@@ -32,16 +34,33 @@ pub struct Reply {
     pub size: usize,
 }
 
-// Puts a text in front of the room where it fits, and answers how many bytes it has.
-fn put(text: &str, room: &mut [u8]) -> usize
-    ensures { GoesOut text.now result room.old room.new }
+// Puts bytes in front of the room where they fit, and answers how many they are.
+fn put_bytes(bytes: &[u8], room: &mut [u8]) -> usize
+    ensures { GoesOut bytes.now result room.old room.new }
 {
-    let bytes = text.as_bytes();
     if bytes.len() > room.len() {
         return bytes.len();
     }
     room[..bytes.len()].copy_from_slice(bytes);
     bytes.len()
+}
+
+// Puts a text there.
+fn put(text: &str, room: &mut [u8]) -> usize
+    ensures { GoesOut text.now result room.old room.new }
+{
+    put_bytes(text.as_bytes(), room)
+}
+
+// Puts numbers there.
+fn put_numbers(numbers: &[u64], room: &mut [u64]) -> usize
+    ensures { GoesOut numbers.now result room.old room.new }
+{
+    if numbers.len() > room.len() {
+        return numbers.len();
+    }
+    room[..numbers.len()].copy_from_slice(numbers);
+    numbers.len()
 }
 
 // Puts the line of a fault in front of the room where it fits, or that of want of memory where there is
@@ -82,6 +101,50 @@ pub(crate) fn give_text(alloc: Global, outcome: Result<String, Fault>, room: &mu
             status: ANSWERED,
             answer: 0,
             size: put(text.as_str(), room),
+        },
+        Err(fault) => tell(alloc, &fault, room),
+    }
+}
+
+/// Bytes go out, or the line of a refusal.
+pub(crate) fn give_bytes(alloc: Global, outcome: Result<Vec<u8>, Fault>, room: &mut [u8]) -> Reply
+    ensures status { (result.status ≡ ANSWERED) ⊎ (result.status ≡ REFUSED) }
+    ensures answer { result.answer ≡ pos 0 }
+    ensures bytes { result.status ≡ ANSWERED → (bytes : Vec ℕ Global) × (outcome ≡ Ok bytes)
+        × GoesOut bytes.items result.size room.old room.new }
+    ensures refused { result.status ≡ REFUSED →
+        TellsRefusal (λ fault. outcome ≡ Err fault) result.size room.old room.new }
+{
+    match outcome {
+        Ok(bytes) => Reply {
+            status: ANSWERED,
+            answer: 0,
+            size: put_bytes(bytes.as_slice(), room),
+        },
+        Err(fault) => tell(alloc, &fault, room),
+    }
+}
+
+/// Numbers go out into a room of their own, or the line of a refusal.
+pub(crate) fn give_numbers(
+    alloc: Global,
+    outcome: Result<Vec<u64>, Fault>,
+    numbers: &mut [u64],
+    room: &mut [u8],
+) -> Reply
+    ensures status { (result.status ≡ ANSWERED) ⊎ (result.status ≡ REFUSED) }
+    ensures answer { result.answer ≡ pos 0 }
+    ensures numbers { result.status ≡ ANSWERED → (room.new ≡ room.old)
+        × ((given : Vec ℕ Global) × (outcome ≡ Ok given)
+        × GoesOut given.items result.size numbers.old numbers.new) }
+    ensures refused { result.status ≡ REFUSED → (numbers.new ≡ numbers.old)
+        × TellsRefusal (λ fault. outcome ≡ Err fault) result.size room.old room.new }
+{
+    match outcome {
+        Ok(given) => Reply {
+            status: ANSWERED,
+            answer: 0,
+            size: put_numbers(given.as_slice(), numbers),
         },
         Err(fault) => tell(alloc, &fault, room),
     }

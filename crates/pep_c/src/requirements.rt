@@ -4,9 +4,11 @@ ghost use Rattle.std.specs.Prelude.{◌≡◌, ◌⊎◌, IfErr, IfOk, pos, stri
 ghost use Rattle.pep_require.specs.Reads.{Reads};
 ghost use Rattle.pep_require.specs.View.{requirement_parts};
 ghost use Rattle.faults.specs.NoMemory.{no_memory};
+ghost use Rattle.pep_c.specs.Fields.{AreFieldsOf};
 ghost use Rattle.pep_c.specs.Requirements.{IsRequirementText, RefusesRequirement};
 ghost use Rattle.pep_c.specs.Room.{GivesText, TellsRefusal};
 
+use crate::fields::fields_of;
 use crate::first_line::{first_line, refused_line};
 use crate::reply::{ANSWERED, REFUSED, Reply, give_text};
 use faults::{Fault, LineFault};
@@ -63,4 +65,36 @@ pub extern "C" fn tubrambutan_requirement(alloc: Global, bytes: &[u8], room: &mu
         TellsRefusal (RefusesRequirement bytes.now) result.size room.old room.new }
 {
     give_text(alloc, requirement_text(alloc, bytes), room)
+}
+
+// The lines of the requirement that the bytes are.
+fn requirement_fields(alloc: Global, bytes: &[u8]) -> Result<String, Fault>
+    ensures fields { IfOk result (λ text. AreFieldsOf bytes.now (string_bytes text)) }
+    ensures refused { IfErr result
+        (λ fault. (fault ≡ no_memory) ⊎ RefusesRequirement bytes.now fault) }
+{
+    let requirement = read_requirement(alloc, bytes)?;
+    match fields_of(alloc, &requirement) {
+        Ok(text) => Ok(text),
+        Err(_) => Err(Fault::no_memory()),
+    }
+}
+
+/// The parts of the requirement that the bytes are (PEP 508, "Grammar"), each on a line of its own: `name N`, normalized; `extra E` for each
+/// extra, in byte order; `clause C` for each clause, as it stands there, or `url U`, as it was written; and `marker M`, where there is one. It is refused as line 1 of input 1,
+/// as 57 with 31 to 39 or 51; or as 60.
+#[unsafe(no_mangle)]
+pub extern "C" fn tubrambutan_requirement_parts(
+    alloc: Global,
+    bytes: &[u8],
+    room: &mut [u8],
+) -> Reply
+    ensures status { (result.status ≡ ANSWERED) ⊎ (result.status ≡ REFUSED) }
+    ensures answer { result.answer ≡ pos 0 }
+    ensures fields { result.status ≡ ANSWERED →
+        GivesText (AreFieldsOf bytes.now) result.size room.old room.new }
+    ensures refused { result.status ≡ REFUSED →
+        TellsRefusal (RefusesRequirement bytes.now) result.size room.old room.new }
+{
+    give_text(alloc, requirement_fields(alloc, bytes), room)
 }

@@ -88,8 +88,8 @@ fn clause_of(alloc: Global, text: &str) -> Result<Clause, Fault>
     }
 }
 
-// The clause that the bytes write.
-fn read_clause(alloc: Global, bytes: &[u8]) -> Result<Clause, Fault>
+/// The clause that the bytes write.
+pub(crate) fn read_clause(alloc: Global, bytes: &[u8]) -> Result<Clause, Fault>
     ensures clause { IfOk result (IsClause bytes.now) }
     ensures refused { IfErr result (λ fault. (fault ≡ no_memory) ⊎ IsNoClause bytes.now fault) }
 {
