@@ -71,7 +71,7 @@ refused_table : (e : EnvironmentParts) (bytes : List ℕ) (c : Cause) (t : Table
     IsRefusedTable e bytes c → ¬ IsTableFile e bytes t
 refused_table e bytes c t (by_size over is) file = omega (arith, over, file.size)
 refused_table e bytes c t (by_encoding size not is) file = not file.encoding
-refused_table e bytes c t (by_text line size text none is) file = none.unread t file.valid file.text
+refused_table e bytes c t (by_text line size text none told is) file = none.unread t file.valid file.text
 refused_table e bytes c t (by_environment line size text other is) file =
     other.unread t file.valid file.text
 

@@ -5,7 +5,7 @@ use Rattle.std.proofs.Common.{refl, sym, subst, inl, inr}
 use Rattle.pep_marker.specs.Environment.{EnvironmentParts}
 use Rattle.pep_marker.specs.Holds.{Truth}
 use Rattle.pep_marker.specs.Judged.{RefusesText, TextSays}
-use Rattle.pep_marker.specs.Marker.{MarkerParts, NoMarker}
+use Rattle.pep_marker.specs.Marker.{IsNoMarker, MarkerParts}
 use Rattle.pep_marker.specs.declared.fault.MarkerFault.{MarkerFault}
 use Rattle.pep_marker.specs.declared.fault.MarkerFault.TheVariants as marker_fault
 use Rattle.pep_require.specs.Faults.{beginning_fault}
@@ -31,11 +31,10 @@ left_says e left text truth is (m, marker, says) =
     (Some m, subst (λ l. ReadsMarker l (Some m)) (sym is) (when text marker), says)
 
 no_marker_left : (left text : List ℕ) (f : MarkerFault) → left ≡ 59 ∷ text →
-    (f ≡ marker_fault.BadMarker) ⊎ (f ≡ marker_fault.TooDeep) → NoMarker text →
-    RefusesEnding left (require.BadMarker f)
-no_marker_left left text f is known none =
+    IsNoMarker text f → RefusesEnding left (require.BadMarker f)
+no_marker_left left text f is refused =
     subst (λ l. RefusesEnding l (require.BadMarker f)) (sym is)
-    (inl (refl, record { inner = f; known = known; none = none; fault = refl }))
+    (inl (refl, record { inner = f; refused = refused; fault = refl }))
 
 -- .. and is refused as this is
 pub left_refused : (e : EnvironmentParts) (left text : List ℕ) (f : MarkerFault) →
@@ -49,13 +48,13 @@ left_refused e left text f is (inr (inr (inl bad, none))) =
     subst (λ k. RefusesLeft e left (judged_fault k)) (sym bad) (inr (inr (
       require.BadMarker marker_fault.BadMarker,
       refl,
-      no_marker_left left text marker_fault.BadMarker is (inl refl) none,
+      no_marker_left left text marker_fault.BadMarker is (inl refl, none),
     )))
-left_refused e left text f is (inr (inr (inr deep, none))) =
+left_refused e left text f is (inr (inr (inr (deep, over), none))) =
     subst (λ k. RefusesLeft e left (judged_fault k)) (sym deep) (inr (inr (
       require.BadMarker marker_fault.TooDeep,
       refl,
-      no_marker_left left text marker_fault.TooDeep is (inr refl) none,
+      no_marker_left left text marker_fault.TooDeep is (inr (refl, over), none),
     )))
 
 -- ---- the text of a line

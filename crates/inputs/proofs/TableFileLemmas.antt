@@ -2,7 +2,7 @@
 use Rattle.std.proofs.Common.{◌≡◌, ℕ, ◌≤◌, ◌⊎◌, List, length, inl, inr}
 use Rattle.std.specs.Prelude.{IsUtf8}
 use Rattle.pep_marker.specs.Environment.{EnvironmentParts}
-use Rattle.pep_table.specs.TableText.{IsRefusedAsTable, of_none, of_other}
+use Rattle.pep_table.specs.Refused.{IsRefusedAsTable, of_none, of_other}
 use Rattle.demands.specs.declared.fault.TableFault.{TableFault}
 use Rattle.demands.specs.declared.fault.TableFault.TheVariants as table_fault
 use Rattle.faults.specs.declared.fault.Cause.{Cause}
@@ -21,7 +21,7 @@ pub text_refused : (e : EnvironmentParts) (bytes : List ℕ) (f : TableFault) (c
     (f ≡ table_fault.NoMemory → c ≡ cause.NoMemory) →
     (c ≡ cause.NoMemory) ⊎ IsRefusedTable e bytes c
 text_refused e bytes f c size text (inl memory) line other none = inl (none memory)
-text_refused e bytes f c size text (inr (of_none n is no_table)) line other none =
-    inr (by_text n size text no_table (line n is))
+text_refused e bytes f c size text (inr (of_none n is no_table told)) line other none =
+    inr (by_text n size text no_table told (line n is))
 text_refused e bytes f c size text (inr (of_other n is elsewhere)) line other none =
     inr (by_environment n size text elsewhere (other n is))

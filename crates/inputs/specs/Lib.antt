@@ -5,6 +5,7 @@ pub mod LineReading
 pub mod ListedText
 pub mod Lists
 pub mod Merge
+pub mod Origins
 pub mod Refusal
 pub mod Wanted
 pub mod TakenTexts

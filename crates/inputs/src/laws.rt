@@ -1,11 +1,15 @@
 //! Laws of the definitions.
 
-ghost use Rattle.std.specs.Prelude.{◌≡◌, ◌∷◌, ◌++◌, [], ℕ, All, List};
+ghost use Rattle.std.specs.Prelude.{◌≡◌, ◌∷◌, ◌++◌, [], ℕ, All, Bool, List};
+ghost use Rattle.pep_version.specs.Version.{IsVersion, Version};
 ghost use Rattle.pep_marker.specs.Environment.{EnvironmentParts, IsEnvironment};
 ghost use Rattle.pep_marker.specs.Header.{header};
 ghost use Rattle.pep_require.specs.Requirement.{RequirementParts};
+ghost use Rattle.demands.specs.Answer.{IsAnswer};
 ghost use Rattle.demands.specs.Demand.{HaveSameDemands};
-ghost use Rattle.demands.specs.Table.{HasExactPoints, IsTable, TableParts};
+ghost use Rattle.demands.specs.Join.{JoinsTables};
+ghost use Rattle.demands.specs.Table.{HasExactPoints, IsTable, TableDemands, TableParts};
+ghost use Rattle.demands.specs.Verdict.{IsVerdict};
 ghost use Rattle.pep_table.specs.TableText.{IsTableText};
 ghost use Rattle.faults.specs.declared.fault.Cause.{Cause};
 ghost use Rattle.documents.specs.RefusedProject.{IsOverflow};
@@ -19,8 +23,11 @@ ghost use Rattle.inputs.specs.Gathered.{
 };
 ghost use Rattle.inputs.specs.Lists.{IsRequirementList};
 ghost use Rattle.inputs.specs.Merge.{IsMerge};
+ghost use Rattle.inputs.specs.Origins.{Origin, OriginDemands, both};
 ghost use Rattle.inputs.specs.Refusal.{IsRefused, IsRefusedList};
 ghost use Rattle.inputs.specs.Streams.{IsTableOfList};
+
+use pep_table::{Answer, Verdict};
 
 pub use documents::laws::{group_is_walked, one_project, refused_project_is_not_read};
 
@@ -93,6 +100,32 @@ pub fn read_is_merged()
     ensures text { (e : EnvironmentParts) (i : Input) (t : TableParts) (x : List ℕ)
         → i.kind ≡ Kind.List → IsTableOfList e i.bytes.items t → IsTableText e t x
         → IsMerge e (i ∷ []) x }
+{}
+
+/// What a table says of a version of a package, and of the package, all demands say of which it is
+/// the table: those of inputs, as of [`gather`](crate::gather), those of bytes that are one input, as
+/// of [`merge_reader`](crate::merge_reader), those of requirements that apply, and those of two such
+/// together.
+pub fn gathered_answers()
+    ensures answers { (e : EnvironmentParts) (o : Origin) (t : TableParts) (name : List ℕ)
+        (v : Version) (want_pre : Bool) (a : Answer) → IsTable (OriginDemands e o) t → IsVersion v
+        → IsAnswer (TableDemands t name) v want_pre a
+        → IsAnswer (OriginDemands e o name) v want_pre a }
+    ensures verdicts { (e : EnvironmentParts) (o : Origin) (t : TableParts) (name : List ℕ)
+        (verdict : Verdict) → IsTable (OriginDemands e o) t
+        → IsVerdict (TableDemands t name) verdict → IsVerdict (OriginDemands e o name) verdict }
+{}
+
+/// The join of two such tables, as of one of inputs with one of a list that was read, is the table of
+/// what both demand, and where each has just the points of its demands, so has the join.
+pub fn gathered_are_joined()
+    ensures table { (e : EnvironmentParts) (o p : Origin) (s t r : TableParts)
+        → IsTable (OriginDemands e o) s → IsTable (OriginDemands e p) t → JoinsTables s t r
+        → IsTable (OriginDemands e (both o p)) r }
+    ensures points { (e : EnvironmentParts) (o p : Origin) (s t r : TableParts)
+        → IsTable (OriginDemands e o) s → HasExactPoints (OriginDemands e o) s
+        → IsTable (OriginDemands e p) t → HasExactPoints (OriginDemands e p) t
+        → JoinsTables s t r → HasExactPoints (OriginDemands e (both o p)) r }
 {}
 
 /// Bytes are one list of requirements at most.

@@ -2,7 +2,8 @@
 
 ghost use Rattle.std.specs.Prelude.{◌≡◌, ◌⊎◌, ℕ, IfErr, IfOk};
 ghost use Rattle.demands.specs.Table.{IsValidTable, TableParts};
-ghost use Rattle.pep_table.specs.TableText.{IsReadAs, IsRefusedAsTable};
+ghost use Rattle.pep_table.specs.Refused.{IsRefusedAsTable};
+ghost use Rattle.pep_table.specs.TableText.{IsReadAs};
 ghost use Rattle.inputs.specs.TableFiles.{IsRefusedTable};
 ghost use Rattle.inputs.specs.Wanted.{IsPartOfFile, wanted_name, wanted_part};
 

@@ -5,7 +5,7 @@ use Rattle.std.proofs.Common.{append-nil}
 use Rattle.pep_marker.specs.Marker.{MarkerParts, comparisons, Token, open_parenthesis}
 use Rattle.pep_marker.specs.Marker.{close_parenthesis, and_word, or_word, operand, operator}
 use Rattle.pep_marker.specs.Marker.{IsOrChain, one_chain, or_chain, IsAndChain, one_item, and_chain}
-use Rattle.pep_marker.specs.Marker.{IsItem, comparison, parentheses}
+use Rattle.pep_marker.specs.Marker.{IsItem, comparison, parentheses, opened, operators}
 use Rattle.pep_marker.specs.Chains.{ItemFrom, comparison_from, parentheses_from, PartFrom}
 use Rattle.pep_marker.specs.Chains.{item_part, chain_part, ChainFrom, parts_from, RestFrom}
 use Rattle.pep_marker.specs.Chains.{rest_end, rest_more, ends, ends_and, ends_or, part_ends, joined}
@@ -227,3 +227,57 @@ mutual
       RestFrom l d m ts k rest → length rest ≤ length ts
   shorter_rest rest_end = omega arith
   shorter_rest (rest_more e i c) = omega (arith, ap length e, shorter_part i, shorter_rest c)
+
+-- ---- each comparison takes an operator, and what is left is part of the tokens
+
+word_counts : (l : Link) (ts : List Token) →
+    (operators (link_word l ∷ ts) ≡ operators ts)
+    × (opened (link_word l ∷ ts) ≡ opened ts)
+word_counts And ts = (refl, refl)
+word_counts Or ts = (refl, refl)
+
+-- the tokens are so many comparisons more than those that are left
+pub record AreMore (count : ℕ) (ts rest : List Token) : Type 0 where
+  pub by_operators : count + operators rest ≤ operators ts
+  pub by_opened : opened rest ≤ opened ts
+
+-- behind the word of a link
+pub more_behind : (l : Link) (count : ℕ) (ts us vs : List Token) → us ≡ link_word l ∷ vs →
+    AreMore count ts us → AreMore count ts vs
+more_behind l count ts us vs e h =
+    let word = word_counts l vs in record {
+      by_operators = omega (arith, h.by_operators, ap (operators) e, word.0);
+      by_opened = omega (arith, h.by_opened, ap (opened) e, word.1);
+    }
+
+mutual
+  item_more : {d : ℕ} {ts rest : List Token} {m : MarkerParts} → ItemFrom d ts m rest →
+      AreMore (comparisons m) ts rest
+  item_more comparison_from = record { by_operators = omega arith; by_opened = omega arith }
+  item_more (parentheses_from c) =
+      let h = chain_more c in record {
+        by_operators = omega (arith, h.by_operators);
+        by_opened = omega (arith, h.by_opened);
+      }
+
+  pub part_more : {l : Link} {d : ℕ} {ts rest : List Token} {m : MarkerParts} →
+      PartFrom l d ts m rest → AreMore (comparisons m) ts rest
+  part_more (item_part i) = item_more i
+  part_more (chain_part c) = chain_more c
+
+  pub chain_more : {l : Link} {d : ℕ} {ts rest : List Token} {m : MarkerParts} →
+      ChainFrom l d ts m rest → AreMore (comparisons m) ts rest
+  chain_more {ts = ts} (parts_from {us = us} i c) = rest_more_from c ts (part_more i)
+
+  rest_more_from : {l : Link} {d : ℕ} {us rest : List Token} {m k : MarkerParts} →
+      RestFrom l d m us k rest → (ts : List Token) → AreMore (comparisons m) ts us →
+      AreMore (comparisons k) ts rest
+  rest_more_from rest_end ts h = h
+  rest_more_from {l = l} {m = m} (rest_more {ts = vs} {n = n} e i c) ts h =
+      let behind = more_behind l (comparisons m) ts _ vs e h in
+      let part = part_more i in
+      let both = comparisons-joined l m n in
+      rest_more_from c ts (record {
+        by_operators = omega (arith, behind.by_operators, part.by_operators, both);
+        by_opened = omega (arith, behind.by_opened, part.by_opened);
+      })

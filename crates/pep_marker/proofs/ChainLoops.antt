@@ -1,13 +1,15 @@
 -- What the loops over chains keep.
 use Rattle.std.proofs.Common.{◌≡◌, ℕ, ◌+◌, ◌-◌, ◌<◌, suc, true, false, List, ◌∷◌}
 use Rattle.std.proofs.Common.{sym, ap, refl, subst, ◌∙◌, add-one, arith}
-use Rattle.std.proofs.Common.{inl, inr, length, map}
+use Rattle.std.proofs.Common.{inl, inr, length, map, get_or, drop, take, ◌≤◌, []}
 use Rattle.std.specs.Prelude.{Result, Ok, Err, IfOk}
-use Rattle.std.proofs.lemmas.List.{length-map}
-use Rattle.pep_marker.specs.Token.{token_of}
+use Rattle.std.proofs.lemmas.List.{length-map, take_all}
+use Rattle.pep_marker.specs.Token.{lexeme_of, operand_of, token_of}
+use Rattle.pep_marker.specs.declared.token.Lexeme.TheVariants as lexeme
+use Rattle.pep_marker.specs.declared.token.Side.{Side}
 use Rattle.pep_marker.specs.declared.fault.MarkerFault.{MarkerFault}
 use Rattle.pep_marker.specs.declared.token.Token as cut
-use Rattle.pep_marker.specs.Marker.{MarkerParts, comparisons, Token, open_parenthesis}
+use Rattle.pep_marker.specs.Marker.{MarkerParts, comparisons, Token, open_parenthesis, AreTooMany}
 use Rattle.pep_marker.specs.Marker.{close_parenthesis, Operand, Operator, compare, operand, operator}
 use Rattle.pep_marker.specs.Chains.{ItemFrom, comparison_from, parentheses_from, PartFrom}
 use Rattle.pep_marker.specs.Chains.{ChainFrom, parts_from, RestFrom}
@@ -17,7 +19,8 @@ use Rattle.pep_marker.specs.Chains.{is_closed, Refuses}
 use Rattle.pep_marker.specs.declared.chains.Link.{Link}
 use Rattle.pep_marker.specs.declared.chains.Link.TheVariants.{Or}
 use Rattle.pep_marker.proofs.ChainLaws.{same_part, same_chain, moved, more, goes_on, behind_one}
-use Rattle.pep_marker.proofs.ChainLaws.{part_ends-rest, comparisons-joined}
+use Rattle.pep_marker.proofs.ChainLaws.{part_ends-rest, comparisons-joined, AreMore, chain_more}
+use Rattle.pep_marker.proofs.ChainLaws.{more_behind}
 
 -- The chain at the front of the tokens is read so far as this marker, with these tokens left: what
 -- goes on from here is a chain at the front, and each such chain goes on from here.
@@ -118,18 +121,53 @@ comparison_here l r o ts us rest m e f g d =
     (subst (λ x. ItemFrom d (operand l ∷ operator o ∷ operand r ∷ rest) x rest) (sym g)
     comparison_from)
 
+-- an operand stands in front of the tokens behind it
+pub operand_first : (ts : List cut.Token) (t : cut.Token) (side : Side) → 1 ≤ length ts →
+    (get_or ts 0 t).lexeme ≡ lexeme.Operand side →
+    map token_of ts
+    ≡ operand (operand_of side) ∷ map token_of (take (length ts - 1) (drop 1 ts))
+operand_first [] t side some e = absurd (omega (arith, some))
+operand_first (u ∷ ts) t side some e =
+    ap (λ x. lexeme_of x ∷ map token_of ts) e
+    ∙ ap (λ us. operand (operand_of side) ∷ map token_of us)
+    (sym (take_all (length (u ∷ ts) - 1) ts (omega arith)))
+
 -- ---- the steps of the code
 
-pub refuses_by : (P Q : Type 0) (e : MarkerFault) → (P → Q) → Refuses P e → Refuses Q e
-refuses_by P Q e f (inl h) = inl h
-refuses_by P Q e f (inr (h, p)) = inr (h, f p)
+pub refuses_by : (P Q : Type 0) (d room : ℕ) (ts : List Token) (e : MarkerFault) → (P → Q) →
+    Refuses P d room ts e → Refuses Q d room ts e
+refuses_by P Q d room ts e f (inl h) = inl h
+refuses_by P Q d room ts e f (inr (h, p)) = inr (h, f p)
 
-pub chain_refused : (l : Link) (d room count : ℕ) (ts : List Token) (m : MarkerParts)
+-- .. and where the tokens that are too many stand in others
+refuses_in : (P Q : Type 0) (d n room left : ℕ) (ts us : List Token) (e : MarkerFault) → (P → Q) →
+    (AreTooMany d room ts → AreTooMany n left us) → Refuses P d room ts e → Refuses Q n left us e
+refuses_in P Q d n room left ts us e f g (inl h) = inl h
+refuses_in P Q d n room left ts us e f g (inr (inl h, p)) = inr (inl h, f p)
+refuses_in P Q d n room left ts us e f g (inr (inr (h, many), p)) = inr (inr (h, g many), f p)
+
+no_chain_next : (l : Link) (d room count : ℕ) (ts : List Token) (m : MarkerParts)
     (rest behind : List Token) → count ≡ comparisons m → SoFar l d ts m rest →
     rest ≡ link_word l ∷ behind → NoPart l d (room - count) behind → NoChain l d room ts
-chain_refused l d room count ts m rest behind f so e none =
+no_chain_next l d room count ts m rest behind f so e none =
     no_next l d room ts m behind (subst (λ x. SoFar l d ts m x) e so)
     (subst (λ n. NoPart l d (room - n) behind) f none)
+
+many_next : (d room count : ℕ) (ts behind : List Token) → AreMore count ts behind →
+    AreTooMany d (room - count) behind → AreTooMany d room ts
+many_next d room count ts behind h (inl deep) = inl (omega (arith, deep, h.by_opened))
+many_next d room count ts behind h (inr long) = inr (omega (arith, long, h.by_operators))
+
+pub chain_refused : (l : Link) (d room count : ℕ) (ts : List Token) (m : MarkerParts)
+    (rest behind : List Token) (fault : MarkerFault) → count ≡ comparisons m → SoFar l d ts m rest →
+    rest ≡ link_word l ∷ behind →
+    Refuses (NoPart l d (room - count) behind) d (room - count) behind fault →
+    Refuses (NoChain l d room ts) d room ts fault
+chain_refused l d room count ts m rest behind fault f so e h =
+    let more = subst (λ n. AreMore n ts rest) (sym f) (chain_more (whole l d ts m rest so)) in
+    refuses_in (NoPart l d (room - count) behind) (NoChain l d room ts) d d (room - count) room behind ts
+    fault (no_chain_next l d room count ts m rest behind f so e)
+    (many_next d room count ts behind (more_behind l count ts rest behind e more)) h
 
 pub chain_step : (l : Link) (d : ℕ) (ts : List Token) (m n k : MarkerParts)
     (rest behind after : List Token) → SoFar l d ts m rest → rest ≡ link_word l ∷ behind →

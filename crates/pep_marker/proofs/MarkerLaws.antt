@@ -1,12 +1,15 @@
 -- A text is one marker, by the law of its tokens and that of chains.
 use Rattle.std.proofs.Common.{◌≡◌, ℕ, ◌≤◌, ◌<◌, Bool, true, false, List, [], ◌∷◌, ◌++◌, length}
-use Rattle.std.proofs.Common.{sym, ap, subst, ◌∙◌, refl, append-nil, arith, map, ◌==◌}
+use Rattle.std.proofs.Common.{sym, ap, subst, ◌∙◌, refl, append-nil, arith, map, ◌==◌, ◌⊎◌}
+use Rattle.std.proofs.Common.{inl, inr}
 use Rattle.std.proofs.lemmas.Bool.Decides.{nat_tests}
 use Rattle.pep_marker.specs.Marker.{MarkerParts, comparisons, Token, HasTokens, IsOrChain}
-use Rattle.pep_marker.specs.Marker.{IsMarker, is_word_byte, NoMarker}
+use Rattle.pep_marker.specs.Marker.{IsMarker, is_word_byte, NoMarker, BeginsWith, IsNoMarker}
+use Rattle.pep_marker.specs.declared.fault.MarkerFault.{MarkerFault}
+use Rattle.pep_marker.specs.declared.fault.MarkerFault.TheVariants.{NoMemory}
 use Rattle.pep_marker.specs.Token.{token_of}
 use Rattle.pep_marker.specs.declared.token.Token as cut
-use Rattle.pep_marker.specs.Chains.{ChainFrom, NoChain, ends_or}
+use Rattle.pep_marker.specs.Chains.{ChainFrom, NoChain, Refuses, ends_or}
 use Rattle.pep_marker.specs.declared.chains.Link.TheVariants.{Or}
 use Rattle.pep_marker.proofs.ChainLaws.{chain_grammar, one_marker_of_tokens, same_chain}
 use Rattle.pep_marker.proofs.ChainLaws.{whole_from}
@@ -85,6 +88,15 @@ pub no_chain_of : (x : List ℕ) (found ts : List Token) (whole : Bool) → ts �
 no_chain_of x found ts true same h stopped none =
     no_chain x ts (subst (HasTokens x) (sym same) (h refl)) none
 no_chain_of x found ts false same h stopped none = no_tokens x (stopped refl)
+
+-- and it is refused as these tokens are
+pub no_marker_of : (P : Type 0) (x : List ℕ) (found ts : List Token) (e : MarkerFault) → ts ≡ found →
+    BeginsWith x found → (P → NoMarker x) → Refuses P 64 1024 ts e →
+    (e ≡ NoMemory) ⊎ IsNoMarker x e
+no_marker_of P x found ts e same front none (inl memory) = inl memory
+no_marker_of P x found ts e same front none (inr (inl bad, why)) = inr (inl bad, none why)
+no_marker_of P x found ts e same front none (inr (inr (deep, many), why)) =
+    inr (inr (deep, (ts, subst (BeginsWith x) (sym same) front, many)), none why)
 
 pub some_left : (us : List cut.Token) → (length us == 0) ≡ false → 0 < length (map token_of us)
 some_left [] e = absurd (cc e)

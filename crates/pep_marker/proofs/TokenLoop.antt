@@ -6,16 +6,17 @@ use Rattle.std.proofs.Math.Seq.{take-append_seam, drop-append_seam}
 use Rattle.std.proofs.lemmas.List.{append-nil, drop-drop, drop_all, map-append, take-append-drop}
 use Rattle.texts.proofs.Connectives.{and_first}
 use Rattle.std.proofs.lemmas.Str.{IsUtf8-drop, IsCharBoundary-from_rest}
+use Rattle.std.specs.Prelude.{IsTrue}
 use Rattle.std.specs.List.{list_all, prefix_len}
 use Rattle.std.specs.Str.{IsCharBoundary, IsUtf8}
 use Rattle.pep_marker.specs.Marker as syntax
-use Rattle.pep_marker.specs.Marker.{HasTokens}
-use Rattle.texts.specs.Runs.{begins, without_leading_blanks}
+use Rattle.pep_marker.specs.Marker.{BeginsWith, HasTokens}
+use Rattle.texts.specs.Runs.{begins, IsBlank, without_leading_blanks}
 use Rattle.texts.specs.Bytes.{is_blank_byte}
 use Rattle.pep_marker.specs.Token.{AreSpans, AreSpansFrom, IsTokenAt, token_of}
 use Rattle.pep_marker.specs.TokenReading.{next_token}
 use Rattle.pep_marker.specs.declared.token.Token.{Token}
-use Rattle.pep_marker.proofs.FoundTokens.{boundary-token, token-stands, token_some}
+use Rattle.pep_marker.proofs.FoundTokens.{Stands, boundary-token, token-stands, token_some}
 use Rattle.texts.proofs.RunLemmas.{all-rest, all-run, begins-rest, rest-all, rest-span}
 use Rattle.pep_marker.proofs.TokenLaws.{found_at, same_found, tokens_begin, blanks_away, trimmed_at}
 
@@ -64,11 +65,26 @@ pub record SoFar (x : List ℕ) (items : List Token) (start : ℕ) : Type 0 wher
       HasTokens x (map token_of items ++ ts)
   pub goes_on : (ts : List syntax.Token) → HasTokens x ts → Goes (drop start x)
   pub spans : (ts : List Token) → AreSpansFrom start x ts → AreSpans x (items ++ ts)
+  pub front : (ts : List syntax.Token) → BeginsWith (drop start x) ts →
+      BeginsWith x (map token_of items ++ ts)
 
 trimmed_once : (x : List ℕ) →
     without_leading_blanks (without_leading_blanks x) ≡ without_leading_blanks x
 trimmed_once x =
     rest-span is_blank_byte [] (without_leading_blanks x) refl (begins-rest is_blank_byte x)
+
+-- the white space in front of a text
+abbrev blanks_of : List ℕ → List ℕ
+blanks_of x = take (prefix_len is_blank_byte x) x
+
+behind_blanks : (x : List ℕ) (t : syntax.Token) (space written rest : List ℕ) →
+    without_leading_blanks x ≡ space ++ written ++ rest → IsBlank space → syntax.IsToken t written →
+    IsTrue (syntax.ends_before t rest) → x ≡ blanks_of x ++ written ++ rest
+behind_blanks x t space written rest is blank token ends =
+    let front = trimmed_at t (without_leading_blanks x) space written rest is blank token ends in
+    let same : without_leading_blanks x ≡ written ++ rest = sym (trimmed_once x) ∙ front in
+    sym (take-append-drop (prefix_len is_blank_byte x) x) ∙ ap (λ y. blanks_of x ++ y) same
+    ∙ sym (append_assoc (blanks_of x) written rest)
 
 -- white space in front of tokens may stand or go
 with_blanks : (x : List ℕ) (ts : List syntax.Token) → HasTokens (without_leading_blanks x) ts →
@@ -80,13 +96,15 @@ with_blanks x [] h =
     none [] h g = refl
     none (b ∷ y) h g = cc (and_first (is_blank_byte b) _ h, g)
 with_blanks x (t ∷ ts) (space, written, rest, is, blank, token, ends, others) =
-    let front = trimmed_at t (without_leading_blanks x) space written rest is blank token ends in
-    let same : without_leading_blanks x ≡ written ++ rest = sym (trimmed_once x) ∙ front in
-    let run = take (prefix_len is_blank_byte x) x in
-    let whole : x ≡ run ++ written ++ rest =
-    sym (take-append-drop (prefix_len is_blank_byte x) x) ∙ ap (λ y. run ++ y) same
-    ∙ sym (append_assoc run written rest) in
-    (run, written, rest, whole, all-run is_blank_byte x, token, ends, others)
+    let whole = behind_blanks x t space written rest is blank token ends in
+    (blanks_of x, written, rest, whole, all-run is_blank_byte x, token, ends, others)
+
+front_with_blanks : (x : List ℕ) (ts : List syntax.Token) →
+    BeginsWith (without_leading_blanks x) ts → BeginsWith x ts
+front_with_blanks x [] h = tt
+front_with_blanks x (t ∷ ts) (space, written, rest, is, blank, token, ends, others) =
+    let whole = behind_blanks x t space written rest is blank token ends in
+    (blanks_of x, written, rest, whole, all-run is_blank_byte x, token, ends, others)
 
 -- spans from a place on are spans from any place before it on
 spans_later : (from start : ℕ) (x : List ℕ) (ts : List Token) → from ≤ start →
@@ -94,15 +112,39 @@ spans_later : (from start : ℕ) (x : List ℕ) (ts : List Token) → from ≤ s
 spans_later from start x [] le h = tt
 spans_later from start x (t ∷ ts) le h = (omega (arith, h.0), h.1, h.2)
 
+behind_found : (y : List ℕ) (t : syntax.Token) (n : ℕ) (s : Stands y t n) → drop n y ≡ s.rest
+behind_found y t n s =
+    ap (drop n) s.is ∙ ap (λ k. drop k (s.written ++ s.rest)) (sym s.count)
+    ∙ drop-append_seam s.written s.rest
+
 -- a token in front of others
 joined : (y : List ℕ) (t : syntax.Token) (n : ℕ) (ts : List syntax.Token) →
     next_token y ≡ found_at t n → HasTokens (drop n y) ts → HasTokens y (t ∷ ts)
 joined y t n ts found h =
-    let s = token-stands y t n found in
-    let behind : drop n y ≡ s.rest =
-    ap (drop n) s.is ∙ ap (λ k. drop k (s.written ++ s.rest)) (sym s.count)
-    ∙ drop-append_seam s.written s.rest in
-    ([], s.written, s.rest, s.is, refl, s.token, s.ends, subst (λ z. HasTokens z ts) behind h)
+    let s = token-stands y t n found in (
+      [],
+      s.written,
+      s.rest,
+      s.is,
+      refl,
+      s.token,
+      s.ends,
+      subst (λ z. HasTokens z ts) (behind_found y t n s) h,
+    )
+
+front_joined : (y : List ℕ) (t : syntax.Token) (n : ℕ) (ts : List syntax.Token) →
+    next_token y ≡ found_at t n → BeginsWith (drop n y) ts → BeginsWith y (t ∷ ts)
+front_joined y t n ts found h =
+    let s = token-stands y t n found in (
+      [],
+      s.written,
+      s.rest,
+      s.is,
+      refl,
+      s.token,
+      s.ends,
+      subst (λ z. BeginsWith z ts) (behind_found y t n s) h,
+    )
 
 -- white space has no token in front
 none-of-blank : {G : Type 0} (y : List ℕ) (t : syntax.Token) (n : ℕ) →
@@ -137,6 +179,7 @@ none_yet x start boundary rest = record {
   whole = λ ts h. with_blanks x ts (subst (λ y. HasTokens y ts) rest h);
   goes_on = λ ts h. (ts, subst (λ y. HasTokens y ts) (sym rest) (blanks_away x ts h));
   spans = λ ts h. spans_later 0 start x ts (omega arith) h;
+  front = λ ts h. front_with_blanks x ts (subst (λ y. BeginsWith y ts) rest h);
 }
 
 more : (items : List Token) (t : Token) (ts : List syntax.Token) →
@@ -166,6 +209,9 @@ one_more x items start next t s here boundary rest le =
           (s.goes_on ts h);
       spans = λ ts h. subst (AreSpans x) (sym (append_assoc items (t ∷ []) ts)) (s.spans (t ∷ ts)
           (omega (arith, here.begin), here.span, spans_later t.end next x ts le h));
+      front = λ ts h. subst (BeginsWith x) (more items t ts) (s.front (token_of t ∷ ts)
+          (front_joined y (token_of t) count ts here.found
+          (front_with_blanks (drop count y) ts (subst (λ z. BeginsWith z ts) later h))));
     }
 
 pub all_tokens : (x : List ℕ) (items : List Token) (start : ℕ) → SoFar x items start →
@@ -184,3 +230,8 @@ no_token x items start s lt none ts h =
 pub spans_so_far : (x : List ℕ) (items : List Token) (start : ℕ) → SoFar x items start →
     AreSpans x items
 spans_so_far x items start s = subst (AreSpans x) (append-nil items) (s.spans [] tt)
+
+pub tokens_in_front : (x : List ℕ) (items : List Token) (start : ℕ) → SoFar x items start →
+    BeginsWith x (map token_of items)
+tokens_in_front x items start s =
+    subst (BeginsWith x) (append-nil (map token_of items)) (s.front [] tt)

@@ -4,7 +4,7 @@ use Rattle.std.specs.Prelude.{◌≡◌, ℕ, suc, ◌<◌, ◌⊎◌, Bool, tru
 use Rattle.std.specs.Prelude.{Option, Some, None}
 use Rattle.pep_marker.specs.Marker.{Operand, Operator, MarkerParts, compare, and, or, comparisons}
 use Rattle.pep_marker.specs.Marker.{Token, open_parenthesis, close_parenthesis, and_word, or_word}
-use Rattle.pep_marker.specs.Marker.{operand, operator}
+use Rattle.pep_marker.specs.Marker.{operand, operator, AreTooMany}
 use Rattle.pep_marker.specs.declared.chains.Link.{Link}
 use Rattle.pep_marker.specs.declared.chains.Link.TheVariants.{And, Or}
 use Rattle.pep_marker.specs.declared.fault.MarkerFault.{MarkerFault}
@@ -101,7 +101,9 @@ abbrev pub NoChain : Link → ℕ → ℕ → List Token → Type 0
 NoChain link depth room ts = (m : MarkerParts) (rest : List Token) →
     ChainFrom link depth ts m rest → ends link rest ≡ true → room < comparisons m
 
--- the refusal is want of memory, or one of the grammar, and then this holds
-abbrev pub Refuses : Type 0 → MarkerFault → Type 0
-Refuses why fault =
-    (fault ≡ NoMemory) ⊎ (((fault ≡ BadMarker) ⊎ (fault ≡ TooDeep)) × why)
+-- The refusal is want of memory, or one of the grammar, and then this holds; it is too deep only where
+-- the tokens have more `(` than may be opened, or more operators than there is room for.
+abbrev pub Refuses : Type 0 → ℕ → ℕ → List Token → MarkerFault → Type 0
+Refuses why depth room ts fault =
+    (fault ≡ NoMemory)
+    ⊎ (((fault ≡ BadMarker) ⊎ ((fault ≡ TooDeep) × AreTooMany depth room ts)) × why)

@@ -2,10 +2,9 @@
 use Rattle.std.specs.Prelude.{◌≡◌, ℕ, ◌⊎◌, List, Option, Some, None, ⊤, string_bytes}
 use Rattle.pep_marker.specs.Environment.{EnvironmentParts}
 use Rattle.pep_marker.specs.Holds.{Evaluates, Truth, undefined}
-use Rattle.pep_marker.specs.Marker.{IsMarker, MarkerParts, NoMarker}
+use Rattle.pep_marker.specs.Marker.{IsMarker, IsNoMarker, MarkerParts}
 use Rattle.pep_marker.specs.declared.fault.MarkerFault.{MarkerFault}
-use Rattle.pep_marker.specs.declared.fault.MarkerFault.TheVariants.{BadMarker, NoMemory, TooDeep}
-use Rattle.pep_marker.specs.declared.fault.MarkerFault.TheVariants.{Undefined}
+use Rattle.pep_marker.specs.declared.fault.MarkerFault.TheVariants.{NoMemory, Undefined}
 use Rattle.pep_marker.specs.declared.judged.Slot.{Slot}
 
 -- the text is a marker, of which this is the truth in the environment
@@ -18,7 +17,7 @@ abbrev pub RefusesText : EnvironmentParts → List ℕ → MarkerFault → Type 
 RefusesText e x f =
     (f ≡ NoMemory)
     ⊎ (((f ≡ Undefined) × TextSays e x undefined)
-    ⊎ (((f ≡ BadMarker) ⊎ (f ≡ TooDeep)) × NoMarker x))
+    ⊎ IsNoMarker x f)
 
 -- what is remembered of a text is what it says
 abbrev pub IsRemembered : EnvironmentParts → Option Slot → Type 0

@@ -1,6 +1,6 @@
 -- Markers and their grammar: PyPA "Dependency specifiers", "Grammar" (PEP 508).
-use Rattle.std.specs.Prelude.{◌≡◌, ℕ, suc, ◌+◌, ◌≤◌, Bool, true, not, ◌&&◌, ◌||◌, ◌==◌, IsTrue}
-use Rattle.std.specs.Prelude.{List, [], ◌∷◌, ◌++◌, length, codes}
+use Rattle.std.specs.Prelude.{◌≡◌, ℕ, suc, ◌+◌, ◌≤◌, ◌<◌, Bool, true, not, ◌&&◌, ◌||◌, ◌==◌}
+use Rattle.std.specs.Prelude.{IsTrue, List, [], ◌∷◌, ◌++◌, length, codes, ◌⊎◌, ⊤}
 use Rattle.std.specs.Char.{is_ascii_alphanumeric}
 use Rattle.std.specs.List.{list_all}
 use Rattle.specifiers.specs.Clause.{operator_text}
@@ -8,6 +8,8 @@ use Rattle.specifiers.specs.declared.op.Op.{Op}
 use Rattle.specifiers.specs.declared.op.Op.TheVariants.{Equal, Less, More}
 use Rattle.pep_marker.specs.declared.environment.Variable.{Variable}
 use Rattle.pep_marker.specs.Environment.{variable_name}
+use Rattle.pep_marker.specs.declared.fault.MarkerFault.{MarkerFault}
+use Rattle.pep_marker.specs.declared.fault.MarkerFault.TheVariants.{BadMarker, TooDeep}
 use Rattle.texts.specs.Runs.{IsBlank, begins}
 
 -- ---- what a marker is
@@ -122,3 +124,37 @@ pub record IsMarker (x : List ℕ) (m : MarkerParts) : Type 0 where
 -- the text is read as no marker
 abbrev pub NoMarker : List ℕ → Type 0
 NoMarker x = (m : MarkerParts) → ¬ IsMarker x m
+
+-- ---- what is said of a text that is no marker
+
+-- how many `(` are among the tokens
+abbrev pub opened : List Token → ℕ
+opened [] = 0
+opened (open_parenthesis ∷ ts) = suc (opened ts)
+opened (t ∷ ts) = opened ts
+
+-- how many operators
+abbrev pub operators : List Token → ℕ
+operators [] = 0
+operators (operator o ∷ ts) = suc (operators ts)
+operators (t ∷ ts) = operators ts
+
+-- the tokens have more `(` than may be open, or more operators than there may be comparisons
+abbrev pub AreTooMany : ℕ → ℕ → List Token → Type 0
+AreTooMany depth room ts = (depth < opened ts) ⊎ (room < operators ts)
+
+-- the text begins with these tokens, with white space before and between them
+abbrev pub BeginsWith : List ℕ → List Token → Type 0
+BeginsWith x [] = ⊤
+BeginsWith x (t ∷ ts) = (space written rest : List ℕ)
+    × (x ≡ space ++ written ++ rest) × IsBlank space × IsToken t written
+    × IsTrue (ends_before t rest) × BeginsWith rest ts
+
+-- the tokens that the text begins with have more than 64 `(`, or more than 1,024 operators
+abbrev pub IsOverLimits : List ℕ → Type 0
+IsOverLimits x = (ts : List Token) × BeginsWith x ts × AreTooMany 64 1024 ts
+
+-- the text is no marker, and is refused with this fault: as too deep only where it is over the limits
+abbrev pub IsNoMarker : List ℕ → MarkerFault → Type 0
+IsNoMarker x fault =
+    ((fault ≡ BadMarker) ⊎ ((fault ≡ TooDeep) × IsOverLimits x)) × NoMarker x

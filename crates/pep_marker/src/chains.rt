@@ -99,13 +99,15 @@ fn comparison<'t, 'a>(
     behind: &'t [Token<'a>],
     room: usize,
 ) -> Result<Front<'t, 'a>, MarkerFault>
-    ensures read { IfOk result (λ f. (depth : ℕ)
-        → ItemFrom depth (syntax.operand (operand_of left.entry) ∷ map token_of behind.now)
+    ensures read { (depth : ℕ)
+        → IfOk result (λ f. ItemFrom depth (syntax.operand (operand_of left.entry) ∷ map token_of behind.now)
         (tree_parts f.tree) (map token_of f.rest.now)) }
     ensures count { IfOk result (λ f. f.comparisons ≡ comparisons (tree_parts f.tree)) }
     ensures room { IfOk result (λ f. f.comparisons ≤ room) }
-    ensures refused { IfErr result (Refuses ((depth : ℕ)
-        → NoItem depth room (syntax.operand (operand_of left.entry) ∷ map token_of behind.now))) }
+    ensures refused { (depth : ℕ)
+        → IfErr result (Refuses
+        (NoItem depth room (syntax.operand (operand_of left.entry) ∷ map token_of behind.now))
+        depth room (syntax.operand (operand_of left.entry) ∷ map token_of behind.now)) }
 {
     let Some((operator, behind)) = operator_at(behind) else {
         return Err(MarkerFault::BadMarker);
@@ -137,7 +139,8 @@ fn item_at<'t, 'a>(
         (map token_of f.rest.now)) }
     ensures count { IfOk result (λ f. f.comparisons ≡ comparisons (tree_parts f.tree)) }
     ensures room { IfOk result (λ f. f.comparisons ≤ room) }
-    ensures refused { IfErr result (Refuses (NoItem depth room (map token_of tokens.now))) }
+    ensures refused { IfErr result (Refuses (NoItem depth room (map token_of tokens.now))
+        depth room (map token_of tokens.now)) }
 {
     let [first, behind @ ..] = tokens else {
         return Err(MarkerFault::BadMarker);
@@ -165,7 +168,8 @@ fn in_parentheses<'t, 'a>(
     ensures count { IfOk result (λ f. f.comparisons ≡ comparisons (tree_parts f.tree)) }
     ensures room { IfOk result (λ f. f.comparisons ≤ room) }
     ensures refused { IfErr result (Refuses (NoItem (depth + 1) room
-        (syntax.open_parenthesis ∷ map token_of behind.now))) }
+        (syntax.open_parenthesis ∷ map token_of behind.now)) (depth + 1) room
+        (syntax.open_parenthesis ∷ map token_of behind.now)) }
 {
     let front = chain(alloc, Link::Or, behind, depth, room)?;
     let Some(rest) = behind_close(front.rest) else {
@@ -189,7 +193,8 @@ fn part_at<'t, 'a>(
     ensures ended { IfOk result (λ f. part_ends link (map token_of f.rest.now) ≡ true) }
     ensures count { IfOk result (λ f. f.comparisons ≡ comparisons (tree_parts f.tree)) }
     ensures room { IfOk result (λ f. f.comparisons ≤ room) }
-    ensures refused { IfErr result (Refuses (NoPart link depth room (map token_of tokens.now))) }
+    ensures refused { IfErr result (Refuses (NoPart link depth room (map token_of tokens.now))
+        depth room (map token_of tokens.now)) }
 {
     match link {
         Link::And => item_at(alloc, tokens, depth, room),
@@ -212,7 +217,8 @@ pub(crate) fn chain<'t, 'a>(
     ensures ended { IfOk result (λ f. ends link (map token_of f.rest.now) ≡ true) }
     ensures count { IfOk result (λ f. f.comparisons ≡ comparisons (tree_parts f.tree)) }
     ensures room { IfOk result (λ f. f.comparisons ≤ room) }
-    ensures refused { IfErr result (Refuses (NoChain link depth room (map token_of tokens.now))) }
+    ensures refused { IfErr result (Refuses (NoChain link depth room (map token_of tokens.now))
+        depth room (map token_of tokens.now)) }
 {
     let mut front = part_at(alloc, link, tokens, depth, room)?;
     while let Some(behind) = behind_word(link, front.rest) {

@@ -5,7 +5,7 @@ ghost use Rattle.std.specs.Prelude.{map, option_map, IfSome, MatchOption};
 ghost use Rattle.std.specs.List.{prefix_len};
 ghost use Rattle.std.specs.Str.{IsCharBoundary};
 ghost use Rattle.pep_marker.specs.Marker as syntax;
-ghost use Rattle.pep_marker.specs.Marker.{HasTokens, is_quote, is_word_byte};
+ghost use Rattle.pep_marker.specs.Marker.{BeginsWith, HasTokens, is_quote, is_word_byte};
 ghost use Rattle.texts.specs.Runs.{without_leading_blanks};
 ghost use Rattle.pep_marker.specs.Token.{AreSpans, IsTokenAt, found_of, lexeme_of, token_of};
 ghost use Rattle.pep_marker.specs.TokenReading.{in_behind, is_quoted_byte, next_token};
@@ -222,6 +222,7 @@ pub(crate) fn tokens_of(alloc: Global, text: &str) -> Result<Tokens<'_>, MarkerF
         → HasTokens text.now (map token_of found.items.items)) }
     ensures stopped { IfOk result (λ found. found.whole ≡ false
         → (ts : List syntax.Token) → ¬ HasTokens text.now ts) }
+    ensures front { IfOk result (λ found. BeginsWith text.now (map token_of found.items.items)) }
     ensures spans { IfOk result (λ found. AreSpans text.now found.items.items) }
     ensures faults { IfErr result (λ e. e ≡ MarkerFault.NoMemory) }
 {

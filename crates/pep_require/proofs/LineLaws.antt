@@ -411,7 +411,7 @@ one_requirement x r s h g = one_line x r s (read_parts x r h) (read_parts x s g)
 refused_ending : (x : List ℕ) (m : Option MarkerParts) (f : RequireFault) → RefusesEnding x f →
     ReadsMarker x m → ⊥
 refused_ending x m f h always = h
-refused_ending x m f (inl h) (when {m = n} y g) = h.1.none n g
+refused_ending x m f (inl h) (when {m = n} y g) = h.1.refused.1 n g
 refused_ending x m f (inr h) (when y g) = cc h.0
 
 -- of an overflow of the reader of URLs nothing is known

@@ -11,12 +11,11 @@ use Rattle.specifiers.specs.Clause.{operator_text}
 use Rattle.specifiers.specs.declared.fault.ClauseFault.{ClauseFault}
 use Rattle.specifiers.specs.declared.fault.ClauseFault.TheVariants as clause_fault
 use Rattle.specifiers.specs.declared.op.Op.{Op}
-use Rattle.pep_marker.specs.Marker.{MarkerParts, NoMarker}
+use Rattle.pep_marker.specs.Marker.{IsNoMarker, MarkerParts}
 use Rattle.pep_marker.specs.Name.{name_of}
 use Rattle.texts.specs.Runs.{begins, without_leading_blanks}
 use Rattle.texts.specs.Bytes.{is_blank_byte}
 use Rattle.pep_marker.specs.declared.fault.MarkerFault.{MarkerFault}
-use Rattle.pep_marker.specs.declared.fault.MarkerFault.TheVariants as marker_fault
 use Rattle.pep_require.specs.Faults.{beginning_fault, after_name, name_run}
 use Rattle.pep_require.specs.Reads.{Reads, ReadsExtras, ReadsUrl, ReadsMarker}
 use Rattle.pep_require.specs.Requirement.{RequirementParts, TargetParts, bounds, direct, UrlParts}
@@ -158,11 +157,10 @@ pub data RefusesTarget : List ℕ → RequireFault → Type 0 where
 
 -- ---- the marker, at the end of the line
 
--- behind `;` stands no marker
+-- behind `;` stands no marker, and which fault that has
 pub record RefusesMarker (x : List ℕ) (f : RequireFault) : Type 0 where
   pub inner : MarkerFault
-  pub known : (inner ≡ marker_fault.BadMarker) ⊎ (inner ≡ marker_fault.TooDeep)
-  pub none : NoMarker x
+  pub refused : IsNoMarker x inner
   pub fault : f ≡ fault.BadMarker inner
 
 -- what stands behind the target, without white space before it, is refused with this fault

@@ -19,6 +19,7 @@ pub mod AscendingItems
 pub mod ReadItems
 pub mod ReadRanges
 pub mod ReadParts
+pub mod ToldLines
 pub mod ReadTables
 pub mod RangeWords
 pub mod TableBytes

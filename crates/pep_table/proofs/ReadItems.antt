@@ -12,6 +12,7 @@ use Rattle.pep_require.specs.Requirement.{IsAscending}
 use Rattle.texts.proofs.CutLists.{run_one}
 use Rattle.pep_table.specs.TableReading.{AreItems, BeginsKind, Front, HasNoFeed, HasNoFront}
 use Rattle.pep_table.specs.TableReading.{kind_front}
+use Rattle.pep_table.specs.Refused.{AreKindLines, IsBehind}
 use Rattle.pep_table.specs.TableText.{kind_lines, line}
 
 -- ---- lines
@@ -129,6 +130,10 @@ module _ (kind : List ℕ) (Are : List (List ℕ) → Type 0) (fit : FitLines Ar
       (s : LinesSoFar kind Are x xs rest) where
     pub all_read : ¬ BeginsKind kind rest → Front kind x xs rest × Are xs
     all_read behind = (record { lines = s.done; behind = behind }, s.items)
+
+    -- reading stops behind the lines that are read
+    pub stops_here : IsBehind (AreKindLines kind) x rest
+    stops_here = (kind_lines kind xs, s.done, (xs, fit.plain xs s.items, refl))
 
     -- a line of the kind that doesn't end
     pub no_end : (l : List ℕ) → rest ≡ kind_front kind ++ l → HasNoFeed l →

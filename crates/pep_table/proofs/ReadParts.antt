@@ -98,10 +98,10 @@ module _ (f : EntryParts) (y : List ℕ) (out : ¬ BeginsSpace y) where
 
 -- ---- what a valid entry has on its lines
 
-abbrev IsUrl : List ℕ → Type 0
+abbrev pub IsUrl : List ℕ → Type 0
 IsUrl u = IsTrue (is_url_text u)
 
-abbrev IsDemanded : List ℕ → Type 0
+abbrev pub IsDemanded : List ℕ → Type 0
 IsDemanded t = IsTrue (is_demanded_text t)
 
 plain_items : (P : List ℕ → Type 0) → ((x : List ℕ) → P x → HasNoFeed x) → (xs : List (List ℕ)) →
@@ -133,6 +133,16 @@ missing kind Are x z us r none e are front =
 
 feeds : (P : List ℕ → Type 0) (xs : List (List ℕ)) → AreItems P xs → All HasNoFeed xs
 feeds P xs h = All-weaker (λ x. P x × HasNoFeed x) HasNoFeed (λ x p. p.1) xs h.1
+
+-- no text on an entry's lines has a line feed
+pub entry_plain : (f : EntryParts) → IsValidEntry f → All HasNoFeed f.extras × All HasNoFeed f.urls
+    × All HasNoFeed f.texts × All HasNoFeed (map range_text f.versions)
+entry_plain f v = (
+  feeds IsNormalName f.extras (extras_are f v),
+  feeds IsUrl f.urls (urls_are f v),
+  feeds IsDemanded f.texts (texts_are f v),
+  plain_each f.versions (have_cuts f.versions v.versions.spelled),
+)
 
 members : (P : List ℕ → Type 0) (xs : List (List ℕ)) → AreItems P xs → IsAscending xs × All P xs
 members P xs h = (h.0, All-weaker (λ x. P x × HasNoFeed x) P (λ x p. p.0) xs h.1)

@@ -26,6 +26,10 @@ use Rattle.demands.specs.Table.{EntryDemands, EntryParts, IsValidEntry, IsValidT
 use Rattle.demands.specs.Table.{names}
 use Rattle.pep_table.specs.TableText.{AreNoLines, AreTableLines, Shows, entry_text, kind_lines}
 use Rattle.pep_table.specs.TableText.{line, range_text}
+use Rattle.pep_table.specs.Refused.{BeginsEntry, HaltsAt, HasNoEntry, IsBehind, StopsIn}
+use Rattle.pep_table.specs.declared.read.Halt.{Halt}
+use Rattle.pep_table.specs.declared.read.Halt.TheVariants.{NoMemory, At}
+use Rattle.pep_table.proofs.ToldLines.{lines_append, one_entry}
 use Rattle.demands.specs.Verdict.{verdict_word}
 
 -- ---- an entry's text is its first line and the lines behind it
@@ -195,6 +199,9 @@ pub record EntriesSoFar (x : List ℕ) (t : TableParts) (rest : List ℕ) : Type
   pub done : (s : TableParts) → AreTableLines s rest → AreTableLines (t ++ s) x
   pub goes_on : (s : TableParts) → IsValidTable s → AreTableLines s x →
       (more : TableParts) × (s ≡ t ++ more) × AreTableLines more rest
+  pub front : List ℕ
+  pub lines : AreTableLines t front
+  pub cut : x ≡ front ++ rest
 
 nothing_left : (l : List ℕ) → length l ≡ 0 → l ≡ []
 nothing_left [] e = refl
@@ -205,6 +212,9 @@ none_read x = record {
   valid = record { names = (tt, All-nil _); entries = All-nil _ };
   done = λ s h. h;
   goes_on = λ s v h. (s, refl, h);
+  front = [];
+  lines = refl;
+  cut = refl;
 }
 
 module _ (x : List ℕ) (t : TableParts) (rest : List ℕ) (s : EntriesSoFar x t rest) where
@@ -269,7 +279,45 @@ module _ (x : List ℕ) (t : TableParts) (rest : List ℕ) (s : EntriesSoFar x t
               ∙ sym (append_assoc t ((name, e) ∷ []) more),
           subst (AreTableLines more) (sym same.2) left,
         );
+    front = s.front ++ entry_text name found.next.text.0 e;
+    lines = lines_append t ((name, e) ∷ []) s.front (entry_text name found.next.text.0 e) s.lines
+        (one_entry name found.next.text.0 e found.next.text.1);
+    cut = s.cut ∙ ap (λ z. s.front ++ z) found.next.text.2
+        ∙ sym (append_assoc s.front (entry_text name found.next.text.0 e) behind);
   }
+
+  -- where no entry can be read next, the table goes on with none
+  no_entry : HasNoNext (names t) rest → HasNoEntry t rest
+  no_entry none name e verdict left valid shows out is =
+      let up = subst IsAscending (map-append (λ q. q.0) t ((name, e) ∷ [])) valid.names.0 in
+      let are = subst (All IsNormalName) (map-append (λ q. q.0) t ((name, e) ∷ [])) valid.names.1 in
+      none name e left (λ (more, begins). out more begins) (record {
+        is_name = All-head IsNormalName name [] (all_behind IsNormalName (names t) (name ∷ []) are);
+        behind = up;
+        valid = All-head (λ q. IsValidEntry q.1) (name, e) []
+            (all_behind (λ q. IsValidEntry q.1) t ((name, e) ∷ []) valid.entries);
+        text = (verdict, shows, is);
+      })
+
+  -- .. and reading stops in it, or behind it
+  pub stops_next : (halt : Halt) → (halt ≡ NoMemory) ⊎ HasNoNext (names t) rest →
+      HaltsAt (IsBehind BeginsEntry rest) halt → HaltsAt (StopsIn x) halt
+  stops_next NoMemory refused h = tt
+  stops_next (At left) (inl e) h = absurd (cc e)
+  stops_next (At left) (inr none) (part, split, begins) = (
+    s.front ++ part,
+    s.cut ∙ ap (λ z. s.front ++ z) split ∙ sym (append_assoc s.front part left.now),
+    record {
+      table = t;
+      valid = s.valid;
+      done = s.front;
+      lines = s.lines;
+      part = part;
+      begins = begins;
+      is = refl;
+      none = subst (HasNoEntry t) split (no_entry none);
+    },
+  )
 
 -- ---- the entry of one name
 

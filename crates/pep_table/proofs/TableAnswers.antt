@@ -3,10 +3,11 @@ use Rattle.std.proofs.Common.{ℕ, Bool, List, Option, Some, None}
 use Rattle.std.specs.Prelude.{IfSome}
 use Rattle.pep_version.specs.Version.{IsVersion, Version}
 use Rattle.demands.proofs.Answers.{conflict_exactly, meets_exactly}
-use Rattle.pep_table.proofs.JoinedDemands.{IsNamed, undemanded}
+use Rattle.pep_table.proofs.JoinedDemands.{IsNamed, own_table, undemanded}
 use Rattle.demands.specs.Answer.{IsAnswer}
 use Rattle.demands.specs.Demand.{Demand, Demands, url}
-use Rattle.demands.specs.Table.{EntryParts, IsEntry, IsTable, IsValidEntry, TableParts, entry_at}
+use Rattle.demands.specs.Table.{EntryParts, IsEntry, IsTable, IsValidEntry, TableDemands, TableParts}
+use Rattle.demands.specs.Table.{entry_at}
 use Rattle.pep_table.specs.TableLaws.{entry_valid}
 use Rattle.demands.specs.Verdict.{HasConflict, IsVerdict, MeetsAll}
 use Rattle.demands.specs.declared.verdict.Verdict.{Verdict}
@@ -60,3 +61,15 @@ verdict_by_table Q W t name verdicts.Possible h g p = (
   λ c. p.0 (conflict_too W Q t name g h c),
   (p.1.0, p.1.1, meets_too Q W t name p.1.0 h g p.1.1 p.1.2),
 )
+
+-- what the table itself says, the demands say of which it is the table
+pub answer_of_demands : (Q : Demands) (t : TableParts) (name : List ℕ) (v : Version) (want : Bool)
+    (a : Answer) → IsTable Q t → IsVersion v → IsAnswer (TableDemands t name) v want a →
+    IsAnswer (Q name) v want a
+answer_of_demands Q t name v want a h =
+    answer_by_table (TableDemands t) Q t name v want a (own_table t h.valid).0 h
+
+pub verdict_of_demands : (Q : Demands) (t : TableParts) (name : List ℕ) (w : Verdict) →
+    IsTable Q t → IsVerdict (TableDemands t name) w → IsVerdict (Q name) w
+verdict_of_demands Q t name w h =
+    verdict_by_table (TableDemands t) Q t name w (own_table t h.valid).0 h

@@ -1,6 +1,6 @@
 -- What stands in front of a table's text: the header of its environment, or its first line.
 use Rattle.std.proofs.Common.{◌≡◌, ◌≢◌, ℕ, List, [], ◌∷◌, ◌++◌, append_assoc, codes, inl, inr, map, refl, subst, sym}
-use Rattle.std.proofs.Common.{◌∙◌, ◌⊎◌}
+use Rattle.std.proofs.Common.{◌∙◌, ◌⊎◌, ◌+◌, ◌≤◌, ap}
 use Rattle.std.proofs.lemmas.List.{append_cancel_left}
 use Rattle.std.proofs.lemmas.List.Elements.{All-head}
 use Rattle.texts.specs.Lines.{line, written}
@@ -17,9 +17,10 @@ use Rattle.demands.specs.declared.verdict.Verdict.TheVariants.{Possible, Nothing
 use Rattle.demands.specs.Table.{IsValidTable, TableParts, names}
 use Rattle.demands.specs.Verdict.{verdict_word}
 use Rattle.pep_table.specs.EntryReading.{HasNoHead, parts_then}
-use Rattle.pep_table.specs.TableText.{AreNoLines, AreTableLines, DecidesText, IsBadLine}
-use Rattle.pep_table.specs.TableText.{IsNoTableText, IsReadAs, IsRefusedAsTable, IsUnread}
-use Rattle.pep_table.specs.TableText.{IsTableText, of_none, of_other}
+use Rattle.pep_table.specs.TableText.{AreNoLines, AreTableLines, IsNoTableText, IsReadAs, IsTableText}
+use Rattle.pep_table.specs.TableText.{IsUnread}
+use Rattle.pep_table.specs.Refused.{DecidesText, IsHead, IsRefusedAsTable, IsToldLine, TellsLine}
+use Rattle.pep_table.specs.Refused.{feeds, of_none, of_other}
 use Rattle.pep_table.proofs.OneTableOfText.{same_lines}
 use Rattle.pep_table.proofs.ReadParts.{no_verdict}
 use Rattle.pep_table.proofs.ReadTables.{whole}
@@ -78,6 +79,7 @@ decides_missing e x none = (
     ];
     nowhere = λ f t is valid text. nowhere f t text;
   },
+  ([], inl (refl, none), refl),
 )
   where
     nowhere : (f : EnvironmentParts) (t : TableParts) → ¬ IsTableText f t x
@@ -86,7 +88,29 @@ decides_missing e x none = (
 
 pub decides_own : (e : EnvironmentParts) → IsEnvironment e → (x lines : List ℕ) →
     x ≡ header e ++ lines → DecidesText e x lines
-decides_own e is x lines cut = ((λ t h. inl (lines, h, cut)), text_of_none e e is is x lines cut)
+decides_own e is x lines cut = (
+  (λ t h. inl (lines, h, cut)),
+  text_of_none e e is is x lines cut,
+  (header e, inr (e, is, refl), cut),
+)
+
+-- the line that is told of a text which ends in such lines
+told_behind : (x lines : List ℕ) (fault : TableFault) → TellsLine x lines fault → (head : List ℕ) →
+    IsHead x head → x ≡ head ++ lines → (number : ℕ) × (fault ≡ BadTable number) × IsToldLine x number
+told_behind x lines fault tells head is cut =
+    let (number, bad, front, rest, begins, split, counted) = tells head cut in (
+      number,
+      bad,
+      inl (record {
+        head = head;
+        is_head = is;
+        front = front;
+        begins = begins;
+        rest = rest;
+        cut = cut ∙ ap (λ z. head ++ z) split;
+        counted = counted;
+      }),
+    )
 
 differ_apart : (xs ys : List (List ℕ)) (n : ℕ) → DifferAt xs ys n → xs ≢ ys
 differ_apart xs ys n (here other) same = other (cc same)
@@ -98,7 +122,7 @@ pub refused_other : (e : EnvironmentParts) → IsEnvironment e → (x lines : Li
     × DifferAt (header_lines e) (header_lines f) number) →
     (fault ≡ NoMemory)
     ⊎ ((fault ≡ OtherEnvironment number) × (t : TableParts) × IsValidTable t × AreTableLines t lines)
-    ⊎ (IsBadLine fault × AreNoLines lines) → (fault ≡ NoMemory) ⊎ IsRefusedAsTable e x fault
+    ⊎ (TellsLine x lines fault × AreNoLines lines) → (fault ≡ NoMemory) ⊎ IsRefusedAsTable e x fault
 refused_other e is x lines number fault (f, are, cut, differ) (inl none) = inl none
 refused_other e is x lines number fault (f, are, cut, differ) (inr (inl (same, t, valid, h))) =
     inr (of_other number same (record {
@@ -118,32 +142,31 @@ refused_other e is x lines number fault (f, are, cut, differ) (inr (inl (same, t
     unread s v (inr g) =
         form_no_lines x (written (map (header_line f) variables) ++ lines)
         (header_front f x lines cut) s v g
-refused_other e is x lines number fault (f, are, cut, differ) (inr (inr ((n, bad), none))) =
-    inr (of_none n bad (text_of_none e f is are x lines cut none))
+refused_other e is x lines number fault (f, are, cut, differ) (inr (inr (tells, none))) =
+    let told = told_behind x lines fault tells (header f) (inr (f, are, refl)) cut in
+    inr (of_none told.0 told.1 (text_of_none e f is are x lines cut none) told.2)
 
 pub refused_bad : (e : EnvironmentParts) → IsEnvironment e → (x : List ℕ) (rest : Bor (List ℕ))
-    (number : ℕ) → FindsHeader e x (Bad rest) → IsRefusedAsTable e x (BadTable number)
-refused_bad e is x rest number ((back, cut), none) = of_none number refl (record {
-  unread = λ t valid read. elim read [
-    | inl text ↦ none e text.0 is text.2
-    | inr h ↦ form_no_lines x back cut t valid h
-  ];
-  nowhere = λ f t are valid text. none f text.0 are text.2;
-})
+    (number : ℕ) → 1 ≤ number → number ≤ feeds x + 1 → FindsHeader e x (Bad rest) →
+    IsRefusedAsTable e x (BadTable number)
+refused_bad e is x rest number low high ((back, cut), none) =
+    of_none number refl (record {
+      unread = λ t valid read. elim read [
+        | inl text ↦ none e text.0 is text.2
+        | inr h ↦ form_no_lines x back cut t valid h
+      ];
+      nowhere = λ f t are valid text. none f text.0 are text.2;
+    })
+    (inr (record { back = back; begins = cut; none = none; low = low; high = high }))
 
 pub refused_lines : (e : EnvironmentParts) (x lines : List ℕ) (fault : TableFault) →
-    DecidesText e x lines → (fault ≡ NoMemory) ⊎ (IsBadLine fault × AreNoLines lines) →
+    DecidesText e x lines → (fault ≡ NoMemory) ⊎ (TellsLine x lines fault × AreNoLines lines) →
     (fault ≡ NoMemory) ⊎ IsRefusedAsTable e x fault
 refused_lines e x lines fault decides (inl none) = inl none
-refused_lines e x lines fault decides (inr ((n, bad), none)) = inr (of_none n bad (decides.1 none))
-
-pub halted_refused : (e : EnvironmentParts) (x lines : List ℕ) (fault : TableFault) →
-    DecidesText e x lines → (M : Type 0) → (M → fault ≡ NoMemory) → M ⊎ AreNoLines lines →
-    M ⊎ IsBadLine fault → (fault ≡ NoMemory) ⊎ IsRefusedAsTable e x fault
-halted_refused e x lines fault decides M memory (inl m) bad = inl (memory m)
-halted_refused e x lines fault decides M memory (inr none) (inl m) = inl (memory m)
-halted_refused e x lines fault decides M memory (inr none) (inr bad) =
-    refused_lines e x lines fault decides (inr (bad, none))
+refused_lines e x lines fault decides (inr (tells, none)) =
+    let (head, is, cut) = decides.2 in
+    let told = told_behind x lines fault tells head is cut in
+    inr (of_none told.0 told.1 (decides.1 none) told.2)
 
 -- ---- one table
 

@@ -17,9 +17,11 @@ ghost use Rattle.demands.specs.Demand.{
 ghost use Rattle.demands.specs.Gathering.{TakesApplying, TakesRequirement};
 ghost use Rattle.demands.specs.Join.{IsJoin, IsUnion, JoinsAll, JoinsTables};
 ghost use Rattle.pep_table.specs.MergeTree.{
+  IsAcceptedTree,
   MakesTable,
   MergeTree,
   MergesAlike,
+  TreeDemands,
   all_joined,
   input,
   joined,
@@ -91,6 +93,13 @@ pub fn merge_steps()
         → MakesTable e (printed a) t }
 {}
 
+/// The table that a merge makes is that of the demands of all its inputs, with just their points.
+pub fn tree_is_table()
+    ensures { (e : EnvironmentParts) (tree : MergeTree) (t : TableParts) → IsAcceptedTree e tree
+        → MakesTable e tree t
+        → IsTable (TreeDemands e tree) t × HasExactPoints (TreeDemands e tree) t }
+{}
+
 /// Equal starts, and items with the same members, are joined to one value, whatever the order of
 /// the items and their repeats.
 pub fn join_all_is_one<J: Join>()
@@ -99,13 +108,21 @@ pub fn join_all_is_one<J: Join>()
 {}
 
 /// The join of the tables of two sets of demands is the table of both sets, and where each has just
-/// the points that its demands have, so has the join.
+/// the points that its demands have, so has the join. So it is for listed demands, and for those of
+/// merge trees: of a tree that is one input, for the demands of the requirements that apply.
 pub fn joined_is_table()
     ensures table { (q w : List (List ℕ × Demand)) (s t r : TableParts) → IsTable (Listed q) s
         → IsTable (Listed w) t → JoinsTables s t r → IsTable (Together (Listed q) (Listed w)) r }
     ensures points { (q w : List (List ℕ × Demand)) (s t r : TableParts) → IsTable (Listed q) s
         → HasExactPoints (Listed q) s → IsTable (Listed w) t → HasExactPoints (Listed w) t
         → JoinsTables s t r → HasExactPoints (Together (Listed q) (Listed w)) r }
+    ensures trees { (e f : EnvironmentParts) (a b : MergeTree) (s t r : TableParts)
+        → IsTable (TreeDemands e a) s → IsTable (TreeDemands f b) t → JoinsTables s t r
+        → IsTable (Together (TreeDemands e a) (TreeDemands f b)) r }
+    ensures tree_points { (e f : EnvironmentParts) (a b : MergeTree) (s t r : TableParts)
+        → IsTable (TreeDemands e a) s → HasExactPoints (TreeDemands e a) s
+        → IsTable (TreeDemands f b) t → HasExactPoints (TreeDemands f b) t → JoinsTables s t r
+        → HasExactPoints (Together (TreeDemands e a) (TreeDemands f b)) r }
 {}
 
 /// A table of demands that takes a requirement is the table of these demands and those of the
@@ -152,7 +169,8 @@ pub fn one_verdict()
 {}
 
 /// What a table says of a version of a package, and of the package, all demands say of which it is
-/// the table.
+/// the table: listed demands, and those of a merge tree; of a tree that is one input, the demands of
+/// the requirements that apply, as of [`Table::of`](crate::Table::of).
 pub fn table_answers()
     ensures answers { (q : List (List ℕ × Demand)) (t : TableParts) (name : List ℕ) (v : Version)
         (want_pre : Bool) (a : Answer) → IsTable (Listed q) t → IsVersion v
@@ -160,4 +178,11 @@ pub fn table_answers()
     ensures verdicts { (q : List (List ℕ × Demand)) (t : TableParts) (name : List ℕ)
         (verdict : Verdict) → IsTable (Listed q) t → IsVerdict (TableDemands t name) verdict
         → IsVerdict (Listed q name) verdict }
+    ensures tree_answers { (e : EnvironmentParts) (tree : MergeTree) (t : TableParts)
+        (name : List ℕ) (v : Version) (want_pre : Bool) (a : Answer) → IsTable (TreeDemands e tree) t
+        → IsVersion v → IsAnswer (TableDemands t name) v want_pre a
+        → IsAnswer (TreeDemands e tree name) v want_pre a }
+    ensures tree_verdicts { (e : EnvironmentParts) (tree : MergeTree) (t : TableParts)
+        (name : List ℕ) (verdict : Verdict) → IsTable (TreeDemands e tree) t
+        → IsVerdict (TableDemands t name) verdict → IsVerdict (TreeDemands e tree name) verdict }
 {}

@@ -3,7 +3,7 @@
 mod items;
 mod ranges;
 
-ghost use Rattle.std.specs.Prelude.{◌≡◌, ◌⊎◌, ◌↔◌, ◌++◌, ◌∷◌, []};
+ghost use Rattle.std.specs.Prelude.{◌≡◌, ◌≤◌, ◌+◌, ◌⊎◌, ◌↔◌, ◌++◌, ◌∷◌, [], ℕ, List};
 ghost use Rattle.std.specs.Prelude.{IfErr, IfOk, IfSome, IsTrue, None, Some};
 ghost use Rattle.std.specs.Option.{option_copied};
 ghost use Rattle.pep_require.specs.Requirement.{IsAscending};
@@ -24,15 +24,18 @@ ghost use Rattle.demands.specs.Table.{IsValidTable, TableParts, entry_at, names}
 ghost use Rattle.pep_table.specs.NamedEntry.{entry_alone};
 ghost use Rattle.pep_marker.specs.Environment.{IsEnvironment};
 ghost use Rattle.pep_marker.specs.Header.{FindsHeader};
-ghost use Rattle.pep_table.specs.TableText.{
-  AreNoLines,
-  AreTableLines,
+ghost use Rattle.pep_table.specs.Refused.{
+  AreIndented,
+  BeginsEntry,
   DecidesText,
-  IsBadLine,
-  IsReadAs,
+  HaltsAt,
+  IsBehind,
   IsRefusedAsTable,
-  Shows,
+  StopsIn,
+  TellsLine,
+  feeds,
 };
+ghost use Rattle.pep_table.specs.TableText.{AreNoLines, AreTableLines, IsReadAs, Shows};
 ghost use Rattle.demands.specs.Verdict.{verdict_word};
 
 use crate::read::items::{Extras, TextLines, listed_name, read_items};
@@ -99,6 +102,7 @@ fn verdict_of(word: &str) -> Option<Verdict>
 fn read_head(alloc: Global, text: &str) -> Result<(Name, Verdict, &str), Halt<'_>>
     ensures ok { IfOk result (λ r. HasHead text.now r.0 r.1 r.2.now) }
     ensures refused { IfErr result (λ e. (e ≡ Halt.NoMemory) ⊎ HasNoHead text.now) }
+    ensures stops { IfErr result (HaltsAt (λ rest. rest ≡ text.now)) }
 {
     let Some((line, rest)) = text.split_once('\n') else {
         return Err(Halt::At(text));
@@ -119,6 +123,7 @@ fn read_head(alloc: Global, text: &str) -> Result<(Name, Verdict, &str), Halt<'_
 fn read_parts(alloc: Global, text: &str) -> Result<(Entry, &str), Halt<'_>>
     ensures ok { IfOk result (λ r. HasParts text.now r.0 r.1.now) }
     ensures refused { IfErr result (λ e. (e ≡ Halt.NoMemory) ⊎ HasNoParts text.now) }
+    ensures stops { IfErr result (HaltsAt (IsBehind AreIndented text.now)) }
 {
     let (extras, rest) = read_items(alloc, &Extras, text)?;
     let (urls, rest) = read_items(alloc, &TextLines::Urls, rest)?;
@@ -129,7 +134,9 @@ fn read_parts(alloc: Global, text: &str) -> Result<(Entry, &str), Halt<'_>>
 
 // Where the entry at the front of this text has a wrong verdict: there, unless the line behind the
 // entry can't stand after it.
-fn wrong_verdict<'a>(alloc: Global, name: &Name, text: &'a str, behind: &'a str) -> Halt<'a> {
+fn wrong_verdict<'a>(alloc: Global, name: &Name, text: &'a str, behind: &'a str) -> Halt<'a>
+    ensures { HaltsAt (λ rest. (rest ≡ text.now) ⊎ (rest ≡ behind.now)) result }
+{
     if behind.is_empty() {
         return Halt::At(text);
     }
@@ -172,6 +179,8 @@ fn read_judged<'a>(
     ensures ok { IfOk result (λ r. HasParts parts.now r.0 r.1.now × Shows r.0 verdict) }
     ensures refused { IfErr result (λ e. (e ≡ Halt.NoMemory)
         ⊎ (HasNoParts parts.now ⊎ HasOtherVerdict verdict parts.now)) }
+    ensures stops { IfErr result (HaltsAt (λ rest. (rest ≡ text.now)
+        ⊎ IsBehind AreIndented parts.now rest)) }
 {
     let (entry, behind) = read_parts(alloc, parts)?;
     if entry.verdict(alloc)? != verdict {
@@ -189,6 +198,7 @@ fn read_entry<'a>(
     ensures ok { IfOk result (λ r. HasNext (last_name last.entry) text.now r.0 r.1 r.2.now) }
     ensures refused { IfErr result (λ e. (e ≡ Halt.NoMemory)
         ⊎ HasNoNext (last_name last.entry) text.now) }
+    ensures stops { IfErr result (HaltsAt (IsBehind BeginsEntry text.now)) }
 {
     let (name, verdict, parts) = read_head(alloc, text)?;
     if !is_behind(last, &name) {
@@ -205,6 +215,7 @@ fn read_entries(alloc: Global, text: &str) -> Result<Vec<(Name, Entry)>, Halt<'_
     ensures ok { IfOk result (λ entries. IsValidTable entries.items
         × AreTableLines entries.items text.now) }
     ensures refused { IfErr result (λ e. (e ≡ Halt.NoMemory) ⊎ AreNoLines text.now) }
+    ensures stops { IfErr result (HaltsAt (StopsIn text.now)) }
 {
     let mut entries = Vec::new(alloc);
     let mut rest = text;
@@ -242,6 +253,7 @@ fn read_wanted<'a>(
     ensures ok { IfOk result (λ found. (t : TableParts) × AreTableLines t text.now
         × IsValidTable t × (found ≡ wanted_entry t (option_copied wanted.entry))) }
     ensures refused { IfErr result (λ e. (e ≡ Halt.NoMemory) ⊎ AreNoLines text.now) }
+    ensures stops { IfErr result (HaltsAt (StopsIn text.now)) }
 {
     let mut last = None;
     let mut found = None;
@@ -256,7 +268,11 @@ fn read_wanted<'a>(
 }
 
 // The number of the line at which this rest of the text begins, counted from 1.
-fn line_number(text: &str, rest: &str) -> usize {
+fn line_number(text: &str, rest: &str) -> usize
+    ensures number { (front : List ℕ) → text.now ≡ front ++ rest.now → result ≡ feeds front + 1 }
+    ensures low { 1 ≤ result }
+    ensures high { result ≤ feeds text.now + 1 }
+{
     match text.strip_suffix(rest) {
         Some(front) => 1
             + front
@@ -270,10 +286,13 @@ fn line_number(text: &str, rest: &str) -> usize {
 
 // The number of the line that is told where this rest of a header can't stand: that at which it
 // begins, and where nothing is left the last one.
-fn bad_header_line(text: &str, rest: &str) -> usize {
+fn bad_header_line(text: &str, rest: &str) -> usize
+    ensures low { 1 ≤ result }
+    ensures high { result ≤ feeds text.now + 1 }
+{
     let number = line_number(text, rest);
     if rest.is_empty() {
-        number.saturating_sub(1)
+        number.saturating_sub(1).max(1)
     } else {
         number
     }
@@ -282,7 +301,8 @@ fn bad_header_line(text: &str, rest: &str) -> usize {
 // The fault of a text that can't be read as a table's lines.
 fn halted(text: &str, halt: Halt<'_>) -> TableFault
     ensures memory { halt.entry ≡ Halt.NoMemory → result ≡ TableFault.NoMemory }
-    ensures line { (halt.entry ≡ Halt.NoMemory) ⊎ IsBadLine result }
+    ensures line { HaltsAt (λ rest. (front : List ℕ) → text.now ≡ front ++ rest
+        → result ≡ TableFault.BadTable (feeds front + 1)) halt.entry }
 {
     match halt {
         Halt::NoMemory => TableFault::NoMemory,
@@ -295,7 +315,7 @@ fn table_of_lines(alloc: Global, text: &str, lines: &str) -> Result<Table, Table
     ensures lines { IfOk result (λ t. AreTableLines t lines.now) }
     ensures valid { IfOk result (λ t. IsValidTable t) }
     ensures refused { IfErr result (λ e. (e ≡ TableFault.NoMemory)
-        ⊎ (IsBadLine e × AreNoLines lines.now)) }
+        ⊎ (TellsLine text.now lines.now e × AreNoLines lines.now)) }
 {
     match read_entries(alloc, lines) {
         Ok(entries) => Ok(Table::of_entries(entries)),
@@ -309,7 +329,7 @@ fn other_fault(alloc: Global, text: &str, number: usize, lines: &str) -> TableFa
     ensures { (result ≡ TableFault.NoMemory)
         ⊎ ((result ≡ TableFault.OtherEnvironment number)
         × (t : TableParts) × IsValidTable t × AreTableLines t lines.now)
-        ⊎ (IsBadLine result × AreNoLines lines.now) }
+        ⊎ (TellsLine text.now lines.now result × AreNoLines lines.now) }
 {
     match read_wanted(alloc, lines, None) {
         Ok(_) => TableFault::OtherEnvironment(number),

@@ -38,7 +38,7 @@ use Rattle.inputs.proofs.MergeLemmas.{shows_verdicts}
 use Rattle.demands.specs.Table.{TableParts}
 use Rattle.pep_table.specs.TableText.{IsTableText}
 use Rattle.command_line.specs.Plan.{Asks, CheckRequest, Request, check_version}
-use Rattle.pep_tool.specs.Run.{Refuses, Tells, TellsRefusal, by_memory, by_output, by_request}
+use Rattle.pep_tool.specs.Run.{Refuses, by_memory, by_output, by_request}
 use Rattle.pep_tool.specs.Run.{write_fault}
 use Rattle.pep_tool.specs.RunReplies.{IsReply, ChecksFiles, ListsFile, MergesFiles, MergesInput}
 use Rattle.pep_tool.specs.RunReplies.{IsAsked, IsGroup, RefusesCheck, RefusesFiles, RefusesMerge}
@@ -246,40 +246,26 @@ check_replies text_of status_of (Err f) files left_of device_of c left answer h 
 -- ---- the program
 
 -- what they ask for is refused
-pub refuses_request : {File : Type 0} (files : Text → KnownFile)
+pub refuses_request : {File Output : Type 0} (files : Text → KnownFile)
     (left_of : File → Option (List ℕ)) (device_of : File → Device) (words : List Text)
-    (left after : Option (List ℕ)) (input output : Device) (r : Request) (f : Fault) →
-    Asks words r
+    (left after : Option (List ℕ)) (input output : Device) (old new : Output) (r : Request)
+    (f : Fault) → old ≡ new → Asks words r
     → (f ≡ no_memory) ⊎ RefusesRequest files left_of device_of r left after input f →
-    Refuses files left_of device_of words left after input output f
-refuses_request files left_of device_of words left after input output r f asked (inl memory) =
-    by_memory memory
-refuses_request files left_of device_of words left after input output r f asked (inr h) =
-    by_request r asked h
+    Refuses files left_of device_of words left after input output old new f
+refuses_request files left_of device_of words left after input output old new r f kept asked
+    (inl memory) =
+    by_memory memory kept
+refuses_request files left_of device_of words left after input output old new r f kept asked (inr h) =
+    by_request r asked h kept
 
 -- the fault of an answer that can't be written
-pub refuses_write : {File : Type 0} (files : Text → KnownFile)
+pub refuses_write : {File Output : Type 0} (files : Text → KnownFile)
     (left_of : File → Option (List ℕ)) (device_of : File → Device) (words : List Text)
-    (left after : Option (List ℕ)) (input output : Device) (r : Request) (text : List ℕ)
-    (status : ℕ) (f : Fault) → Asks words r →
+    (left after : Option (List ℕ)) (input output : Device) (old new : Output) (r : Request)
+    (text : List ℕ) (status : ℕ) (f : Fault) → Asks words r →
     IsReply files left_of device_of r left after text status
     → input.failed ≡ false → IsTrue output.failed → f ≡ write_fault →
-    Refuses files left_of device_of words left after input output f
-refuses_write files left_of device_of words left after input output r text status f asked reply
-    ready failed is =
+    Refuses files left_of device_of words left after input output old new f
+refuses_write files left_of device_of words left after input output old new r text status f asked
+    reply ready failed is =
     by_output r text status asked reply ready failed is
-
--- what was told of a fault with which the program refuses
-pub TellsRefusal-from_tells : {File : Type 0} (files : Text → KnownFile)
-    (left_of : File → Option (List ℕ)) (device_of : File → Device) (words : List Text)
-    (left after : Option (List ℕ)) (input output : Device) (fault : Fault)
-    (written told : Option (List ℕ)) (sink : Device)
-    → Refuses files left_of device_of words left after input output fault
-    → Tells fault written told sink
-    → TellsRefusal files left_of device_of words left after input output written told sink
-TellsRefusal-from_tells files left_of device_of words left after input output fault written told
-    sink refuses (inl line) =
-    record { fault = fault; refuses = refuses; line = line }
-TellsRefusal-from_tells files left_of device_of words left after input output fault written told
-    sink refuses (inr line) =
-    record { fault = no_memory; refuses = by_memory refl; line = line }

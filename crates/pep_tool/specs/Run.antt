@@ -39,22 +39,25 @@ module _ {File : Type 0} (files : Text → KnownFile) (left_of : File → Option
     pub writes : Appends written printed text
 
   -- Why the program refuses with this fault: the words ask for nothing, what they ask for is
-  -- refused, memory is wanting, or writing the answer failed.
+  -- refused, or memory is wanting, and then the output is as it was; or writing the answer failed.
   pub data Refuses (words : List Text) (left after : Option (List ℕ)) (input output : Device)
-      (fault : Fault) : Type 0 where
-    by_words : AskNothing words → IsBadWords fault → Refuses words left after input output fault
-    by_memory : fault ≡ no_memory → Refuses words left after input output fault
+      {Output : Type 0} (old new : Output) (fault : Fault) : Type 0 where
+    by_words : AskNothing words → IsBadWords fault → old ≡ new →
+        Refuses words left after input output old new fault
+    by_memory : fault ≡ no_memory → old ≡ new →
+        Refuses words left after input output old new fault
     by_request : (r : Request) → Asks words r →
-        RefusesRequest files left_of device_of r left after input fault
-        → Refuses words left after input output fault
+        RefusesRequest files left_of device_of r left after input fault → old ≡ new →
+        Refuses words left after input output old new fault
     by_output : (r : Request) (text : List ℕ) (status : ℕ) → Asks words r →
         IsReply files left_of device_of r left after text status
         → input.failed ≡ false → IsTrue output.failed → fault ≡ write_fault →
-        Refuses words left after input output fault
+        Refuses words left after input output old new fault
 
-  -- the line of a fault was written, with which the program refuses
+  -- the program refuses with a fault, and the line of it was written, or that of want of memory
   pub record TellsRefusal (words : List Text) (left after : Option (List ℕ))
-      (input output : Device) (written told : Option (List ℕ)) (sink : Device) : Type 0 where
+      (input output : Device) {Output : Type 0} (old new : Output)
+      (written told : Option (List ℕ)) (sink : Device) : Type 0 where
     pub fault : Fault
-    pub refuses : Refuses words left after input output fault
-    pub line : WritesLine (fault_line fault) written told sink
+    pub refuses : Refuses words left after input output old new fault
+    pub line : Tells fault written told sink

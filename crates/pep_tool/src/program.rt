@@ -105,11 +105,13 @@ pub fn run<R: Files + AllocGlobal, I: Source, O: Sink, F: Sink>(
     ensures bytes { ReadsUpTo (input_limit + 1) (I.left input.old) (I.left input.new) }
     ensures calls { (I.device input.new).calls ≤ input_limit + 1 }
 
-    // At status 2 a fault was told, and nothing was printed.
+    // At status 2 a fault was told, and nothing was printed; the output is as it was, unless writing
+    // the answer failed.
     ensures told { result ≡ 2 → TellsRefusal unknown_files
         ⟦<Counted<R::File> as Source>⟧.left ⟦<Counted<R::File> as Source>⟧.device
         (map string_bytes words.now) (I.left input.old) (I.left input.new) (I.device input.new)
-        (O.device output.new) (F.written faults.old) (F.written faults.new) (F.device faults.new) }
+        (O.device output.new) output.old output.new (F.written faults.old) (F.written faults.new)
+        (F.device faults.new) }
     ensures silent { result ≡ 2 → (O.device output.new).failed ≡ false
         → Keeps (O.written output.old) (O.written output.new) }
 {
@@ -146,10 +148,12 @@ pub fn run_in<D: Folder, I: Source, O: Sink, F: Sink>(
     ensures bytes { ReadsUpTo (input_limit + 1) (I.left input.old) (I.left input.new) }
     ensures calls { (I.device input.new).calls ≤ input_limit + 1 }
 
-    // At status 2 a fault was told, and nothing was printed.
+    // At status 2 a fault was told, and nothing was printed; the output is as it was, unless writing
+    // the answer failed.
     ensures told { result ≡ 2 → TellsRefusal (D.file_at folder.now) D.File.left D.File.device
         (map string_bytes words.now) (I.left input.old) (I.left input.new) (I.device input.new)
-        (O.device output.new) (F.written faults.old) (F.written faults.new) (F.device faults.new) }
+        (O.device output.new) output.old output.new (F.written faults.old) (F.written faults.new)
+        (F.device faults.new) }
     ensures silent { result ≡ 2 → (O.device output.new).failed ≡ false
         → Keeps (O.written output.old) (O.written output.new) }
 {
@@ -180,7 +184,7 @@ fn print_reply<D: Folder, I: Source, O: Sink>(
         (O.written output.new)) }
     ensures refused { IfErr result (Refuses (D.file_at folder.now) D.File.left D.File.device
         (map string_bytes words.now) (I.left input.old) (I.left input.new) (I.device input.new)
-        (O.device output.new)) }
+        (O.device output.new) output.old output.new) }
     ensures silent { OnErr result
         ((O.device output.new).failed ≡ false →
         Keeps (O.written output.old) (O.written output.new)) }

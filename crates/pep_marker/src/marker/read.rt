@@ -19,7 +19,7 @@ const COMPARISONS: usize = 1024;
 
 impl Marker {
     ghost use Rattle.std.specs.Prelude.{◌≡◌, ◌⊎◌, IfErr, IfOk};
-    ghost use Rattle.pep_marker.specs.Marker.{IsMarker, NoMarker};
+    ghost use Rattle.pep_marker.specs.Marker.{IsMarker, IsNoMarker};
     ghost use Rattle.pep_marker.specs.View.{marker_parts};
 
     /// Reads a marker (PEP 508, "Grammar"): comparisons under `and` and `or`, with parentheses, of
@@ -28,11 +28,11 @@ impl Marker {
     ///
     /// A text that is no marker is refused as `BadMarker`, 26, or as `TooDeep`, 27, where from left
     /// to right a 65th parenthesis is opened at once, or a 1,025th comparison read, before there is
-    /// another fault. For a marker there may be want of memory, 29.
+    /// another fault: only where it begins with tokens of which more than 64 are `(`, or more than
+    /// 1,024 operators. For a marker there may be want of memory, 29.
     pub fn read(alloc: Global, text: &str) -> Result<Marker, MarkerFault>
         ensures ok { IfOk result (λ m. IsMarker text.now (marker_parts m)) }
-        ensures refused { IfErr result (λ e. (e ≡ MarkerFault.NoMemory)
-            ⊎ (((e ≡ MarkerFault.BadMarker) ⊎ (e ≡ MarkerFault.TooDeep)) × NoMarker text.now)) }
+        ensures refused { IfErr result (λ e. (e ≡ MarkerFault.NoMemory) ⊎ IsNoMarker text.now e) }
     {
         let found = tokens_of(alloc, text)?;
         let tree = tree_of(alloc, found.items.as_slice())?;
@@ -48,7 +48,8 @@ fn tree_of(alloc: Global, tokens: &[Token]) -> Result<Tree, MarkerFault>
     ensures read { IfOk result (λ t. ChainFrom Link.Or 64 (map token_of tokens.now) (tree_parts t) []) }
     ensures few { IfOk result (λ t. comparisons (tree_parts t) ≤ 1024) }
     ensures refused { IfErr result (Refuses ((m : MarkerParts)
-        → ChainFrom Link.Or 64 (map token_of tokens.now) m [] → 1024 < comparisons m)) }
+        → ChainFrom Link.Or 64 (map token_of tokens.now) m [] → 1024 < comparisons m)
+        64 1024 (map token_of tokens.now)) }
 {
     let front = chain(alloc, Link::Or, tokens, DEPTH, COMPARISONS)?;
     if !front.rest.is_empty() {

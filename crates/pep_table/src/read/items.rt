@@ -28,6 +28,7 @@ ghost use Rattle.pep_marker.specs.Name.{IsNormalName};
 ghost use Rattle.pep_require.specs.Requirement.{IsAscending};
 ghost use Rattle.demands.specs.Table.{is_url_text};
 ghost use Rattle.pep_table.specs.TableReading.{AreItems, Front, HasNoFront, kind_front};
+ghost use Rattle.pep_table.specs.Refused.{AreKindLines, HaltsAt, IsBehind};
 ghost use Rattle.pep_table.specs.TextLines.{may_stand};
 
 use crate::read::Halt;
@@ -192,6 +193,7 @@ pub(crate) fn read_items<'a, K: LineKind>(
         × AreItems (K.is_item kind.now) r.0) }
     ensures refused { IfErr result (λ e. (e ≡ Halt.NoMemory)
         ⊎ HasNoFront (K.word kind.now) (AreItems (K.is_item kind.now)) text.now) }
+    ensures stops { IfErr result (HaltsAt (IsBehind (AreKindLines (K.word kind.now)) text.now)) }
 {
     let mut items = Vec::new(alloc);
     let mut rest = text;

@@ -5,6 +5,7 @@ ghost use Rattle.std.specs.Prelude.{IfErr, IfOk, IfSome, IsTrue, None, OnOk, Som
 ghost use Rattle.pep_clause.specs.Cut.{Cut, IsCut, cut_text};
 ghost use Rattle.pep_clause.specs.VersionSet.{IsNormal, Range};
 ghost use Rattle.pep_table.specs.TableReading.{AreRanges, Front, HasNoFront, IsRange};
+ghost use Rattle.pep_table.specs.Refused.{AreKindLines, HaltsAt, IsBehind};
 ghost use Rattle.pep_table.specs.TableText.{range_text};
 
 use crate::read::Halt;
@@ -90,6 +91,7 @@ pub(crate) fn read_ranges(alloc: Global, text: &str) -> Result<(VersionSet, &str
         × IsNormal r.0) }
     ensures refused { IfErr result (λ e. (e ≡ Halt.NoMemory)
         ⊎ HasNoFront (codes "range") AreRanges text.now) }
+    ensures stops { IfErr result (HaltsAt (IsBehind (AreKindLines (codes "range")) text.now)) }
 {
     let mut ranges = Vec::new(alloc);
     let mut rest = text;

@@ -1,5 +1,5 @@
 use Rattle.std.proofs.Common.{◌≡◌, ◌⊎◌, subst}
-use Rattle.pep_table.specs.TableText.{IsRefusedAsTable}
+use Rattle.pep_table.specs.Refused.{IsRefusedAsTable}
 use Rattle.demands.specs.declared.fault.TableFault.TheVariants.{NoMemory}
 use Rattle.inputs.proofs.TableFileLemmas.{text_refused}
 use Rattle.inputs.proofs.table_file.table_in.Goals as goal

@@ -1,20 +1,22 @@
 -- The chains are read as the grammar has them.
 use Rattle.std.proofs.Common.{◌≡◌, ◌<◌, true, inl, inr, sym, subst, ◌∙◌, map, length, refl, arith}
 use Rattle.std.proofs.lemmas.Result.{err_from_is_err_and}
-use Rattle.pep_marker.specs.Chains.{chain_part, item_part, link_word, part_ends}
+use Rattle.std.specs.Prelude.{IfOk}
+use Rattle.pep_marker.specs.Chains.{ItemFrom, chain_part, item_part, link_word, part_ends}
 use Rattle.pep_marker.specs.declared.chains.Link.TheVariants.{And, Or}
 use Rattle.pep_marker.specs.Token.{token_of}
 use Rattle.pep_marker.specs.View.{tree_parts}
 use Rattle.pep_marker.proofs.ChainLaws.{shorter_part}
 use Rattle.pep_marker.proofs.ChainLoops.{SoFar, first_so, whole, refuses_by, no_first}
 use Rattle.pep_marker.proofs.ChainLoops.{chain_refused, chain_step, left_shorter}
-use Rattle.pep_marker.proofs.ChainLoops.{closed, not_closed, counted, part_read}
+use Rattle.pep_marker.proofs.ChainLoops.{closed, not_closed, counted, operand_first, part_read}
 use Rattle.pep_marker.proofs.chains.+chains.Goals as goal
 
 pub chain-returns-in_err-front-clause-refused : goal.chain-returns-in_err-front-clause-refused
 chain-returns-in_err-front-clause-refused t c =
     let p = err_from_is_err_and c.from_residual.result c.from_residual.ensures.1 in
-    rw (p.1, p.2) (refuses_by _ _ c.in_err-front.field-0.0
+    rw (p.1, p.2) (refuses_by _ _ c.args.depth c.args.room (map token_of c.args.tokens.now)
+    c.in_err-front.field-0.0
     (no_first c.args.link c.args.depth c.args.room (map token_of c.args.tokens.now))
     c.in_err-front.ensures.refused)
 
@@ -30,10 +32,10 @@ pub chain-returns-in_err-next-clause-refused : goal.chain-returns-in_err-next-cl
 chain-returns-in_err-next-clause-refused t c =
     let p = err_from_is_err_and c.from_residual-in_err-next.result
     c.from_residual-in_err-next.ensures.1 in
-    rw (p.1, p.2) (refuses_by _ _ c.in_err-next.field-0.0
-    (chain_refused c.args.link c.args.depth c.args.room _ _ _ _ _ c.loop-behind.invariant.0
-    c.loop-behind.invariant.3 c.in-Some.ensures.some)
-    c.in_err-next.ensures.refused)
+    rw (p.1, p.2) (chain_refused c.args.link c.args.depth c.args.room _
+    (map token_of c.args.tokens.now) _ _ (map token_of c.in-Some.behind.now)
+    c.in_err-next.field-0.0 c.loop-behind.invariant.0 c.loop-behind.invariant.3
+    c.in-Some.ensures.some c.in_err-next.ensures.refused)
 
 pub chain-loop-behind-smaller : goal.chain-loop-behind-smaller
 chain-loop-behind-smaller t c =
@@ -88,3 +90,10 @@ in_parentheses-returns-in_default-clause-refused t c =
 pub in_parentheses-returns-clause-read : goal.in_parentheses-returns-clause-read
 in_parentheses-returns-clause-read t c =
     closed c.args.depth _ _ _ _ c.in_ok-front.ensures.read c.in-Some.ensures.some
+
+pub item_at-returns-in-Operand-clause-read : goal.item_at-returns-in-Operand-clause-read
+item_at-returns-in-Operand-clause-read t c =
+    let here = operand_first c.args.tokens.now _ c.in-Operand.left c.in-len1-up.len_at_least
+    c.in-Operand.is in
+    subst (λ ts. IfOk c.comparison.result (λ f. ItemFrom c.args.depth ts (tree_parts f.tree)
+    (map token_of f.rest.now))) (sym here) (c.comparison.ensures.read c.args.depth)

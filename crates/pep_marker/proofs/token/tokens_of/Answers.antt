@@ -1,7 +1,7 @@
 use Rattle.std.proofs.Common.{sym, subst}
 use Rattle.std.proofs.lemmas.Str.{IsCharBoundary-start}
 use Rattle.pep_marker.proofs.TokenLoop.{SoFar, all_tokens, no_token, none_yet, one_more}
-use Rattle.pep_marker.proofs.TokenLoop.{spans_so_far}
+use Rattle.pep_marker.proofs.TokenLoop.{spans_so_far, tokens_in_front}
 use Rattle.pep_marker.proofs.token.tokens_of.Goals as goal
 
 pub past_blanks-start-requires : goal.past_blanks-start-requires
@@ -23,6 +23,11 @@ pub returns-in_default-clause-spans : goal.returns-in_default-clause-spans
 returns-in_default-clause-spans c =
     spans_so_far c.args.text.now c.loop-start.items.items c.loop-start.start c.loop-start.invariant
 
+pub returns-in_default-clause-front : goal.returns-in_default-clause-front
+returns-in_default-clause-front c =
+    tokens_in_front c.args.text.now c.loop-start.items.items c.loop-start.start
+    c.loop-start.invariant
+
 pub loop-start-preserved : goal.loop-start-preserved
 loop-start-preserved c =
     let loop = c.loop-start in
@@ -41,3 +46,8 @@ returns-clause-whole c =
 pub returns-clause-spans : goal.returns-clause-spans
 returns-clause-spans c =
     spans_so_far c.args.text.now c.loop-start.items.items c.loop-start.start c.loop-start.invariant
+
+pub returns-clause-front : goal.returns-clause-front
+returns-clause-front c =
+    tokens_in_front c.args.text.now c.loop-start.items.items c.loop-start.start
+    c.loop-start.invariant

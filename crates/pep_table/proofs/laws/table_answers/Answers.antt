@@ -1,14 +1,16 @@
-use Rattle.pep_table.proofs.JoinedDemands.{own_table}
 use Rattle.pep_table.proofs.TableAnswers as laws
 use Rattle.demands.specs.Demand.{Listed}
-use Rattle.demands.specs.Table.{TableDemands}
+use Rattle.pep_table.specs.MergeTree.{TreeDemands}
 use Rattle.pep_table.proofs.laws.table_answers.Goals as goal
 
 pub returns-clause-answers : goal.returns-clause-answers
-returns-clause-answers c = λ q t name v want_pre a h is.
-    laws.answer_by_table (TableDemands t) (Listed q) t name v want_pre a
-    (own_table t h.valid).0 h is
+returns-clause-answers c = λ q. laws.answer_of_demands (Listed q)
 
 pub returns-clause-verdicts : goal.returns-clause-verdicts
-returns-clause-verdicts c = λ q t name verdict h.
-    laws.verdict_by_table (TableDemands t) (Listed q) t name verdict (own_table t h.valid).0 h
+returns-clause-verdicts c = λ q. laws.verdict_of_demands (Listed q)
+
+pub returns-clause-tree_answers : goal.returns-clause-tree_answers
+returns-clause-tree_answers c = λ e tree. laws.answer_of_demands (TreeDemands e tree)
+
+pub returns-clause-tree_verdicts : goal.returns-clause-tree_verdicts
+returns-clause-tree_verdicts c = λ e tree. laws.verdict_of_demands (TreeDemands e tree)

@@ -29,4 +29,5 @@ pub returns-in-Bad-clause-refused : goal.returns-in-Bad-clause-refused
 returns-in-Bad-clause-refused c =
     let found : FindsHeader c.args.environment.now c.args.text.now (Bad c.in-Bad.rest) = search rules in
     inr (refused_bad c.args.environment.now c.header_in.ensures.environment c.args.text.now
-    c.in-Bad.rest c.bad_header_line.result found)
+    c.in-Bad.rest c.bad_header_line.result c.bad_header_line.ensures.low
+    c.bad_header_line.ensures.high found)

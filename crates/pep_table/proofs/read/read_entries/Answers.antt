@@ -1,7 +1,7 @@
 use Rattle.std.proofs.Common.{◌≡◌, [], length, rules, subst, sym}
 use Rattle.pep_require.proofs.Exits.{further, handed_on}
 use Rattle.pep_table.proofs.ReadTables.{EntriesSoFar, all_read, entry_more, next_alike, no_next}
-use Rattle.pep_table.proofs.ReadTables.{none_alike}
+use Rattle.pep_table.proofs.ReadTables.{none_alike, stops_next}
 use Rattle.pep_table.specs.EntryReading.{FollowsAlike, last_name}
 use Rattle.demands.specs.Table.{names}
 use Rattle.pep_table.proofs.read.read_entries.Goals as goal
@@ -44,3 +44,14 @@ returns-clause-ok c =
       all_read c.args.text.now c.loop-rest.entries.items c.loop-rest.rest.now
           c.loop-rest.invariant.1 empty,
     )
+
+pub returns-in_err-name-clause-stops : goal.returns-in_err-name-clause-stops
+returns-in_err-name-clause-stops c =
+    let entries = c.loop-rest.entries.items in
+    let rest = c.loop-rest.rest.now in
+    let alike = subst (λ l. FollowsAlike (names l) (last_name c.name_of_last-last.result))
+    c.as_slice.ensures.value c.name_of_last-last.ensures in
+    handed_on _ c.from_residual.result _ c.from_residual.ensures.1
+    (stops_next c.args.text.now entries rest c.loop-rest.invariant.1 c.in_err-name.field-0.0
+    (further (none_alike (names entries) (last_name c.name_of_last-last.result) rest alike)
+    c.in_err-name.ensures.refused) c.in_err-name.ensures.stops)

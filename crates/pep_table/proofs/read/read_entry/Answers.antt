@@ -1,7 +1,9 @@
-use Rattle.std.proofs.Common.{◌++◌, ◌∷◌, [], inr, rules}
+use Rattle.std.proofs.Common.{◌++◌, ◌∷◌, [], inr, refl, rules}
 use Rattle.pep_require.specs.Requirement.{IsAscending}
-use Rattle.pep_require.proofs.Exits.{further}
-use Rattle.pep_table.specs.EntryReading.{last_name}
+use Rattle.pep_require.proofs.Exits.{further, handed_on}
+use Rattle.pep_table.specs.EntryReading.{head_line, last_name}
+use Rattle.pep_table.proofs.TableLines.{header_feed}
+use Rattle.pep_table.proofs.ToldLines.{entry_stops, halts_so, here_stops}
 use Rattle.pep_table.proofs.ReadTables.{entry_read, not_behind, not_read}
 use Rattle.pep_table.proofs.read.read_entry.Goals as goal
 
@@ -26,3 +28,19 @@ returns-clause-refused c =
     further (not_read (last_name c.args.last) c.args.text.now c.in_ok-name.name
     c.in_ok-name.verdict c.in_ok-name.parts.now c.in_ok-name.ensures.ok)
     c.in-Err.ensures.refused
+
+pub returns-in_err-name-clause-stops : goal.returns-in_err-name-clause-stops
+returns-in_err-name-clause-stops c =
+    handed_on _ c.from_residual.result _ c.from_residual.ensures.1
+    (halts_so _ _ (here_stops c.args.text.now) c.in_err-name.field-0.0 c.in_err-name.ensures.stops)
+
+pub returns-then-not-is_behind-clause-stops : goal.returns-then-not-is_behind-clause-stops
+returns-then-not-is_behind-clause-stops c = here_stops c.args.text.now c.args.text.now refl
+
+pub returns-clause-stops : goal.returns-clause-stops
+returns-clause-stops c =
+    let head = c.in_ok-name.ensures.ok in
+    halts_so _ _ (entry_stops c.args.text.now (head_line c.in_ok-name.name c.in_ok-name.verdict)
+    c.in_ok-name.parts.now head.first
+    (header_feed c.in_ok-name.name c.in_ok-name.verdict head.is_name)) c.in-Err.halt
+    c.in-Err.ensures.stops

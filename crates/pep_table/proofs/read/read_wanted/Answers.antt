@@ -2,7 +2,8 @@ use Rattle.std.proofs.Common.{◌≡◌, ◌∷◌, [], length, rules, subst, sy
 use Rattle.std.specs.Option.{option_copied, option_to_list}
 use Rattle.pep_require.proofs.Exits.{further, handed_on}
 use Rattle.pep_table.proofs.ReadTables.{NamedSoFar, named_more, named_read, no_named}
-use Rattle.pep_table.proofs.ReadTables.{none_named}
+use Rattle.pep_table.proofs.ReadTables.{none_alike, none_named, stops_next}
+use Rattle.demands.specs.Table.{names}
 use Rattle.pep_table.specs.EntryReading.{HasNext, HasNoNext}
 use Rattle.pep_table.proofs.read.read_wanted.Goals as goal
 
@@ -44,3 +45,14 @@ returns-clause-ok c =
     let empty : length c.loop-rest.rest.now ≡ 0 = search rules in
     named_read c.args.text.now (option_copied c.args.wanted) (option_to_list c.loop-rest.last)
     c.loop-rest.found c.loop-rest.rest.now c.loop-rest.invariant.1 empty
+
+pub returns-in_err-name-clause-stops : goal.returns-in_err-name-clause-stops
+returns-in_err-name-clause-stops c =
+    let so_far = c.loop-rest.invariant.1 in
+    let last = option_to_list c.loop-rest.last in
+    let rest = c.loop-rest.rest.now in
+    handed_on _ c.from_residual.result _ c.from_residual.ensures.1
+    (stops_next c.args.text.now so_far.done rest so_far.entries c.in_err-name.field-0.0
+    (further (λ n. none_alike (names so_far.done) last rest so_far.alike
+    (subst (λ o. HasNoNext (option_to_list o) rest) c.as_ref.ensures.value n))
+    c.in_err-name.ensures.refused) c.in_err-name.ensures.stops)

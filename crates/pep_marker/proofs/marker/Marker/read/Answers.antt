@@ -1,17 +1,17 @@
 use Rattle.std.proofs.Common.{map, ap}
 use Rattle.std.proofs.lemmas.Result.{err_from_is_err_and}
 use Rattle.pep_marker.specs.Token.{token_of}
-use Rattle.pep_marker.proofs.ChainLoops.{refuses_by}
-use Rattle.pep_marker.proofs.MarkerLaws.{no_chain_of, read_marker}
+use Rattle.pep_marker.proofs.MarkerLaws.{no_chain_of, no_marker_of, read_marker}
 use Rattle.pep_marker.proofs.marker.Marker.read.Goals as goal
 
 pub returns-in_err-tree-clause-refused : goal.returns-in_err-tree-clause-refused
 returns-in_err-tree-clause-refused c =
     let p = err_from_is_err_and c.from_residual-in_err-tree.result
     c.from_residual-in_err-tree.ensures.1 in
-    rw (p.1, p.2) (refuses_by _ _ c.in_err-tree.field-0.0
-    (no_chain_of c.args.text.now _ _ c.in_ok-found.found.whole
-    (ap (λ items. map token_of items) c.as_slice.ensures.value)
+    let same = ap (λ items. map token_of items) c.as_slice.ensures.value in
+    rw (p.1, p.2) (no_marker_of _ c.args.text.now _ _ c.in_err-tree.field-0.0 same
+    c.in_ok-found.ensures.front
+    (no_chain_of c.args.text.now _ _ c.in_ok-found.found.whole same
     c.in_ok-found.ensures.whole c.in_ok-found.ensures.stopped)
     c.in_err-tree.ensures.refused)
 

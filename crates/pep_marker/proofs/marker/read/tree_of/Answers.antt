@@ -11,7 +11,8 @@ use Rattle.pep_marker.proofs.marker.read.tree_of.Goals as goal
 pub returns-in_err-front-clause-refused : goal.returns-in_err-front-clause-refused
 returns-in_err-front-clause-refused c =
     let p = err_from_is_err_and c.from_residual.result c.from_residual.ensures.1 in
-    rw (p.1, p.2) (refuses_by _ _ c.in_err-front.field-0.0
+    rw (p.1, p.2) (refuses_by _ _ 64 1024 (map token_of c.args.tokens.now)
+    c.in_err-front.field-0.0
     (none_whole (map token_of c.args.tokens.now)) c.in_err-front.ensures.refused)
 
 pub returns-then-not-is_empty-clause-refused : goal.returns-then-not-is_empty-clause-refused

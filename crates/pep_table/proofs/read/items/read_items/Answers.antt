@@ -7,7 +7,7 @@ use Rattle.pep_require.proofs.ExtrasLoops.{all_but_at}
 use Rattle.pep_require.specs.Requirement.{IsAscending}
 use Rattle.pep_table.specs.TableReading.{AreItems, BeginsKind, Front, HasNoFeed, kind_front}
 use Rattle.pep_table.proofs.ReadItems.{LinesSoFar, all_read, bad_item, item_more, items_fit}
-use Rattle.pep_table.proofs.ReadItems.{last_item, no_end}
+use Rattle.pep_table.proofs.ReadItems.{last_item, no_end, stops_here}
 use Rattle.pep_table.proofs.read.items.read_items.Given as given
 use Rattle.pep_table.proofs.read.items.read_items.Goals as goal
 use Rattle.pep_table.proofs.read.items.read_items.Goals.{In-Some, In-Some-split_once}
@@ -110,3 +110,21 @@ returns-clause-ok g c =
     c.loop-line.invariant.1 no_more in
     subst (λ l. Front word c.args.text.now l rest × AreItems is_item l)
     (sym c.of_ascending.ensures) read
+
+pub returns-in_default-split_once-clause-stops : goal.returns-in_default-split_once-clause-stops
+returns-in_default-split_once-clause-stops g c =
+    let is_item = g.K.LineKind.is_item c.args.kind.now in
+    stops_here (g.K.LineKind.word c.args.kind.now) (AreItems is_item) (items_fit is_item)
+    c.args.text.now _ c.loop-line.rest.now c.loop-line.invariant.1
+
+pub returns-in_default-2-clause-stops : goal.returns-in_default-2-clause-stops
+returns-in_default-2-clause-stops g c =
+    let is_item = g.K.LineKind.is_item c.args.kind.now in
+    stops_here (g.K.LineKind.word c.args.kind.now) (AreItems is_item) (items_fit is_item)
+    c.args.text.now _ c.loop-line.rest.now c.loop-line.invariant.1
+
+pub returns-then-not-is_behind-clause-stops : goal.returns-then-not-is_behind-clause-stops
+returns-then-not-is_behind-clause-stops g c =
+    let is_item = g.K.LineKind.is_item c.args.kind.now in
+    stops_here (g.K.LineKind.word c.args.kind.now) (AreItems is_item) (items_fit is_item)
+    c.args.text.now _ c.loop-line.rest.now c.loop-line.invariant.1

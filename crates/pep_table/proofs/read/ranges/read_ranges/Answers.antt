@@ -6,7 +6,7 @@ use Rattle.pep_clause.specs.VersionSet.{IsNormal, Range}
 use Rattle.pep_require.proofs.ExtrasLoops.{all_but_at}
 use Rattle.pep_table.specs.TableReading.{AreRanges, HasNoFeed, IsRange, kind_front}
 use Rattle.pep_table.specs.TableText.{range_text}
-use Rattle.pep_table.proofs.ReadItems.{LinesSoFar, bad_item, item_more, no_end}
+use Rattle.pep_table.proofs.ReadItems.{LinesSoFar, bad_item, item_more, no_end, stops_here}
 use Rattle.pep_table.proofs.ReadRanges.{bad_range, falls_behind, ranges_fit}
 use Rattle.pep_table.proofs.read.ranges.read_ranges.Goals as goal
 use Rattle.pep_table.proofs.read.ranges.read_ranges.Goals.{In-Some-split_once}
@@ -82,3 +82,18 @@ loop-line-preserved c =
           more),
       subst IsNormal (sym all) told,
     )
+
+pub returns-in_default-split_once-clause-stops : goal.returns-in_default-split_once-clause-stops
+returns-in_default-split_once-clause-stops c =
+    stops_here (codes "range") AreRanges ranges_fit c.args.text.now _ c.loop-line.rest.now
+    c.loop-line.invariant.1
+
+pub returns-in_default-2-clause-stops : goal.returns-in_default-2-clause-stops
+returns-in_default-2-clause-stops c =
+    stops_here (codes "range") AreRanges ranges_fit c.args.text.now _ c.loop-line.rest.now
+    c.loop-line.invariant.1
+
+pub returns-then-not-is_behind-clause-stops : goal.returns-then-not-is_behind-clause-stops
+returns-then-not-is_behind-clause-stops c =
+    stops_here (codes "range") AreRanges ranges_fit c.args.text.now _ c.loop-line.rest.now
+    c.loop-line.invariant.1
