@@ -80,7 +80,7 @@ impl Entry {
         &self.extras
     }
 
-    /// The texts by which the URL Standard prints the URLs, in byte order.
+    /// The texts by which the crate `url` prints the URLs, in byte order.
     pub fn urls(&self) -> &Sorted<String>
         ensures urls { result.now ≡ self.now.urls }
         ensures valid { IsValidEntry self.now }

@@ -75,7 +75,7 @@ pub record ReadsBounds (x : List ℕ) (cs : List Clause) : Type 0 where
 abbrev pub is_url_byte : ℕ → Bool
 is_url_byte b = nat_le 33 b && nat_le b 126
 
--- a run with no white space and no character U+0000 to U+001F that is a URL, by the URL Standard
+-- a run with no white space and no character U+0000 to U+001F that is a URL, by the crate `url`
 pub record ReadsUrl (written : List ℕ) (u : UrlParts) : Type 0 where
   pub bytes : IsTrue (list_all (λ b. nat_lt 32 b) written)
   pub parts : url.Parts

@@ -44,8 +44,8 @@ fn is_printable(text: &str) -> bool
 }
 
 impl UrlText {
-    /// Reads a URL (the URL Standard, by the crate `url`): a text without white space and without
-    /// characters U+0000 to U+001F, which the standard prints with the characters U+0021 to U+007E
+    /// Reads a URL, as the crate `url` does by the URL Standard: a text without white space and without
+    /// characters U+0000 to U+001F, which the crate prints with the characters U+0021 to U+007E
     /// alone.
     ///
     /// Any other text is `BadUrl`, 34. Where the reader of URLs answers its own overflow for a text
@@ -81,7 +81,7 @@ impl UrlText {
         self.written.as_str()
     }
 
-    /// The text by which the URL Standard prints the URL: two URLs are one where it is the same.
+    /// The text by which the crate `url` prints the URL: two URLs are one where it is the same.
     pub fn text(&self) -> &str
         ensures text { result.now ≡ self.now.text }
         ensures some { 0 < length self.now.text }
