@@ -1,4 +1,4 @@
-"""The examples of the package's docstrings and of README.md."""
+"""The examples of the package's docstrings, of README.md and of docs/PYTHON.md."""
 
 import doctest
 import importlib
@@ -11,13 +11,13 @@ import tubrambutan
 ROOT = os.path.dirname(os.path.dirname(os.path.dirname(os.path.abspath(__file__))))
 
 
-def of_readme():
-    """Returns the test of README's blocks for Python, in their order."""
-    with open(f"{ROOT}/README.md", encoding="utf-8") as it:
+def of_page(page):
+    """Returns the test of a page's blocks for Python, in their order."""
+    with open(f"{ROOT}/{page}", encoding="utf-8") as it:
         blocks = re.findall(r"^```python\n(.*?)^```$", it.read(), re.M | re.S)
     if not blocks:
-        raise AssertionError("README.md has no example in Python")
-    return doctest.DocTestCase(doctest.DocTestParser().get_doctest("\n".join(blocks), {}, "README", "README.md", 0))
+        raise AssertionError(f"{page} has no example in Python")
+    return doctest.DocTestCase(doctest.DocTestParser().get_doctest("\n".join(blocks), {}, page, page, 0))
 
 
 def load_tests(loader, tests, pattern):
@@ -25,5 +25,5 @@ def load_tests(loader, tests, pattern):
     for module in [tubrambutan, *(importlib.import_module(f"tubrambutan.{name}") for name in names)]:
         # (a module without an example has no test)
         tests.addTests(doctest.DocTestSuite(module))
-    tests.addTest(of_readme())
+    tests.addTests(map(of_page, ("README.md", "docs/PYTHON.md")))
     return tests

@@ -1,0 +1,161 @@
+"""The types beside those of `packaging`, on random texts: the same answers, or a rule of docs/PYTHON.md explains why not."""
+
+import os
+import random
+import sys
+import unittest
+
+from tubrambutan import Marker, Refused, Requirement, Specifier, Version, canonicalize_name
+from test_tables import STANDARD
+
+# (Debian's packages for the interpreter of the system, which a virtual environment doesn't see)
+sys.path.append("/usr/lib/python3/dist-packages")
+try:
+    import packaging.markers
+    import packaging.requirements
+    import packaging.specifiers
+    import packaging.utils
+    import packaging.version
+except ImportError:
+    packaging = None
+finally:
+    sys.path.remove("/usr/lib/python3/dist-packages")
+
+COUNT = int(os.environ.get("TUBRAMBUTAN_RANDOM", "4000"))
+LARGE = "18446744073709551616"
+OPERATORS = ("~=", "==", "!=", "<=", ">=", "<", ">", "===")
+VARIABLES = [it for it in STANDARD if it not in ("platform_version", "platform_release")]
+
+
+class Texts:
+    """Random texts, most of them well formed."""
+
+    def __init__(self, seed):
+        self._chance = random.Random(seed)
+        self.pick = self._chance.choice
+
+    def number(self):
+        return self.pick(["0", "1", "2", "3", "10", "007", "2024", LARGE if self._chance.random() < 0.02 else "4"])
+
+    def release(self):
+        return ".".join(self.number() for _ in range(self.pick([1, 2, 2, 3, 4])))
+
+    def maybe(self, share, text):
+        return text if self._chance.random() < share else ""
+
+    def version(self):
+        sep = lambda: self.pick(["", "", ".", "-", "_"])
+        pre = self.maybe(0.3, sep() + self.pick(["a", "b", "rc", "c", "alpha", "BETA", "pre", "preview"]) + sep() + self.maybe(0.8, self.number()))
+        post = self.maybe(0.25, self.pick(["-" + self.number(), sep() + self.pick(["post", "rev", "r"]) + sep() + self.maybe(0.8, self.number())]))
+        dev = self.maybe(0.2, sep() + "dev" + sep() + self.maybe(0.8, self.number()))
+        label = self.maybe(0.15, "+" + self.pick(["x", "1", "Ubuntu-01", "a.b_3", "", "9z"]))
+        return self.maybe(0.1, "v") + self.maybe(0.1, self.pick(["0!", "1!"])) + self.release() + pre + post + dev + label + self.maybe(0.03, self.pick(["x", ".", "!", " "]))
+
+    def clause(self):
+        operator = self.pick(OPERATORS)
+        return operator + self.maybe(0.2, " ") + (self.release() + ".*" if self._chance.random() < 0.2 else self.version())
+
+    def name(self):
+        return self.pick(["a", "Flask", "zope.interface", "A__b", "x-1", "-a", "a_"])
+
+    def marker(self, depth=2):
+        if depth and self._chance.random() < 0.4:
+            inner = f"{self.marker(depth - 1)} {self.pick(['and', 'or'])} {self.marker(depth - 1)}"
+            return f"({inner})" if self._chance.random() < 0.5 else inner
+        left = self.pick(VARIABLES)
+        right = self.pick(["posix", "3.9", "3.10", "3", "linux", "CPython", "2.7"])
+        return f"{left} {self.pick(['==', '!=', '<', '>=', 'in', 'not in', '~='])} '{right}'"
+
+    def requirement(self):
+        extras = self.maybe(0.2, self.pick(["[x]", "[x,Y_z]", "[]", "[x"]))
+        clauses = ",".join(self.clause() for _ in range(self.pick([0, 1, 1, 2])))
+        target = self.pick([clauses, clauses, f"({clauses})", " @ https://x.test/1"])
+        return self.name() + extras + target + self.maybe(0.2, " ; " + self.marker(1))
+
+
+def told(call):
+    """Returns what a call gives, or None where it refuses its text."""
+    try:
+        return call()
+    except (Refused, ValueError):
+        return None
+    except Exception as fault:
+        if type(fault).__module__.startswith("packaging"):
+            return None
+        raise
+
+
+def parts(it):
+    return (it.epoch, it.release, it.pre, it.post, it.dev, it.local, it.public, it.base_version, it.is_prerelease, it.is_postrelease, it.is_devrelease, str(it))
+
+
+def is_near(clause, version):
+    """Tells whether a clause with `<` or `>` and a version of the same release, beside which the two read PEP 440 differently."""
+    clause = packaging.specifiers.Specifier(clause)
+    if clause.operator not in ("<", ">"):
+        return False
+    bound = packaging.version.Version(clause.version)
+    zeros = max(len(bound.release), len(version.release))
+    padded = [it.release + (0,) * (zeros - len(it.release)) for it in (bound, version)]
+    return bound.epoch == version.epoch and padded[0] == padded[1]
+
+
+@unittest.skipIf(packaging is None, "NOT COMPARED WITH packaging, WHICH IS NOT INSTALLED (Debian: python3-packaging)")
+class BesidePackaging(unittest.TestCase):
+    def compare(self, text, ours, theirs, explained):
+        if ours != theirs and not explained():
+            self.fail(f"{text!r}: {ours!r}, and packaging {theirs!r}")
+
+    def test_versions(self):
+        texts, before = Texts(1), None
+        for _ in range(COUNT):
+            text = texts.version()
+            ours, theirs = told(lambda: Version(text)), told(lambda: packaging.version.Version(text))
+            self.compare(text, ours and parts(ours), theirs and parts(theirs), lambda: LARGE in text)
+            if ours and theirs and before:
+                order = [(one < other, one == other, one > other) for one, other in ((ours, before[0]), (theirs, before[1]))]
+                self.assertEqual(order[0], order[1], (text, str(before[0])))
+            before = (ours, theirs) if ours and theirs else before
+
+    def test_clauses(self):
+        texts = Texts(2)
+        for _ in range(COUNT):
+            text, version = texts.clause(), texts.version()
+            ours, theirs = told(lambda: Specifier(text)), told(lambda: packaging.specifiers.Specifier(text))
+            candidate = told(lambda: packaging.version.Version(version))
+            self.compare(text, ours is None, theirs is None, lambda: LARGE in text or text.startswith("==="))
+            if ours and theirs and candidate and LARGE not in version:
+                # (`packaging` takes the prefix of `~=` from the text as it was written)
+                written = packaging.specifiers.Specifier(str(ours))
+                answers = ours.contains(version, prereleases=True), written.contains(version, prereleases=True)
+                self.compare((text, version), *answers, lambda: is_near(text, candidate))
+                if not text.startswith("==="):
+                    self.assertEqual((ours.operator, ours.prereleases), (theirs.operator, theirs.prereleases), text)
+
+    def test_requirements(self):
+        texts = Texts(3)
+        for _ in range(COUNT):
+            text = texts.requirement()
+            ours, theirs = told(lambda: Requirement(text)), told(lambda: packaging.requirements.Requirement(text))
+            explained = lambda: LARGE in text or "===" in text or "()" in text or text.startswith("a_") or told(lambda: Marker(text.partition(" ; ")[2])) is None
+            self.compare(text, ours is None, theirs is None, explained)
+            if ours and theirs:
+                name, extras = packaging.utils.canonicalize_name(theirs.name), {packaging.utils.canonicalize_name(it) for it in theirs.extras}
+                self.assertEqual((ours.name, ours.extras, ours.url), (name, extras, theirs.url), text)
+                self.assertEqual({it.operator for it in ours.specifier}, {it.operator for it in theirs.specifier}, text)
+
+    def test_markers(self):
+        texts, environment = Texts(4), {**STANDARD, "extra": ""}
+        for _ in range(COUNT // 4):
+            text = texts.marker()
+            ours, theirs = told(lambda: Marker(text).evaluate(environment)), told(lambda: packaging.markers.Marker(text).evaluate(environment))
+            # (of two sides `packaging` may judge one alone, and it refuses to compare a text that is no version with one that is)
+            self.compare(text, ours, theirs, lambda: ours is None or theirs is None)
+
+    def test_names(self):
+        for text in ("A", "a--B_.c", "x1", "Zope.Interface"):
+            self.assertEqual(canonicalize_name(text), packaging.utils.canonicalize_name(text))
+
+
+if __name__ == "__main__":
+    unittest.main()
