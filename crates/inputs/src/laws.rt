@@ -27,9 +27,8 @@ ghost use Rattle.inputs.specs.Origins.{Origin, OriginDemands, both};
 ghost use Rattle.inputs.specs.Refusal.{IsRefused, IsRefusedList};
 ghost use Rattle.inputs.specs.Streams.{IsTableOfList};
 
-use pep_table::{Answer, Verdict};
-
 pub use documents::laws::{group_is_walked, one_project, refused_project_is_not_read};
+use pep_table::{Answer, Verdict};
 
 /// Inputs that demand the same have one text, whatever the order, the grouping and the repeats of
 /// their lines, in environments of one header.

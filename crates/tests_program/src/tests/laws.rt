@@ -11,6 +11,7 @@ fn laws_of_tables() {
     table_laws::merge_steps();
     table_laws::union_is_join();
     table_laws::merges_alike();
+    table_laws::tree_is_table();
     table_laws::join_all_is_one::<Table>();
     table_laws::joined_is_table();
     table_laws::taken_is_table();
@@ -32,6 +33,8 @@ fn laws_of_merging() {
     laws::printed_in_place();
     laws::one_environment();
     laws::read_is_merged();
+    laws::gathered_answers();
+    laws::gathered_are_joined();
     laws::group_is_walked();
     laws::one_list();
     laws::refused_list_is_not_read();
