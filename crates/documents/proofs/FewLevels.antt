@@ -38,9 +38,9 @@ more_at n k m j None up side few = few
 is_lt : (a b : ℕ) → a < b → nat_lt a b ≡ true
 is_lt a b h = grind arith
 
-few_at_dot : (n m : ℕ) (l : Levels) → n + 1 ≤ 1000 → Few n m l → FewAt (n + 1) m (at_dot l)
+few_at_dot : (n m : ℕ) (l : Levels) → n + 1 ≤ 700 → Few n m l → FewAt (n + 1) m (at_dot l)
 few_at_dot n m l room few =
-    let free : nat_lt l.here 1000 ≡ true = is_lt l.here 1000 (omega (arith, few.here)) in
+    let free : nat_lt l.here 700 ≡ true = is_lt l.here 700 (omega (arith, few.here)) in
     rw free (record {
       here = omega (arith, few.here);
       base = omega (arith, few.base);
@@ -48,7 +48,7 @@ few_at_dot n m l room few =
       brackets = few.brackets;
     })
 
-few_at_opening : (n m : ℕ) (l : Levels) → n + 1 ≤ 1000 → m + 1 ≤ 80 → Few n m l → FewAt (n + 1) (m + 1) (at_opening l)
+few_at_opening : (n m : ℕ) (l : Levels) → n + 1 ≤ 700 → m + 1 ≤ 80 → Few n m l → FewAt (n + 1) (m + 1) (at_opening l)
 few_at_opening n m l room space few = by l.is_value refl
   where
     by : (b : Bool) → l.is_value ≡ b → FewAt (n + 1) (m + 1) (at_opening l)
@@ -59,7 +59,7 @@ few_at_opening n m l room space few = by l.is_value refl
       brackets = omega (arith, few.brackets);
     })
     by true e =
-        let free : nat_lt l.here 1000 ≡ true = is_lt l.here 1000 (omega (arith, few.here)) in
+        let free : nat_lt l.here 700 ≡ true = is_lt l.here 700 (omega (arith, few.here)) in
         let open_room : nat_lt (length l.outer) 80 ≡ true = is_lt (length l.outer) 80 (omega (arith, few.brackets)) in
         rw (e, free, open_room) (record {
           here = omega (arith, few.here);
@@ -96,7 +96,7 @@ few_at_line_feed n m l few = by (length l.outer == 0) l.is_value refl refl
     by true false e is =
         rw (e, is) (record { here = few.here; base = few.here; outer = few.outer; brackets = few.brackets })
 
-few_picked : (n m : ℕ) (l : Levels) (o c d k e f : Bool) → n + cond (o || d) 1 0 ≤ 1000 →
+few_picked : (n m : ℕ) (l : Levels) (o c d k e f : Bool) → n + cond (o || d) 1 0 ≤ 700 →
     m + cond o 1 0 ≤ 80 → Few n m l →
     FewAt (n + cond (o || d) 1 0) (m + cond o 1 0)
     (if o then at_opening l else if c then Some (at_closing l) else if d then at_dot l
@@ -118,7 +118,7 @@ few_picked n m l false false false false false true room space few =
 few_picked n m l false false false false false false room space few =
     more n _ m _ l (omega arith) (omega arith) few
 
-few_behind : (context : Context) (n m : ℕ) (l : Levels) (b : ℕ) → n + cond (deepens b) 1 0 ≤ 1000 →
+few_behind : (context : Context) (n m : ℕ) (l : Levels) (b : ℕ) → n + cond (deepens b) 1 0 ≤ 700 →
     m + cond (opens b) 1 0 ≤ 80 → Few n m l →
     FewAt (n + cond (deepens b) 1 0) (m + cond (opens b) 1 0) (counted_at context l b)
 few_behind context n m l b room space few = by (is_bare context b) refl
@@ -133,7 +133,7 @@ goes : (f : Levels → Bool) (o : Option Levels) (n m : ℕ) → FewAt n m o →
 goes f (Some l) n m few h = h l few
 goes f None n m few h = absurd few
 
-few_are_shallow : (context : Context) (bytes : List ℕ) (n m : ℕ) (l : Levels) → n + count_by deepens bytes ≤ 1000 →
+few_are_shallow : (context : Context) (bytes : List ℕ) (n m : ℕ) (l : Levels) → n + count_by deepens bytes ≤ 700 →
     m + count_by opens bytes ≤ 80 → Few n m l → stays_shallow context l bytes ≡ true
 unfolding stays_shallow
 few_are_shallow context [] n m l room space few = refl
@@ -144,7 +144,7 @@ few_are_shallow context (b ∷ bs) n m l room space few =
     (few_behind context n m l b (omega (arith, deep)) (omega (arith, brackets)) few)
     (λ next now. few_are_shallow (after context b) bs _ _ next (omega (arith, deep)) (omega (arith, brackets)) now)
 
-pub few_brackets_are_shallow : (bytes : List ℕ) → count_by deepens bytes ≤ 1000 → count_by opens bytes ≤ 80 →
+pub few_brackets_are_shallow : (bytes : List ℕ) → count_by deepens bytes ≤ 700 → count_by opens bytes ≤ 80 →
     is_shallow bytes ≡ true
 few_brackets_are_shallow bytes room space =
     few_are_shallow Bare bytes 0 0 no_levels (omega arith) (omega arith)

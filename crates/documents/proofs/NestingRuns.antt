@@ -1,14 +1,14 @@
 -- The count of levels, byte by byte and past runs: bytes of comments, bytes of strings between their quotes and
--- backslashes, and spaces change nothing.
-use Rattle.std.proofs.Common.{◌≡◌, ℕ, ◌==◌, ◌++◌, Bool, true, false, List, [], ◌∷◌, length, take, drop, refl}
+-- backslashes, and others outside both that are no marks change nothing.
+use Rattle.std.proofs.Common.{◌≡◌, ℕ, ◌<◌, ◌≤◌, ◌==◌, ◌++◌, Bool, true, false, List, [], ◌∷◌, length, take, drop, refl}
 use Rattle.std.proofs.Common.{ap, sym, ◌∙◌, arith}
 use Rattle.std.specs.Prelude.{◌||◌, Option, Some, None, if◌then◌else◌}
 use Rattle.std.specs.List.{All}
-use Rattle.std.proofs.lemmas.List.{take-append-drop}
+use Rattle.std.proofs.lemmas.List.{length-take-le, take-append-drop}
 use Rattle.std.proofs.lemmas.List.Elements.{All-head, All-tail}
 use Rattle.documents.specs.declared.nesting.Context.{Context}
-use Rattle.documents.specs.declared.nesting.Context.TheVariants.{Bare, Comment, Line, Lines}
-use Rattle.documents.specs.Nesting.{Levels, after, counted_at, stays_shallow}
+use Rattle.documents.specs.declared.nesting.Context.TheVariants.{Bare, Comment, OneQuote, Line, Lines}
+use Rattle.documents.specs.Nesting.{Levels, after, closes, counted_at, is_mark, opens, stays_shallow}
 
 -- ---- byte by byte
 
@@ -77,8 +77,26 @@ stays_in_lines quote b e =
     let plain : (b == 92) ≡ false = or_second _ _ e in
     record { context_is = rw (other, plain) refl; levels_are = λ l. refl }
 
-stays_at_space : (b : ℕ) → b ≡ 32 → Stays Bare b
-stays_at_space b e = record { context_is = rw e refl; levels_are = λ l. rw e refl }
+stays_at_word : (b : ℕ) → is_mark b ≡ false → Stays Bare b
+stays_at_word b e =
+    let front = or_first ((opens b || closes b) || (b == 46 || b == 44)) _ e in
+    let back = or_second ((opens b || closes b) || (b == 46 || b == 44)) _ e in
+    let brackets = or_first (opens b || closes b) _ front in
+    let opening : opens b ≡ false = or_first _ _ brackets in
+    let closing : closes b ≡ false = or_second (opens b) _ brackets in
+    let points = or_second (opens b || closes b) _ front in
+    let dot : (b == 46) ≡ false = or_first _ _ points in
+    let comma : (b == 44) ≡ false = or_second (b == 46) _ points in
+    let signs = or_first (b == 61 || b == 10) _ back in
+    let equals : (b == 61) ≡ false = or_first _ _ signs in
+    let line : (b == 10) ≡ false = or_second (b == 61) _ signs in
+    let others = or_second (b == 61 || b == 10) _ back in
+    let hash : (b == 35) ≡ false = or_first _ _ others in
+    let quote : (b == 34 || b == 39) ≡ false = or_second (b == 35) _ others in
+    record {
+      context_is = rw (hash, quote) refl;
+      levels_are = λ l. rw (opening, closing, dot, comma, equals, line) refl;
+    }
 
 run_stays : (context : Context) (l : Levels) (P : ℕ → Type 0) → ((b : ℕ) → P b → Stays context b) →
     (run rest : List ℕ) → All P run → stays_shallow context l (run ++ rest) ≡ stays_shallow context l rest
@@ -96,9 +114,9 @@ run_passed context P stays bytes n h l =
     ap (stays_shallow context l) (sym (take-append-drop n bytes))
     ∙ run_stays context l P stays (take n bytes) (drop n bytes) h
 
-pub spaces_passed : (bytes : List ℕ) (n : ℕ) → All (λ b. b ≡ 32) (take n bytes) →
+pub words_passed : (bytes : List ℕ) (n : ℕ) → All (λ b. is_mark b ≡ false) (take n bytes) →
     (l : Levels) → stays_shallow Bare l bytes ≡ stays_shallow Bare l (drop n bytes)
-spaces_passed bytes n h = run_passed Bare (λ b. b ≡ 32) stays_at_space bytes n h
+words_passed bytes n h = run_passed Bare (λ b. is_mark b ≡ false) stays_at_word bytes n h
 
 pub comment_passed : (bytes : List ℕ) (n : ℕ) → All (λ b. (b == 10 || b == 10) ≡ false) (take n bytes) →
     (l : Levels) → stays_shallow Comment l bytes ≡ stays_shallow Comment l (drop n bytes)
@@ -115,3 +133,36 @@ pub lines_passed : (quote quotes : ℕ) (bytes : List ℕ) (n : ℕ) → quotes 
     stays_shallow (Lines quote quotes) l bytes ≡ stays_shallow (Lines quote quotes) l (drop n bytes)
 lines_passed quote quotes bytes n none h =
     rw none (run_passed (Lines quote 0) (λ b. (b == quote || b == 92) ≡ false) (stays_in_lines quote) bytes n h)
+
+-- ---- strings of one line
+
+begins_line : (quote : ℕ) (l : Levels) (run rest : List ℕ) → 0 < length run →
+    All (λ b. (b == quote || b == 92) ≡ false) run →
+    stays_shallow (OneQuote quote) l (run ++ rest) ≡ stays_shallow (Line quote) l rest
+unfolding stays_shallow
+begins_line quote l [] rest some h = absurd (omega arith)
+begins_line quote l (b ∷ bs) rest some h =
+    let here = All-head (λ b. (b == quote || b == 92) ≡ false) b bs h in
+    let other : (b == quote) ≡ false = or_first _ _ here in
+    let plain : (b == 92) ≡ false = or_second _ _ here in
+    rw (other, plain) (run_stays (Line quote) l (λ b. (b == quote || b == 92) ≡ false) (stays_in_line quote) bs rest
+    (All-tail (λ b. (b == quote || b == 92) ≡ false) b bs h))
+
+same_number : (a b : ℕ) → a ≡ b → (a == b) ≡ true
+same_number a b e = grind arith
+
+ends_line : (quote last : ℕ) (l : Levels) (others : List ℕ) → last ≡ quote →
+    stays_shallow (Line quote) l (last ∷ others) ≡ stays_shallow Bare l others
+unfolding stays_shallow
+ends_line quote last l others e =
+    let is : (last == quote) ≡ true = same_number last quote e in
+    rw is refl
+
+pub string_passed : (quote last : ℕ) (bytes others : List ℕ) (n : ℕ) → 0 < n → n ≤ length bytes →
+    All (λ b. (b == quote || b == 92) ≡ false) (take n bytes) → drop n bytes ≡ last ∷ others → last ≡ quote →
+    (l : Levels) → stays_shallow (OneQuote quote) l bytes ≡ stays_shallow Bare l others
+string_passed quote last bytes others n some within h behind e l =
+    ap (stays_shallow (OneQuote quote) l) (sym (take-append-drop n bytes))
+    ∙ begins_line quote l (take n bytes) (drop n bytes) (omega (arith, length-take-le n bytes within)) h
+    ∙ ap (stays_shallow (Line quote) l) behind
+    ∙ ends_line quote last l others e

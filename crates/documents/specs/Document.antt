@@ -27,7 +27,7 @@ check passes fault = if passes then Ok tt else Err fault
 
 -- ---- a document
 
--- the members of the document that the bytes are: at most the largest input, UTF-8, nested at most 1,000 levels deep
+-- the members of the document that the bytes are: at most the largest input, UTF-8, nested at most 700 levels deep
 -- in all with at most 80 open brackets, and TOML
 abbrev pub document_of : List ℕ → Result Members Cause
 document_of bytes = do

@@ -9,7 +9,7 @@ use Rattle.documents.specs.declared.nesting.Context.TheVariants.{LineEscape, Lin
 
 -- the most levels
 abbrev pub level_limit : ℕ
-level_limit = 1000
+level_limit = 700
 
 -- the most brackets in one another: the reader of TOML has the same limit
 abbrev pub bracket_limit : ℕ
@@ -122,6 +122,11 @@ closes b = b == 93 || b == 125
 abbrev pub deepens : ℕ → Bool
 deepens b = opens b || b == 46
 
+-- a byte that begins, ends or counts something outside strings and comments
+abbrev pub is_mark : ℕ → Bool
+is_mark b =
+    ((opens b || closes b) || (b == 46 || b == 44)) || ((b == 61 || b == 10) || (b == 35 || (b == 34 || b == 39)))
+
 -- behind a byte outside strings and comments: `,` begins an element or a pair, and `=` a value
 abbrev pub counted : Levels → ℕ → Option Levels
 counted l b =
@@ -146,6 +151,6 @@ stays_shallow context l [] = true
 stays_shallow context l (b ∷ bs) =
     goes_on (λ next. stays_shallow (after context b) next bs) (counted_at context l b)
 
--- nowhere in the document are there over 1,000 levels, or over 80 open brackets
+-- nowhere in the document are there over 700 levels, or over 80 open brackets
 abbrev pub is_shallow : List ℕ → Bool
 is_shallow bytes = stays_shallow Bare no_levels bytes

@@ -26,11 +26,11 @@ ghost use Rattle.documents.specs.ProjectRequirements.{IsProjectOf};
 ghost use Rattle.documents.specs.RefusedProject.{IsOverflow, IsRefusedProject};
 ghost use Rattle.texts.specs.Limits.{input_limit};
 
-/// Bytes with at most 80 opening brackets, and at most 1,000 of these and of dots, wherever they stand, are not
-/// refused for their nesting: of a text of at most the largest input, the document is what the reader of TOML
-/// makes of it.
+/// Bytes with at most 80 opening brackets, and at most 700 of these and of dots, are never refused for
+/// their nesting, wherever these stand; and text of at most the largest input that isn't refused for its
+/// nesting is the document that the reader of TOML makes of it.
 pub fn few_brackets_are_shallow()
-    ensures shallow { (bytes : List ℕ) → count_by deepens bytes ≤ 1000 → count_by opens bytes ≤ 80
+    ensures shallow { (bytes : List ℕ) → count_by deepens bytes ≤ 700 → count_by opens bytes ≤ 80
         → is_shallow bytes ≡ true }
     ensures document { (bytes : List ℕ) → length bytes ≤ input_limit → is_utf8 bytes ≡ true
         → is_shallow bytes ≡ true

@@ -14,6 +14,7 @@ ghost use Rattle.documents.specs.Nesting.{
   counted,
   counted_at,
   is_bare,
+  is_mark,
   is_shallow,
   no_levels,
   stays_shallow,
@@ -23,7 +24,7 @@ use arrayvec::ArrayVec;
 use memchr::memchr2;
 
 /// The most levels.
-pub(crate) const LEVEL_LIMIT: usize = 1_000;
+pub(crate) const LEVEL_LIMIT: usize = 700;
 
 /// The most brackets in one another.
 pub(crate) const BRACKET_LIMIT: usize = 80;
@@ -255,15 +256,26 @@ fn run_before(first: u8, second: u8, bytes: &[u8]) -> usize
     }
 }
 
-// How many spaces stand in front.
+// Whether the byte begins, ends or counts something outside strings and comments.
 #[inline(always)]
-fn spaces(bytes: &[u8]) -> usize
+fn is_mark(byte: u8) -> bool
+    ensures { result ≡ is_mark byte }
+{
+    matches!(
+        byte,
+        b'[' | b'{' | b']' | b'}' | b'.' | b',' | b'=' | b'\n' | b'#' | b'"' | b'\''
+    )
+}
+
+// How many bytes in front are no marks.
+#[inline(always)]
+fn run_of_words(bytes: &[u8]) -> usize
     ensures within { result ≤ length bytes.now }
-    ensures spaces { All (λ b. b ≡ 32) (take result bytes.now) }
+    ensures words { All (λ b. is_mark b ≡ false) (take result bytes.now) }
 {
     let mut found = 0;
     for byte in bytes {
-        if *byte != b' ' {
+        if is_mark(*byte) {
             return found;
         }
         found += 1;
@@ -271,20 +283,54 @@ fn spaces(bytes: &[u8]) -> usize
     found
 }
 
+// What stands behind a string of one line whose first quote stands in front of the bytes, unless it is empty or
+// has escapes: then what is in front of it.
+#[inline(always)]
+fn string_passed(quote: u8, bytes: &[u8]) -> (Context, &[u8])
+    ensures within { length result.1.now ≤ length bytes.now }
+    ensures same { (l : Levels) → stays_shallow (Context.OneQuote quote) l bytes.now
+        ≡ stays_shallow result.0 l result.1.now }
+{
+    let run = run_before(quote, b'\\', bytes);
+    let (_, rest) = bytes.split_at(run);
+    if run > 0 {
+        if let Some((last, others)) = rest.split_first() {
+            if *last == quote {
+                return (Context::Bare, others);
+            }
+        }
+    }
+    (Context::OneQuote(quote), bytes)
+}
+
 // How many bytes in front change nothing.
 #[inline(always)]
-fn passed(context: Context, bytes: &[u8]) -> usize
+fn run_passed(context: Context, bytes: &[u8]) -> usize
     ensures within { result ≤ length bytes.now }
     ensures same { (l : Levels) → stays_shallow context l bytes.now
         ≡ stays_shallow context l (drop result bytes.now) }
 {
     match context {
-        Context::Bare => spaces(bytes),
+        Context::Bare => run_of_words(bytes),
         Context::Comment => run_before(b'\n', b'\n', bytes),
         Context::Line(quote) => run_before(quote, b'\\', bytes),
         Context::Lines(quote, 0) => run_before(quote, b'\\', bytes),
         _ => 0,
     }
+}
+
+// Passes over bytes in front that count nothing.
+#[inline(always)]
+fn passed(context: Context, bytes: &[u8]) -> (Context, &[u8])
+    ensures within { length result.1.now ≤ length bytes.now }
+    ensures same { (l : Levels) → stays_shallow context l bytes.now
+        ≡ stays_shallow result.0 l result.1.now }
+{
+    if let Context::OneQuote(quote) = context {
+        return string_passed(quote, bytes);
+    }
+    let (_, rest) = bytes.split_at(run_passed(context, bytes));
+    (context, rest)
 }
 
 /// Whether nowhere in the document are there too many levels, or too many open brackets.
@@ -298,9 +344,7 @@ pub(crate) fn is_shallow(bytes: &[u8]) -> bool
         if !count.count_at(context, *first) {
             return false;
         }
-        context = after(context, *first);
-        let (_, behind) = others.split_at(passed(context, others));
-        rest = behind;
+        (context, rest) = passed(after(context, *first), others);
     }
     true
 }

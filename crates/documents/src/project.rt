@@ -52,7 +52,7 @@ use toml::Table;
 /// extras and groups are compared when normalized (PEP 503, "Normalized Names").
 ///
 /// The fault is that of input 1, by the first check that fails: 56 for more bytes; 51 where they aren't
-/// UTF-8; 52 where they nest more than 1,000 levels or have more than 80 open brackets (outside strings
+/// UTF-8; 52 where they nest more than 700 levels or have more than 80 open brackets (outside strings
 /// and comments each open bracket counts as one level, and so do each part of the header above and each
 /// part of a dotted key behind its first), and where they are no TOML document. Then, without a group:
 /// 53 without a key `project`; 55 where `project` is no table, or has a `dynamic` that is no array of

@@ -19,9 +19,8 @@ loop-first-preserved c =
     now.invariant
     ∙ goes_on_behind now.context (levels_of now.count) next now.rest.now others c.in-Some.first.now
     c.count_at.result (search rules) c.count_at.ensures c.in-Some.ensures.cases.0
-    ∙ ap (λ context. stays_shallow context next others) (sym c.after-context.ensures)
+    ∙ ap (λ context. stays_shallow context next others) (sym c.after.ensures)
     ∙ c.passed.ensures.same next
-    ∙ ap (stays_shallow c.after-context.result next) (sym c.split_at.ensures.back)
 
 pub returns : goal.returns
 returns c =

@@ -1,6 +1,6 @@
 use Rattle.std.proofs.Common.{sym, ◌∙◌}
-use Rattle.documents.proofs.NestingRuns.{comment_passed, spaces_passed, line_passed, lines_passed}
-use Rattle.documents.proofs.nesting.passed.Goals as goal
+use Rattle.documents.proofs.NestingRuns.{comment_passed, words_passed, line_passed, lines_passed}
+use Rattle.documents.proofs.nesting.run_passed.Goals as goal
 
 pub returns-in-Comment-clause-same : goal.returns-in-Comment-clause-same
 returns-in-Comment-clause-same c =
@@ -19,4 +19,4 @@ returns-in-Lines-default-eq0-clause-same c =
 
 pub returns-in-Bare-clause-same : goal.returns-in-Bare-clause-same
 returns-in-Bare-clause-same c =
-    rw c.in-Bare.is (spaces_passed c.args.bytes.now c.spaces.result c.spaces.ensures.spaces)
+    rw c.in-Bare.is (words_passed c.args.bytes.now c.run_of_words.result c.run_of_words.ensures.words)
