@@ -37,6 +37,27 @@ def call_each():
     raise AssertionError("a<")
 
 
+def codes_of(**inputs):
+    """Returns the codes by which the inputs are refused, or None where they are merged."""
+    try:
+        merge(**inputs)
+    except Refused as refusal:
+        return refusal.codes
+    return None
+
+
+def in_a_small_stack(call):
+    """Returns what a call gives on a thread with the least stack that the package asks for."""
+    found, size = [], threading.stack_size(512 * 1024)
+    try:
+        thread = threading.Thread(target=lambda: found.append(call()))
+        thread.start()
+        thread.join()
+    finally:
+        threading.stack_size(size)
+    return found[0]
+
+
 class Calls(unittest.TestCase):
     def test_a_call_gives_the_lock_back(self):
         lists = ["".join(f"n{i}!=1.{i % 97}\n" for i in range(400_000))]
@@ -63,14 +84,15 @@ class Calls(unittest.TestCase):
 
     def test_the_largest_marker_in_a_small_stack(self):
         marker = "(" * 64 + " or ".join(["python_version == '1'"] * 1_023) + ")" * 64 + " or os_name == 'posix'"
-        found, size = [], threading.stack_size(1 << 20)
-        try:
-            thread = threading.Thread(target=lambda: found.extend(merge(lists=[f"a; {marker}"], environment=STANDARD)))
-            thread.start()
-            thread.join()
-        finally:
-            threading.stack_size(size)
-        self.assertEqual(found, ["a"])
+        self.assertEqual(in_a_small_stack(lambda: list(merge(lists=[f"a; {marker}"], environment=STANDARD))), ["a"])
+
+    def test_the_deepest_documents_in_a_small_stack(self):
+        for parts, behind, codes in ((8, "", None), (8, "\n=", (52,)), (8, "\nx=1", (52,)), (8, "\n[z]\n[z]", (52,)), (80, "", (52,)), (80, "\n=", (52,))):
+            deep = "x=" + ("{" + ".".join("b" * parts) + "=") * 80 + "1" + "}" * 80 + behind
+            with self.subTest(parts=parts, behind=behind):
+                self.assertEqual(in_a_small_stack(lambda: codes_of(projects=["project={}\n" + deep], environment=STANDARD)), codes)
+                # (as an environment it has a value that is no text, where it is read)
+                self.assertEqual(in_a_small_stack(lambda: codes_of(environment=deep)), codes or (55,))
 
     def test_memory_stays(self):
         for _ in range(500):

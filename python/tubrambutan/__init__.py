@@ -11,7 +11,7 @@
 (True, False)
 
 What an input may hold, and what is printed, `docs/INPUTS.md` of the project says. The library in C is proved to meet its contracts
-(`docs/PROVED.md`); that this package calls it rightly is tested, and not proved. A call wants 1 MiB of the stack, and may not come from
+(`docs/PROVED.md`); that this package calls it rightly is tested, and not proved. A call wants 512 KiB of the stack, and may not come from
 the forked child of a process with threads.
 """
 

@@ -1,7 +1,7 @@
 """The exports of the library, over bytes.
 
 `include/tubrambutan.h` says what a caller owes; each call here meets it but for two duties, which are those of who calls this package:
-a call has 1 MiB of the stack left (`threading.stack_size`), and none comes from the forked child of a process with threads
+a call has 512 KiB of the stack left (`threading.stack_size`), and none comes from the forked child of a process with threads
 (`multiprocessing` by `fork`).
 """
 

@@ -18,8 +18,9 @@ use Rattle.toml.specs.declared.value.Value.{Value}
 use Rattle.toml.specs.Parse.{parse_document}
 use Rattle.faults.specs.declared.fault.Cause.{Cause}
 use Rattle.faults.specs.declared.fault.Cause.TheVariants as cause
-use Rattle.documents.specs.Document.{document_of, texts_at, texts_of}
+use Rattle.documents.specs.Document.{document_of, required, texts_at, texts_of}
 use Rattle.documents.specs.Document.{texts_of_items, with_text}
+use Rattle.documents.specs.Nesting.{is_shallow}
 use Rattle.documents.specs.Texts.{lent_texts}
 
 -- ---- the checks of bytes
@@ -35,12 +36,25 @@ no_text bytes h = by (is_utf8 bytes) refl
     by false e = refl
 
 pub document_of-text : (bytes : List ℕ) (ms : Members) → length bytes ≤ 16777216 → IsUtf8 bytes →
-    parse_document bytes ≡ Some ms → document_of bytes ≡ Ok ms
-document_of-text bytes ms h text e = rw (small bytes h, is_utf8-from_IsUtf8 bytes text, e) refl
+    is_shallow bytes ≡ true → parse_document bytes ≡ Some ms → document_of bytes ≡ Ok ms
+document_of-text bytes ms h text shallow e =
+    rw (small bytes h, is_utf8-from_IsUtf8 bytes text, shallow, e) refl
+
+pub document_of-deep : (bytes : List ℕ) → length bytes ≤ 16777216 → IsUtf8 bytes →
+    is_shallow bytes ≡ false → document_of bytes ≡ Err cause.NotToml
+document_of-deep bytes h text deep = rw (small bytes h, is_utf8-from_IsUtf8 bytes text, deep) refl
 
 pub document_of-no_toml : (bytes : List ℕ) → length bytes ≤ 16777216 → IsUtf8 bytes →
-    parse_document bytes ≡ None → document_of bytes ≡ Err cause.NotToml
-document_of-no_toml bytes h text e = rw (small bytes h, is_utf8-from_IsUtf8 bytes text, e) refl
+    is_shallow bytes ≡ true → parse_document bytes ≡ None →
+    document_of bytes ≡ Err cause.NotToml
+document_of-no_toml bytes h text shallow e =
+    rw (small bytes h, is_utf8-from_IsUtf8 bytes text, shallow, e) refl
+
+-- a shallow document is what the reader of TOML makes of it
+pub document_of-shallow : (bytes : List ℕ) → length bytes ≤ 16777216 → IsUtf8 bytes →
+    is_shallow bytes ≡ true → document_of bytes ≡ required cause.NotToml (parse_document bytes)
+document_of-shallow bytes h text shallow =
+    rw (small bytes h, is_utf8-from_IsUtf8 bytes text, shallow) refl
 
 pub document_of-no_text : (bytes : List ℕ) → length bytes ≤ 16777216 → ¬ IsUtf8 bytes →
     document_of bytes ≡ Err cause.NotUtf8

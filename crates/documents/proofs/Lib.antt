@@ -12,3 +12,5 @@ pub mod GroupLaws
 pub mod GroupSteps
 pub mod GroupTables
 pub mod GroupViews
+pub mod FewLevels
+pub mod NestingRuns

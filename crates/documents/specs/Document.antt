@@ -7,6 +7,7 @@ use Rattle.toml.specs.Parse.{parse_document}
 use Rattle.faults.specs.declared.fault.Cause.{Cause}
 use Rattle.faults.specs.declared.fault.Cause.TheVariants.{NotUtf8, NotToml, WrongShape, TooLarge}
 use Rattle.texts.specs.Limits.{input_limit}
+use Rattle.documents.specs.Nesting.{is_shallow}
 
 -- ---- checks, one after the other
 
@@ -26,11 +27,13 @@ check passes fault = if passes then Ok tt else Err fault
 
 -- ---- a document
 
--- the members of the document that the bytes are: at most the largest input, UTF-8, and TOML
+-- the members of the document that the bytes are: at most the largest input, UTF-8, nested at most 700 levels deep
+-- in all with at most 80 open brackets, and TOML
 abbrev pub document_of : List ℕ → Result Members Cause
 document_of bytes = do
   size ← check (not (nat_lt input_limit (length bytes))) TooLarge
   text ← check (is_utf8 bytes) NotUtf8
+  shallow ← check (is_shallow bytes) NotToml
   required NotToml (parse_document bytes)
 
 -- ---- arrays of texts

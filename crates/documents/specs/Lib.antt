@@ -3,6 +3,8 @@ pub mod EnvironmentFile
 pub mod GroupViews
 pub mod GroupWalk
 pub mod Groups
+pub mod LevelViews
+pub mod Nesting
 pub mod Project
 pub mod ProjectExtras
 pub mod ProjectRequirements

@@ -6,13 +6,15 @@ ghost use Rattle.toml.specs.View.{items_view, table_view, view};
 ghost use Rattle.documents.specs.Document.{document_of, texts_at, texts_of, texts_of_items};
 ghost use Rattle.documents.specs.Texts.{lent_texts};
 
+use crate::nesting::is_shallow;
 use faults::Cause;
 use pep_marker::{MarkerFault, Name};
 use std::alloc::Global;
 use texts::INPUT_LIMIT;
 use toml::{Table, Value};
 
-/// The TOML document that the bytes are.
+/// The TOML document that the bytes are. Any of at most 16,777,216 bytes is read, or refused, in less than
+/// 512 KiB of stack, and dropped so.
 pub(crate) fn read_document(alloc: Global, bytes: &[u8]) -> Result<Table, Cause>
     ensures ok { IfOk result (λ document. document_of bytes.now ≡ Ok (table_view document)) }
     ensures refused { IfErr result (λ cause. (cause ≡ Cause.NoMemory)
@@ -24,6 +26,9 @@ pub(crate) fn read_document(alloc: Global, bytes: &[u8]) -> Result<Table, Cause>
     let Ok(text) = std::str::from_utf8(bytes) else {
         return Err(Cause::NotUtf8);
     };
+    if !is_shallow(bytes) {
+        return Err(Cause::NotToml);
+    }
     match toml::table_from_str(alloc, text) {
         Ok(document) => Ok(document),
         Err(fault) if fault.is_memory() => Err(Cause::NoMemory),

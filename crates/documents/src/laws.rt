@@ -1,12 +1,41 @@
 //! Laws of the definitions.
 
-ghost use Rattle.std.specs.Prelude.{◌≡◌, ◌↔◌, ℕ, Contains, Err, List, Ok, Option};
+ghost use Rattle.std.specs.Prelude.{
+  ◌≡◌,
+  ◌≤◌,
+  ◌↔◌,
+  ℕ,
+  Contains,
+  Err,
+  List,
+  Ok,
+  Option,
+  count_by,
+  length,
+  true,
+};
+ghost use Rattle.std.specs.Str.{is_utf8};
+ghost use Rattle.toml.specs.Parse.{parse_document};
 ghost use Rattle.pep_require.specs.Requirement.{RequirementParts};
 ghost use Rattle.faults.specs.declared.fault.Cause.{Cause};
+ghost use Rattle.documents.specs.Document.{document_of, required};
 ghost use Rattle.documents.specs.Groups.{Group, IsGroupFault, IsGroupWhole, IsTextOfGroup};
 ghost use Rattle.documents.specs.GroupWalk.{ComesTo, at_first, open_group};
+ghost use Rattle.documents.specs.Nesting.{deepens, is_shallow, opens};
 ghost use Rattle.documents.specs.ProjectRequirements.{IsProjectOf};
 ghost use Rattle.documents.specs.RefusedProject.{IsOverflow, IsRefusedProject};
+ghost use Rattle.texts.specs.Limits.{input_limit};
+
+/// Bytes with at most 80 opening brackets, and at most 700 of these and of dots, are never refused for
+/// their nesting, wherever these stand; and text of at most the largest input that isn't refused for its
+/// nesting is the document that the reader of TOML makes of it.
+pub fn few_brackets_are_shallow()
+    ensures shallow { (bytes : List ℕ) → count_by deepens bytes ≤ 700 → count_by opens bytes ≤ 80
+        → is_shallow bytes ≡ true }
+    ensures document { (bytes : List ℕ) → length bytes ≤ input_limit → is_utf8 bytes ≡ true
+        → is_shallow bytes ≡ true
+        → document_of bytes ≡ required Cause.NotToml (parse_document bytes) }
+{}
 
 /// Bytes are a project file of one list of requirements at most, for an extra or a dependency group.
 pub fn one_project()

@@ -5,6 +5,7 @@ mod document;
 mod environment_file;
 mod groups;
 pub mod laws;
+mod nesting;
 mod project;
 
 pub use crate::environment_file::environment_of;

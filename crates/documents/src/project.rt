@@ -51,19 +51,21 @@ use toml::Table;
 /// each where it is included first; `project` isn't read (PyPA "Dependency Groups", PEP 735). Names of
 /// extras and groups are compared when normalized (PEP 503, "Normalized Names").
 ///
-/// The fault is that of input 1, by the first check that fails: 56 for more bytes; 51 where they
-/// aren't UTF-8; 52 where they are no TOML document. Then, without a group: 53 without a key
-/// `project`; 55 where `project` is no table, or has a `dynamic` that is no array of texts; 54 where
-/// `dynamic` names `dependencies`, or, unless the extra is the empty text, `optional-dependencies`; 55
-/// where it has a `dependencies` that is no array of texts, or an `optional-dependencies` that is no table
-/// of such arrays, under keys that are names, all different when normalized. With a group: 65 without a key
-/// `dependency-groups`; 55 where it is no table of arrays under keys that are names; 66 where two of
-/// these are equal when normalized; 65 where none is the group; and in the order in which the group's
-/// array is gone through, and that of each group where it is included first: 55 for a value that is
-/// neither a text nor a table whose one key is `include-group`, with a name; 65 for a group that isn't
-/// there; 67 for one that is being gone through. Last, with and without a group, 57 with the fault of
-/// a text, counted from 1 in the order of the texts (see [`Requirement::read`]). Want of memory, 60,
-/// has no place.
+/// The fault is that of input 1, by the first check that fails: 56 for more bytes; 51 where they aren't
+/// UTF-8; 52 where they nest more than 700 levels or have more than 80 open brackets (outside strings
+/// and comments each open bracket counts as one level, and so do each part of the header above and each
+/// part of a dotted key behind its first), and where they are no TOML document. Then, without a group:
+/// 53 without a key `project`; 55 where `project` is no table, or has a `dynamic` that is no array of
+/// texts; 54 where `dynamic` names `dependencies`, or, unless the extra is the empty text,
+/// `optional-dependencies`; 55 where it has a `dependencies` that is no array of texts, or an
+/// `optional-dependencies` that is no table of such arrays, under keys that are names, all different
+/// when normalized. With a group: 65 without a key `dependency-groups`; 55 where it is no table of
+/// arrays under keys that are names; 66 where two of these are equal when normalized; 65 where none is
+/// the group; and in the order in which the group's array is gone through, and that of each group where
+/// it is included first: 55 for a value that is neither a text nor a table whose one key is
+/// `include-group`, with a name; 65 for a group that isn't there; 67 for one that is being gone
+/// through. Last, with and without a group, 57 with the fault of a text, counted from 1 in the order of
+/// the texts (see [`Requirement::read`]). Want of memory, 60, has no place.
 pub fn project_of(
     alloc: Global,
     bytes: &[u8],
