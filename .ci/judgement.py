@@ -19,7 +19,7 @@ SHOWN = re.compile(
 )
 # What is to be shown of a loop's invariant or measure: with others the same body may be proved.
 OF_LOOP = re.compile(r"(?!returns).*-(init|preserved|smaller)\b")
-LEMMA = re.compile(r"^pub (\S+) : (.*)", re.M)
+LEMMA = re.compile(r"^pub (\S+) :((?:.*\n(?=[ ]))*.*)", re.M)
 WITNESSES = "proofs/Witnesses.antt"
 
 
@@ -69,9 +69,9 @@ def judged(output, crate, own):
 
 
 def witnesses_in(own):
-    """Returns the names of the lemmas that are witnesses of a crate's edits, or a text that says what is wrong with one. The lemma says
-    that at one input the clause is false of what the turned body gives there."""
+    """Returns the names of the lemmas that are witnesses of a crate's edits: each says of one input that a clause is false of what the
+    turned body gives there."""
     if not os.path.isfile(f"{own}/{WITNESSES}"):
         return set()
     with open(f"{own}/{WITNESSES}", encoding="utf-8") as it:
-        return {name for name, says in LEMMA.findall(it.read()) if says.startswith("¬ ")}
+        return {name for name, says in LEMMA.findall(it.read()) if "¬ " in says}
