@@ -1,9 +1,8 @@
 -- Why edits are refused: at one input, what the turned body gives is not what the clause says.
-use Rattle.std.proofs.Common.{◌≡◌, ℕ, ◌&&◌, inl, inr, List, [], ◌∷◌, Some, None, true, false, codes}
+use Rattle.std.proofs.Common.{◌≡◌, ℕ, inl, inr, List, [], ◌∷◌, Some, None, true, false, codes}
 use Rattle.std.proofs.Common.{refl, ap, sym, ◌∙◌, arith, lit<}
 use Rattle.std.specs.List.{Contains}
 use Rattle.pep_version.specs.Text.{public_version}
-use Rattle.pep_version.specs.Version.{Version}
 use Rattle.pep_version.specs.declared.parts.Phase.TheVariants.{Alpha}
 use Rattle.pep_clause.proofs.PlaceCuts.{IsCut-least}
 use Rattle.pep_clause.specs.Cut.{least}

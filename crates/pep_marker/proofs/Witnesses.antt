@@ -1,28 +1,29 @@
 -- Why edits are refused: at one input, what the turned body gives is not what the clause says.
-use Rattle.std.proofs.Common.{◌≡◌, ◌⊎◌, inl, inr, ℕ, List, [], ◌∷◌, length, drop, Option, Some, None}
-use Rattle.std.proofs.Common.{true, false, codes, refl, lit<}
+use Rattle.std.proofs.Common.{◌≡◌, ◌⊎◌, inl, inr, ℕ, List, [], ◌∷◌, length, drop, Some, None}
+use Rattle.std.proofs.Common.{true, false, codes, refl, lit<, ap, arith}
 use Rattle.std.specs.Fmt.{digits}
-use Rattle.std.specs.Hash.{str}
 use Rattle.std.specs.List.{take_while}
+use Rattle.std.specs.Borrow.{Bor}
 use Rattle.std.specs.Prelude.{Ok, bytes_eq}
 use Rattle.std.specs.declared.cmp.Ordering.TheVariants.{Greater}
 use Rattle.pep_version.proofs.NormalTexts.{normal-spells}
 use Rattle.pep_version.proofs.OneVersion.{one-version}
 use Rattle.pep_version.specs.Spelling.{Reads, Spells}
-use Rattle.pep_version.specs.Text.{normal_text, public_version}
+use Rattle.pep_version.specs.Text.{public_version}
 use Rattle.pep_version.specs.Version.{IsVersion, Version}
 use Rattle.specifiers.specs.Clause.{less_than}
 use Rattle.specifiers.specs.declared.op.Op.TheVariants.{Compatible, Less}
 use Rattle.texts.specs.Bytes.{is_letter_or_digit, is_name_byte}
 use Rattle.pep_marker.specs.Environment.{EnvironmentParts, environment_of, is_value, pairs_fault}
 use Rattle.pep_marker.specs.Environment.{value_at, variable_of}
-use Rattle.pep_marker.specs.Header.{header_value}
+use Rattle.pep_marker.specs.Header.{found_behind, header_value}
 use Rattle.pep_marker.specs.Holds.{Compares, Evaluates}
 use Rattle.pep_marker.specs.Marker.{MarkerParts, compare, or, text, variable, version_operator}
 use Rattle.pep_marker.specs.MarkerText.{is_or}
 use Rattle.pep_marker.specs.Name.{name_cmp, name_of, normalized}
 use Rattle.pep_marker.specs.declared.environment.Variable.TheVariants.{Extra, OsName}
-use Rattle.pep_marker.specs.declared.fault.MarkerFault.{MarkerFault}
+use Rattle.pep_marker.specs.declared.header.HeaderIn.{HeaderIn}
+use Rattle.pep_marker.specs.declared.header.HeaderIn.TheVariants.{Other}
 use Rattle.pep_marker.specs.declared.fault.MarkerFault.TheVariants as fault
 use Rattle.pep_marker.proofs.MarkerTruth.{evaluates_one}
 
@@ -122,6 +123,23 @@ right_truth = inl (
 -- `3.9 < 3.10`
 pub compared-versions_as_texts : ¬ Compares (version_operator Less) (codes "3.9") (codes "3.10") (Some false)
 compared-versions_as_texts h = cc (evaluates_one extra_a lower (Some false) (Some true) h right_truth)
+
+number_of : HeaderIn → ℕ
+number_of (Other n rest) = n
+number_of _ = 0
+
+numbered : (n : ℕ) (rest : Bor (List ℕ)) → number_of (Other n rest) ≡ n
+unfolding number_of
+numbered n rest = refl
+
+-- another environment's text, which differs first at the line behind this one
+pub found_behind-one_line_too_early : (rest : Bor (List ℕ)) → ¬ (Other 1 rest
+    ≡ found_behind true (Other 1 rest))
+found_behind-one_line_too_early rest e = absurd (omega (arith, ap number_of e, numbered 1 rest, numbered 2 rest))
+
+-- no memory
+pub JudgedMarkers_new-another_fault : ¬ (fault.Undefined ≡ fault.NoMemory)
+JudgedMarkers_new-another_fault e = cc e
 
 -- `a or b`
 pub is_or-or_under_and_bare : ¬ (false ≡ is_or (or extra_compatible extra_compatible))

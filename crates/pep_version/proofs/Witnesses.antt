@@ -1,20 +1,19 @@
 -- Why edits are refused: at one input, what the turned body gives is not what the clause says.
-use Rattle.std.proofs.Common.{◌≡◌, ◌↔◌, ℕ, List, [], ◌∷◌, ◌++◌, Option, Some, None, IsSome, codes}
-use Rattle.std.proofs.Common.{map, true, false}
-use Rattle.std.proofs.Common.{refl, ap, inl, inr, arith}
+use Rattle.std.proofs.Common.{◌≡◌, ◌↔◌, ℕ, [], ◌∷◌, ◌++◌, Option, Some, None, IsSome, codes}
+use Rattle.std.proofs.Common.{map}
+use Rattle.std.proofs.Common.{refl, ap, inl, arith, lit<}
 use Rattle.std.specs.Fmt.{digits}
 use Rattle.std.specs.Prelude.{Ok}
 use Rattle.std.specs.declared.cmp.Ordering.TheVariants.{Greater}
-use Rattle.pep_version.specs.declared.parts.Label.{Label}
 use Rattle.pep_version.specs.declared.parts.Phase.{Phase}
 use Rattle.pep_version.specs.declared.parts.Phase.TheVariants.{Alpha}
 use Rattle.pep_version.specs.Feed.{key_feed}
 use Rattle.pep_version.specs.KeyBytes.{key_bytes, stage_bytes_of}
-use Rattle.pep_version.specs.KeyReading.{behind_place}
+use Rattle.pep_version.specs.KeyReading.{IsKey, behind_place}
 use Rattle.pep_version.specs.Order.{place_cmp, place_of, release_version, version_cmp, with_suffixes}
 use Rattle.pep_version.specs.Spelling.{Reads, SpellsAny}
 use Rattle.pep_version.specs.Text.{KeepsFront, normal_text, public_version}
-use Rattle.pep_version.specs.Version.{IsVersion, Segment, Version, number}
+use Rattle.pep_version.specs.Version.{IsVersion, Version, number}
 use Rattle.pep_version.specs.View.{segment_of}
 
 abbrev plain : ℕ → Version
@@ -48,6 +47,24 @@ Key_into_bytes-without_the_release e = cc e
 -- 1.dev0
 pub Key_of-without_dev : ¬ (plain 1 ≡ place_of (public_version (1 ∷ []) None None (Some 0)))
 Key_of-without_dev e = cc (ap (λ (v : Version). v.dev) e)
+
+zero : IsVersion (plain 0)
+zero = record {
+  release = lit< tt;
+  label = tt;
+  numbers = record {
+    epoch = lit< tt;
+    release = (lit< tt, tt);
+    pre = tt;
+    post = tt;
+    dev = tt;
+    label = tt;
+  };
+}
+
+-- the bytes of the key of 0
+pub Key_read-none_is_one : ¬ (IsSome {T = Version} None ↔ IsKey (key_bytes (plain 0)))
+Key_read-none_is_one h = cc (h.1 (plain 0, zero, refl))
 
 -- epoch 0, release 1
 pub Key_of_release-a_pre_release : ¬ (public_version (1 ∷ []) alpha None None
@@ -131,7 +148,17 @@ dash_number = record {
   preceding_v_is = inl refl;
   epoch_is = inl (refl, refl);
   release_is = (refl, refl);
-  pre_is = record { before = []; letters = codes "a"; after = codes "-"; digits = codes "1"; pieces = refl; before_is = tt; letters_is = inl refl; after_is = refl; digits_is = (refl, refl) };
+  pre_is = record {
+    before = [];
+    letters = codes "a";
+    after = codes "-";
+    digits = codes "1";
+    pieces = refl;
+    before_is = tt;
+    letters_is = inl refl;
+    after_is = refl;
+    digits_is = (refl, refl);
+  };
   post_is = refl;
   dev_is = refl;
   label_is = refl;

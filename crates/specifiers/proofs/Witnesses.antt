@@ -1,19 +1,25 @@
 -- Why edits are refused: at one input, what the turned body gives is not what the clause says.
-use Rattle.std.proofs.Common.{◌≡◌, ℕ, List, [], ◌∷◌, Option, Some, None, Bool, true, false, codes}
+use Rattle.std.proofs.Common.{◌≡◌, ℕ, List, [], ◌∷◌, Some, None, true, false, codes}
+use Rattle.std.proofs.Common.{◌≢◌, refl, ap, sym, ◌∙◌, lit<}
 use Rattle.std.specs.Fmt.{digits}
 use Rattle.std.specs.Prelude.{Result, Ok, Err, if◌then◌else◌}
 use Rattle.pep_version.specs.declared.fault.VersionFault.{VersionFault}
 use Rattle.pep_version.specs.declared.parts.Phase.TheVariants.{Alpha}
+use Rattle.pep_version.proofs.NormalTexts.{normal-spells}
+use Rattle.pep_version.proofs.OneVersion.{one-version}
+use Rattle.pep_version.specs.Spelling.{Reads}
 use Rattle.pep_version.specs.Text.{public_version}
-use Rattle.pep_version.specs.Version.{Segment, Version, number}
-use Rattle.specifiers.specs.Admits.{admits}
+use Rattle.pep_version.specs.Version.{IsVersion, Segment, Version, number}
+use Rattle.specifiers.proofs.OneAnswer.{one-clause-of}
+use Rattle.specifiers.specs.Admits.{SaysOf, admits}
+use Rattle.specifiers.specs.Clause.{IsClauseOf, excluding_prefix, prefix_answer}
 use Rattle.specifiers.specs.Clause.{Clause, ClauseOf, ReadsClause, at_least, at_most, clause_text}
 use Rattle.specifiers.specs.Clause.{compatible, demanded, demanded_text, greater_than, is_final}
 use Rattle.specifiers.specs.Clause.{less_than, matching, matching_prefix, operator_of, prefix_of}
 use Rattle.specifiers.specs.Clause.{version_answer}
 use Rattle.specifiers.specs.Operator.{operator}
-use Rattle.specifiers.specs.declared.fault.ClauseFault.{ClauseFault}
 use Rattle.specifiers.specs.declared.fault.ClauseFault.TheVariants as fault
+use Rattle.specifiers.specs.declared.op.Op.{Op}
 use Rattle.specifiers.specs.declared.op.Op.TheVariants as op
 use Rattle.texts.specs.Lists.{is_empty}
 
@@ -24,6 +30,55 @@ release numbers = public_version numbers None None None
 pub Clause_admits-demanded_text_by_its_place : ¬ (true ≡ admits (demanded (codes "1")) (release (1 ∷ 0 ∷ [])))
 unfolding digits
 Clause_admits-demanded_text_by_its_place e = cc e
+
+one : IsVersion (release (1 ∷ []))
+one = record {
+  release = lit< tt;
+  label = tt;
+  numbers = record {
+    epoch = lit< tt;
+    release = (lit< tt, tt);
+    pre = tt;
+    post = tt;
+    dev = tt;
+    label = tt;
+  };
+}
+
+read_one : Reads (codes "1") (Ok (release (1 ∷ [])))
+unfolding digits
+read_one =
+    let s = normal-spells (release (1 ∷ [])) one in
+    (s, λ w t. one-version (codes "1") w (release (1 ∷ [])) t s.0)
+
+star : (o : Op) (c : Clause) → prefix_answer o (Ok (release (1 ∷ []))) ≡ Ok c → o ≢ op.Exact
+    → ClauseOf o (codes "1.*") (Ok c)
+star op.Compatible c e n = cc e
+star op.Equal c e n = (Ok (release (1 ∷ [])), read_one, sym e)
+star op.NotEqual c e n = (Ok (release (1 ∷ [])), read_one, sym e)
+star op.AtMost c e n = cc e
+star op.AtLeast c e n = cc e
+star op.Less c e n = cc e
+star op.More c e n = cc e
+star op.Exact c e n = absurd (n refl)
+
+abbrev prefix : Clause
+prefix = matching_prefix (prefix_of (release (1 ∷ [])))
+
+abbrev others : Clause
+others = excluding_prefix (prefix_of (release (1 ∷ [])))
+
+admitted : (c : Clause) → c ≡ others → true ≡ admits c (release (1 ∷ [])) → ⊥
+admitted c e h = cc (h ∙ ap (λ d. admits d (release (1 ∷ []))) e)
+
+-- the clause `==1.*` asked by `!=`, 1
+pub Clause_admits_by-prefix_by_another_operator : ¬ ((text : List ℕ) → IsClauseOf op.Equal text prefix
+    → op.NotEqual ≢ op.Exact → SaysOf op.NotEqual text (release (1 ∷ [])) (Some true))
+Clause_admits_by-prefix_by_another_operator h =
+    let differ : op.NotEqual ≢ op.Exact = λ e. cc e in
+    let said = h (codes "1.*") (star op.Equal _ refl (λ e. cc e)) differ in
+    admitted said.0 (one-clause-of op.NotEqual (codes "1.*") said.0 others said.1 (star op.NotEqual _
+    refl differ)) said.2
 
 -- `>=1`
 pub Clause_copied-another_form : ¬ (less_than (release (1 ∷ [])) ≡ at_least (release (1 ∷ [])))
@@ -46,7 +101,8 @@ no_matching : (v : Version) (label : List Segment) → Ok (matching (release (1 
 no_matching v [] e = cc e
 no_matching v (s ∷ label) e = cc e
 
-no_matching_read : (read : Result Version VersionFault) → Ok (matching (release (1 ∷ []))) ≡ version_answer op.AtLeast read → ⊥
+no_matching_read : (read : Result Version VersionFault)
+    → Ok (matching (release (1 ∷ []))) ≡ version_answer op.AtLeast read → ⊥
 no_matching_read (Ok v) e = no_matching v v.label e
 no_matching_read (Err f) e = cc e
 

@@ -1,5 +1,5 @@
 -- What refuses edits: at one input, the clause of the function and what the turned body gives there.
-use Rattle.std.proofs.Common.{◌≡◌, List, [], ◌∷◌, true, false, Some, None}
+use Rattle.std.proofs.Common.{◌≡◌, [], ◌∷◌, true}
 use Rattle.std.specs.List.{list_all, prefix_len, suffix_len}
 use Rattle.texts.specs.Bytes.{is_blank_byte, is_clause_byte, is_letter_or_digit, is_name_byte}
 use Rattle.texts.specs.Runs.{without_leading_blanks, without_outer_blanks}
