@@ -24,3 +24,4 @@ pub mod RangeWords
 pub mod TableBytes
 pub mod SameLemmas
 pub mod BoundedLines
+mod Witnesses
