@@ -12,3 +12,4 @@ pub mod GroupLaws
 pub mod GroupSteps
 pub mod GroupTables
 pub mod GroupViews
+mod Witnesses
