@@ -1,16 +1,16 @@
 -- Why edits are refused: at one input, what the turned body gives is not what the clause says.
-use Rattle.std.proofs.Common.{◌≡◌, inl, inr, List, [], ◌∷◌, Some, None, true, false, codes, refl, arith}
+use Rattle.std.proofs.Common.{◌≡◌, inl, inr, [], ◌∷◌, Some, None, true, false, codes, refl, arith}
 use Rattle.std.specs.Bool.{◌==◌}
 use Rattle.texts.specs.Bytes.{is_letter_or_digit}
 use Rattle.texts.specs.Runs.{begins, without_leading_blanks}
 use Rattle.specifiers.specs.declared.op.Op.TheVariants.{Compatible}
-use Rattle.pep_marker.specs.Environment.{EnvironmentParts, environment_of}
+use Rattle.pep_marker.specs.Environment.{environment_of}
 use Rattle.pep_marker.specs.Marker.{MarkerParts, compare, text, variable, version_operator}
 use Rattle.pep_marker.specs.declared.environment.Variable.TheVariants.{Extra}
 use Rattle.pep_marker.specs.declared.fault.MarkerFault.TheVariants as marker_fault
 use Rattle.pep_require.specs.Code.{IsSameFault, require_inner_code}
 use Rattle.pep_require.specs.LineParts.{RefusesLine, RefusesWritten, StartsLine, bad_beginning}
-use Rattle.pep_require.specs.Requirement.{MarkerSays, RequirementParts, UrlParts, bounds}
+use Rattle.pep_require.specs.Requirement.{MarkerSays, UrlParts, bounds}
 use Rattle.pep_require.specs.RequirementText.{requirement_text}
 use Rattle.pep_require.specs.declared.fault.RequireFault.TheVariants as fault
 use Rattle.pep_require.proofs.FaultLaws.{one_fault}
@@ -50,7 +50,11 @@ Requirement_start-all_stands_behind h = cc h.behind
 
 -- `a` with a marker
 pub Requirement_text-without_the_marker : ¬ (codes "a" ≡ requirement_text (record {
-    name = codes "a"; extras = []; target = bounds []; marker = Some undefined_marker }))
+  name = codes "a";
+  extras = [];
+  target = bounds [];
+  marker = Some undefined_marker;
+}))
 Requirement_text-without_the_marker e = cc e
 
 -- U+0001
