@@ -10,3 +10,4 @@ pub mod EntryTexts
 pub mod SameLemmas
 pub mod OwnEntry
 pub mod BoundedEntries
+mod Witnesses

@@ -14,3 +14,4 @@ pub mod GroupTables
 pub mod GroupViews
 pub mod FewLevels
 pub mod NestingRuns
+mod Witnesses

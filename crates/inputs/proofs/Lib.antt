@@ -16,3 +16,4 @@ pub mod PrintedInputs
 pub mod OneEnvironment
 pub mod SameInputs
 pub mod TableFileLemmas
+mod Witnesses

@@ -26,3 +26,4 @@ pub mod CutReading
 pub mod IncreasingRanges
 pub mod CutBytes
 pub mod CutsRead
+mod Witnesses

@@ -15,3 +15,4 @@ pub mod HeaderLaws
 pub mod SlotLemmas
 pub mod MarkerTruth
 pub mod TextTruth
+mod Witnesses

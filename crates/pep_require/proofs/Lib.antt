@@ -14,3 +14,4 @@ pub mod TargetLaws
 pub mod LineLaws
 pub mod TextLemmas
 pub mod RequirementTexts
+mod Witnesses

@@ -25,3 +25,4 @@ pub mod RangeWords
 pub mod TableBytes
 pub mod SameLemmas
 pub mod BoundedLines
+mod Witnesses

@@ -5,3 +5,4 @@ pub mod OneAnswer
 pub mod ReadLemmas
 pub mod Written
 pub mod WrittenLemmas
+mod Witnesses

@@ -5,3 +5,4 @@ pub mod SpaceLemmas
 pub mod RunLemmas
 pub mod CutLists
 pub mod LineLemmas
+mod Witnesses

@@ -1,0 +1,82 @@
+-- Why edits are refused: at one input, what the turned body gives is not what the clause says.
+use Rattle.std.proofs.Common.{◌≡◌, inl, inr, [], ◌∷◌, Some, None, true, false, codes, refl, arith}
+use Rattle.std.specs.Bool.{◌==◌}
+use Rattle.texts.specs.Bytes.{is_letter_or_digit}
+use Rattle.texts.specs.Runs.{begins, without_leading_blanks}
+use Rattle.specifiers.specs.declared.op.Op.TheVariants.{Compatible}
+use Rattle.pep_marker.specs.Environment.{environment_of}
+use Rattle.pep_marker.specs.Marker.{MarkerParts, compare, text, variable, version_operator}
+use Rattle.pep_marker.specs.declared.environment.Variable.TheVariants.{Extra}
+use Rattle.pep_marker.specs.declared.fault.MarkerFault.TheVariants as marker_fault
+use Rattle.pep_require.specs.Code.{IsSameFault, require_inner_code}
+use Rattle.pep_require.specs.LineParts.{RefusesLine, RefusesWritten, StartsLine, bad_beginning}
+use Rattle.pep_require.specs.Requirement.{MarkerSays, UrlParts, bounds}
+use Rattle.pep_require.specs.RequirementText.{requirement_text}
+use Rattle.pep_require.specs.declared.fault.RequireFault.TheVariants as fault
+use Rattle.pep_require.proofs.FaultLaws.{one_fault}
+
+-- `extra ~= "a"`, which is undefined
+abbrev undefined_marker : MarkerParts
+undefined_marker = compare (variable Extra) (version_operator Compatible) (text (codes "a"))
+
+-- a marker that isn't one
+pub RequireFault_inner_code-of_a_clause_alone : ¬ (None
+    ≡ require_inner_code (fault.BadMarker marker_fault.BadMarker))
+RequireFault_inner_code-of_a_clause_alone e = cc e
+
+-- `extra ~= "a"`
+pub Requirement_applies-undefined_marker : ¬ MarkerSays (environment_of []) (Some undefined_marker) (Some
+    true)
+Requirement_applies-undefined_marker e = cc e
+
+name_is_due : RefusesLine (codes "!") fault.BadName
+unfolding is_letter_or_digit
+name_is_due = bad_beginning refl
+
+differ : IsSameFault fault.Trailing fault.BadName → ⊥
+differ (inl e) = cc e
+differ (inr e) = let n : 36 ≡ 35 = e.0 in absurd (omega (arith, n))
+
+-- `!`
+pub Requirement_read-trailing_where_no_name_begins : ¬ RefusesLine (codes "!") fault.Trailing
+Requirement_read-trailing_where_no_name_begins h =
+    differ (one_fault (codes "!") fault.Trailing fault.BadName (λ e. cc e) (λ e. cc e) (λ e. cc e)
+    (λ e. cc e) h name_is_due)
+
+-- `a`
+pub Requirement_start-all_stands_behind : ¬ StartsLine (codes "a") (codes "a") (codes "a")
+unfolding is_letter_or_digit
+Requirement_start-all_stands_behind h = cc h.behind
+
+-- `a` with a marker
+pub Requirement_text-without_the_marker : ¬ (codes "a" ≡ requirement_text (record {
+  name = codes "a";
+  extras = [];
+  target = bounds [];
+  marker = Some undefined_marker;
+}))
+Requirement_text-without_the_marker e = cc e
+
+-- U+0001
+pub UrlText_read-control_character_as_overflow : ¬ RefusesWritten (1 ∷ []) fault.UrlOverflow
+UrlText_read-control_character_as_overflow (inl h) = cc h.0
+UrlText_read-control_character_as_overflow (inr h) = cc h.1
+
+abbrev url : UrlParts
+url = record { written = codes "https://X.test"; text = codes "https://x.test/" }
+
+-- `https://X.test`
+pub UrlText_text-as_written : ¬ (codes "https://X.test" ≡ url.text)
+UrlText_text-as_written e = cc e
+
+-- `https://X.test`
+pub UrlText_written-its_text : ¬ (codes "https://x.test/" ≡ url.written)
+UrlText_written-its_text e = cc e
+
+-- `;`
+pub behind-never_there : ¬ (begins (λ b. b == 59) (codes ";") ≡ false)
+behind-never_there e = cc e
+
+-- ` a`
+pub stripped-white_space_kept : ¬ (codes " " ≡ without_leading_blanks (codes " a"))
+stripped-white_space_kept e = cc e
