@@ -6,7 +6,7 @@ use Rattle.demands.specs.Table.{EntryParts, IsValidTable, TableParts}
 use Rattle.demands.specs.declared.verdict.Verdict.{Verdict}
 use Rattle.demands.specs.declared.fault.TableFault.{TableFault}
 use Rattle.demands.specs.declared.fault.TableFault.TheVariants.{BadTable, OtherEnvironment}
-use Rattle.pep_table.specs.TableReading.{HasNoFeed}
+use Rattle.texts.specs.Lines.{HasNoFeed}
 use Rattle.pep_table.specs.TableText.{AreNoLines, AreTableLines, IsMadeElsewhere, IsNoTableText}
 use Rattle.pep_table.specs.TableText.{IsReadAs, Shows, entry_text, kind_lines, line}
 use Rattle.pep_table.specs.declared.read.Halt.{Halt}
