@@ -6,10 +6,10 @@ use Rattle.pep_version.specs.Text.{public_version}
 use Rattle.pep_version.specs.declared.parts.Phase.TheVariants.{Alpha}
 use Rattle.pep_clause.proofs.PlaceCuts.{IsCut-least}
 use Rattle.pep_clause.specs.Cut.{least}
-use Rattle.pep_clause.specs.VersionSet.{all_versions}
+use Rattle.pep_clause.specs.VersionSet.{IsNormal, all_versions, is_point}
 use Rattle.demands.specs.Answer.{IsAnswer}
 use Rattle.demands.specs.Gathering.{bare_entry}
-use Rattle.demands.specs.Join.{IsIntersection, IsUnion, JoinsEntries}
+use Rattle.demands.specs.Join.{IsIntersection, IsUnion, JoinsAll, JoinsEntries}
 use Rattle.demands.specs.SameTables.{same_entry}
 use Rattle.demands.specs.Table.{EntryDemands, EntryParts}
 use Rattle.demands.specs.Verdict.{IsEntryVerdict}
@@ -84,6 +84,10 @@ String_kept-empty e = cc e
 -- all versions and none
 pub VersionSet_joined-the_left : ¬ IsIntersection all_versions [] all_versions
 VersionSet_joined-the_left h = cc (h.points least IsCut-least)
+
+-- all versions, and a list with no version
+pub join_all-nothing : ¬ JoinsAll IsNormal IsIntersection all_versions ([] ∷ []) all_versions
+join_all-nothing h = cc (sym (ap (λ r. is_point r least) h.3) ∙ h.2.points least IsCut-least)
 
 two_texts : (t : List ℕ) → t ≡ codes "1" → t ≡ codes "10" → ⊥
 two_texts t e f = cc (sym e ∙ f)
