@@ -19,7 +19,7 @@
  * - A bool is false or true.
  * - malloc, realloc and free are one allocator's, which aligns a block to each power of two up to 16 that divides its size, and which any thread
  *   that calls may use at once with others.
- * - The stack has 512 KiB left. A file that nests 700 levels takes up to some 440 KiB, a marker of 1,024 comparisons some 250.
+ * - The stack has 512 KiB left. A file that nests 700 levels takes up to some 290 KiB, a marker of 1,024 comparisons some 250.
  * - No call comes from a signal handler, or from the forked child of a process with threads.
  * - These names mean these functions alone in the program.
  *
