@@ -62,8 +62,9 @@ def judged(output, crate, own):
             continue
         if of[2]:
             told = told_of(output, own, of[1])
-            says = of[2] != "not proved" or not told or any(it for it, _ in told)
-            found[of[1]] = (VALUES if shown or any(it for _, it in told) else SEARCH) if says else None
+            shown = shown or any(it for _, it in told)
+            says = shown or of[2] != "not proved" or not told or any(it for it, _ in told)
+            found[of[1]] = (VALUES if shown else SEARCH) if says else None
         shown = False
     return found
 
