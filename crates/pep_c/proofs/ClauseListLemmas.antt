@@ -1,6 +1,7 @@
 -- Clauses between commas, and answers on texts between zero bytes: one further.
-use Rattle.std.proofs.Common.{◌≡◌, ℕ, ◌==◌, ◌++◌, List, [], ◌∷◌, append_assoc, append-nil, ap, refl, subst, sym, ◌∙◌}
-use Rattle.std.specs.List.{AllZip, slice_split}
+use Rattle.std.proofs.Common.{false, ◌≡◌, ℕ, ◌==◌, ◌++◌, List, [], ◌∷◌, append_assoc, append-nil, ap, refl, subst, sym, ◌∙◌}
+use Rattle.std.specs.List.{AllZip, list_all, slice_split}
+use Rattle.texts.specs.Bytes.{is_white_space}
 use Rattle.specifiers.specs.Clause.{Clause}
 use Rattle.faults.specs.declared.fault.Fault.{Fault}
 use Rattle.pep_c.specs.ClauseLists.{AnswersText, AnswersTexts, AreClauses, RefusesClauses, WriteClauses, a_blank, a_clause, no_piece}
@@ -46,15 +47,17 @@ all_written bytes clauses w =
     subst (λ ps. WriteClauses ps clauses) (sym (append-nil w.taken) ∙ w.whole) w.writes
 
 pub refused_here : (bytes piece : List ℕ) (ahead : List (List ℕ)) (clauses : List Clause) (fault : Fault) →
-    Written (slice_split (λ b. b == 44) bytes) (piece ∷ ahead) clauses → IsNoClause piece fault →
+    Written (slice_split (λ b. b == 44) bytes) (piece ∷ ahead) clauses →
+    list_all is_white_space piece ≡ false → IsNoClause piece fault →
     RefusesClauses bytes fault
-refused_here bytes piece ahead clauses fault w why = record {
+refused_here bytes piece ahead clauses fault w has why = record {
   before = w.taken;
   piece = piece;
   behind = ahead;
   stands = w.whole;
   clauses = clauses;
   written = w.writes;
+  not_blank = has;
   refused = why;
 }
 

@@ -25,7 +25,7 @@ pub data WriteClauses : List (List ℕ) → List Clause → Type 0 where
 abbrev pub AreClauses : List ℕ → List Clause → Type 0
 AreClauses bytes cs = WriteClauses (slice_split (λ b. b == 44) bytes) cs
 
--- one of the pieces between commas is no clause, and those before it write some
+-- one of the pieces between commas has more than white space and is no clause, and those before it write some
 pub record RefusesClauses (bytes : List ℕ) (fault : Fault) : Type 0 where
   pub before : List (List ℕ)
   pub piece : List ℕ
@@ -33,6 +33,7 @@ pub record RefusesClauses (bytes : List ℕ) (fault : Fault) : Type 0 where
   pub stands : before ++ piece ∷ behind ≡ slice_split (λ b. b == 44) bytes
   pub clauses : List Clause
   pub written : WriteClauses before clauses
+  pub not_blank : list_all is_white_space piece ≡ false
   pub refused : IsNoClause piece fault
 
 -- the normal text of each clause, on a line of its own
@@ -63,4 +64,5 @@ AnswersTexts cs texts answers =
 
 -- .. by the clauses that the bytes write
 abbrev pub AnswersEach : List ℕ → List ℕ → List ℕ → Type 0
-AnswersEach bytes texts answers = (cs : List Clause) × AreClauses bytes cs × AnswersTexts cs texts answers
+AnswersEach bytes texts answers =
+    (cs : List Clause) × AreClauses bytes cs × AnswersTexts cs texts answers

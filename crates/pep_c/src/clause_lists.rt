@@ -1,6 +1,6 @@
 //! Lists of clauses, over bytes.
 
-ghost use Rattle.std.specs.Prelude.{◌≡◌, ◌⊎◌, ◌++◌, ◌∷◌, IfErr, IfOk, List, OnOk, [], map, pos, string_bytes};
+ghost use Rattle.std.specs.Prelude.{false, ◌≡◌, ◌⊎◌, ◌++◌, ◌∷◌, IfErr, IfOk, List, OnOk, [], map, pos, string_bytes};
 ghost use Rattle.std.specs.List.{list_all};
 ghost use Rattle.texts.specs.Bytes.{is_white_space};
 ghost use Rattle.specifiers.specs.Admits.{admits};
@@ -32,8 +32,8 @@ fn is_space(piece: &[u8]) -> bool
 fn push_clause(alloc: Global, clauses: &mut Vec<Clause>, piece: &[u8]) -> Result<(), Fault>
     ensures pushed { OnOk result ((cs : List Clause) × WriteClauses (piece.now ∷ []) cs
         × (clauses.new.items ≡ clauses.old.items ++ cs)) }
-    ensures refused { IfErr result
-        (λ fault. (fault ≡ no_memory) ⊎ IsNoClause piece.now fault) }
+    ensures refused { IfErr result (λ fault. (fault ≡ no_memory)
+        ⊎ ((list_all is_white_space piece.now ≡ false) × IsNoClause piece.now fault)) }
 {
     if is_space(piece) {
         return Ok(());

@@ -4,7 +4,7 @@ use Rattle.std.proofs.Common.{None, true, false}
 use Rattle.std.proofs.Common.{IsTrue, codes, refl, ap, inl, inr, ◌∙◌, arith, lit<}
 use Rattle.std.specs.List.{Contains}
 use Rattle.pep_version.specs.Text.{public_version}
-use Rattle.specifiers.specs.declared.op.Op.TheVariants.{Equal}
+use Rattle.specifiers.specs.declared.op.Op.TheVariants.{Compatible, Equal}
 use Rattle.pep_clause.specs.Cut.{Cut, before, least}
 use Rattle.pep_clause.specs.VersionSet.{IsNormal, Range}
 use Rattle.pep_marker.specs.Environment.{EnvironmentParts, environment_of}
@@ -33,6 +33,10 @@ nowhere = environment_of []
 -- `extra == "x"`, which is false there
 abbrev false_marker : MarkerParts
 false_marker = compare (variable Extra) (version_operator Equal) (text (codes "x"))
+
+-- `extra ~= "x"`, which is undefined there
+abbrev undefined_marker : MarkerParts
+undefined_marker = compare (variable Extra) (version_operator Compatible) (text (codes "x"))
 
 abbrev requirement : List ℕ → Option MarkerParts → RequirementParts
 requirement name marker = record { name = name; extras = []; target = bounds []; marker = marker }
@@ -108,9 +112,9 @@ numbered : (n : ℕ) → number_of (fault.Undefined n) ≡ n
 unfolding number_of
 numbered n = refl
 
--- one requirement
+-- one requirement, whose marker is undefined
 pub Table_of-undefined_counted_from_zero : ¬ ((fault.Undefined 0 ≡ fault.NoMemory)
-    ⊎ IsFirstUndefined nowhere (requirement (codes "a") None ∷ []) (fault.Undefined 0))
+    ⊎ IsFirstUndefined nowhere (requirement (codes "a") (Some undefined_marker) ∷ []) (fault.Undefined 0))
 Table_of-undefined_counted_from_zero (inl e) = cc e
 Table_of-undefined_counted_from_zero (inr h) =
     absurd (omega (arith, ap number_of h.is, numbered 0, numbered (length h.before + 1)))
