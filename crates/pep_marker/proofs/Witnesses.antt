@@ -18,7 +18,6 @@ use Rattle.pep_marker.specs.Environment.{EnvironmentParts, environment_of, is_va
 use Rattle.pep_marker.specs.Environment.{value_at, variable_of}
 use Rattle.pep_marker.specs.Header.{found_behind, header_value}
 use Rattle.pep_marker.specs.Holds.{Compares, Evaluates}
-use Rattle.pep_marker.specs.Judged.{RefusesText}
 use Rattle.pep_marker.specs.Marker.{MarkerParts, compare, or, text, variable, version_operator}
 use Rattle.pep_marker.specs.MarkerText.{is_or}
 use Rattle.pep_marker.specs.Name.{name_cmp, name_of, normalized}
@@ -137,13 +136,6 @@ numbered n rest = refl
 pub found_behind-one_line_too_early : (rest : Bor (List ℕ)) → ¬ (Other 1 rest
     ≡ found_behind true (Other 1 rest))
 found_behind-one_line_too_early rest e = absurd (omega (arith, ap number_of e, numbered 1 rest, numbered 2 rest))
-
--- the empty text
-pub JudgedMarkers_judge-another_fault : ¬ RefusesText extra_a [] fault.BadValue
-JudgedMarkers_judge-another_fault (inl e) = cc e
-JudgedMarkers_judge-another_fault (inr (inl (e, says))) = cc e
-JudgedMarkers_judge-another_fault (inr (inr (inl e, none))) = cc e
-JudgedMarkers_judge-another_fault (inr (inr (inr (e, over), none))) = cc e
 
 -- no memory
 pub JudgedMarkers_new-another_fault : ¬ (fault.Undefined ≡ fault.NoMemory)

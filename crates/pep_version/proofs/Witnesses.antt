@@ -40,10 +40,6 @@ pub Key_hash-no_bytes : ¬ ([] ∷ [] ≡ key_feed (plain 0))
 unfolding key_feed
 Key_hash-no_bytes e = cc e
 
--- 1
-pub Key_copied-another_key : ¬ (plain 0 ≡ plain 1)
-Key_copied-another_key e = cc (ap (λ (v : Version). v.release) e)
-
 -- 0
 pub Key_into_bytes-without_the_release : ¬ (0 ∷ 0 ∷ 0 ∷ 0 ∷ 0 ∷ 0 ∷ 0 ∷ 0 ∷ [] ≡ key_bytes (plain 0))
 Key_into_bytes-without_the_release e = cc e
