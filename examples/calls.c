@@ -97,6 +97,10 @@ static void versions_and_clauses(void)
 
 static void show_bytes(const char *call, tubrambutan_reply reply, const uint8_t *room)
 {
+    if (reply.status != 0) {
+        show(call, reply, room);
+        return;
+    }
     printf("%s:", call);
     for (size_t at = 0; at < reply.size; at++) {
         printf(" %02x", room[at]);
@@ -123,11 +127,18 @@ static void parts_and_keys(void)
     show("key", tubrambutan_key(BYTES("x"), room, sizeof room), room);
     show_bytes("keys", tubrambutan_keys(TEXTS("1+x\0" "y"), room, sizeof room), room);
     reply = tubrambutan_version_numbers(BYTES("1!2.0rc3.post4.dev5+x"), numbers, 16, room, sizeof room);
-    printf("version numbers:");
+    if (reply.status != 0) {
+        show("version numbers", reply, room);
+        reply.size = 0;
+    } else {
+        printf("version numbers:");
+    }
     for (size_t at = 0; at < reply.size; at++) {
         printf(" %llu", (unsigned long long)numbers[at]);
     }
-    printf("\n");
+    if (reply.status == 0) {
+        printf("\n");
+    }
     show("version numbers", tubrambutan_version_numbers(BYTES("1.x"), numbers, 16, room, sizeof room), room);
 }
 
