@@ -1,6 +1,6 @@
 -- Why edits are refused: at one input, what the turned body gives is not what the clause says.
 use Rattle.std.proofs.Common.{◌≡◌, ℕ, ◌<◌, ◌≤◌, List, [], ◌∷◌, ◌++◌, length, Some, None}
-use Rattle.std.proofs.Common.{false, codes, refl, ap, inl, inr}
+use Rattle.std.proofs.Common.{◌⊎◌, ◌∙◌, false, append-nil, codes, refl, ap, inl, inr, sym}
 use Rattle.std.proofs.Common.{subst, arith, lit<, lit≤}
 use Rattle.std.proofs.lemmas.List.{length-append, nil_from_length}
 use Rattle.std.proofs.lemmas.List.Elements.{All-cons, All-nil}
@@ -18,12 +18,17 @@ use Rattle.demands.specs.Table.{IsTable}
 use Rattle.demands.specs.declared.verdict.Answer.TheVariants as answer
 use Rattle.pep_table.proofs.OneTableOfText.{same_lines}
 use Rattle.pep_table.specs.TableText.{AreTableLines}
+use Rattle.devices.specs.Device.{Device}
+use Rattle.faults.specs.declared.fault.Cause.TheVariants as cause
+use Rattle.faults.specs.declared.fault.Fault.{Fault}
+use Rattle.faults.specs.declared.fault.Place.TheVariants as place
 use Rattle.texts.specs.Bytes.{is_letter_or_digit}
 use Rattle.texts.specs.Limits.{line_limit}
 use Rattle.inputs.specs.Gathered.{BytesDemand, Gathered}
 use Rattle.inputs.specs.Lists.{IsRequirementList}
 use Rattle.inputs.specs.Merge.{IsMerge}
-use Rattle.inputs.specs.Streams.{IsTableOfList}
+use Rattle.inputs.specs.Refusal.{no_memory}
+use Rattle.inputs.specs.Streams.{IsTableOfList, ReadsTable, RefusesReading, by_bytes, by_failure}
 use Rattle.inputs.specs.declared.input.Input.{Input}
 use Rattle.inputs.specs.declared.input.Kind.TheVariants as kind
 
@@ -73,6 +78,24 @@ merge_reader-empty_table h = no_empty_table (BytesDemand nowhere kind.List None 
 
 gathered : (i : Input) → i.kind ≡ kind.List → i.bytes.items ≡ line → Gathered nowhere (i ∷ []) line presence
 gathered i k b = inl (rw (k, b) demanded)
+
+-- a reader that had the one line `a` left, and has nothing left
+pub gather_reader-nothing_gathered : ¬ ReadsTable nowhere (Some line) (Some []) []
+gather_reader-nothing_gathered h =
+    let all : h.bytes ≡ line = sym (h.reads ∙ append-nil h.bytes) in
+    merge_reader-empty_table (subst (λ x. IsTableOfList nowhere x []) all h.of_list)
+
+-- what a turned body tells of a reader that fails
+abbrev of_another : Fault
+of_another = record { place = place.Input 2; cause = cause.ReadFault }
+
+-- a reader that fails, which tells no bytes
+pub gather_reader-another_input : (d : Device) →
+    ¬ ((of_another ≡ no_memory) ⊎ RefusesReading nowhere None None d of_another)
+gather_reader-another_input d h = elim h [
+  | inl e ↦ cc (ap (λ (f : Fault). f.place) e)
+  | inr r ↦ elim r [ by_failure t e g ↦ cc (ap (λ (f : Fault). f.place) e) | by_bytes f b ↦ cc b.lies ]
+]
 
 -- a list with the one line `a`
 pub gather-no_input : (i : Input) → i.kind ≡ kind.List → i.bytes.items ≡ line

@@ -82,7 +82,7 @@ impl Table {
     }
 
     /// The names in byte order, each with its entry.
-    pub(crate) fn entries(&self) -> &[(Name, Entry)]
+    pub fn entries(&self) -> &[(Name, Entry)]
         ensures entries { result.now ≡ self.now }
         ensures valid { IsValidTable self.now }
     {

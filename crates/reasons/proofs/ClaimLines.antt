@@ -1,0 +1,255 @@
+-- The lines and texts of which inputs have their requirements, by their numbers; and where the
+-- entries of a table file begin.
+use Rattle.std.proofs.Common.{◌≡◌, ℕ, ◌+◌, ◌⊎◌, Bool, true, false, List, [], ◌∷◌, ◌++◌}
+use Rattle.std.proofs.Common.{append_assoc, length, refl, sym, ap, subst, ◌∙◌, inl, inr}
+use Rattle.std.proofs.Common.{Option, Ok, Some}
+use Rattle.std.specs.Prelude.{Contains, bytes_eq}
+use Rattle.std.proofs.lemmas.Slice.Eq.{bytes_eq-Decides}
+use Rattle.pep_marker.specs.Environment.{EnvironmentParts}
+use Rattle.pep_marker.specs.Header.{header}
+use Rattle.pep_require.proofs.Ascending.{rest_ascends}
+use Rattle.pep_require.proofs.LineLaws.{one_requirement}
+use Rattle.pep_require.proofs.Members.{in_either, in_first, in_none, in_rest}
+use Rattle.pep_require.specs.Reads.{Reads}
+use Rattle.pep_require.specs.Requirement.{IsAscending, RequirementParts}
+use Rattle.demands.specs.Table.{EntryParts, TableParts, entry_at, names}
+use Rattle.documents.proofs.GroupEnds.{one_texts}
+use Rattle.documents.proofs.ReadTexts.{numbered, numbered_in, zip_line, zip_read}
+use Rattle.documents.specs.RefusedProject.{IsNumbered}
+use Rattle.pep_table.proofs.EntryPlaces.{behind_apart}
+use Rattle.pep_table.specs.OneText.{entry_first, entry_other}
+use Rattle.pep_table.specs.TableText.{AreTableLines, IsReadAs, entry_text}
+use Rattle.inputs.specs.declared.input.Kind.{Kind}
+use Rattle.inputs.specs.declared.input.Kind.TheVariants as kind
+use Rattle.inputs.specs.Lists.{HoldsTable, Lists, content, is_skipped, lines_of, requirement_lines}
+use Rattle.inputs.specs.Lists.{requirements_among}
+use Rattle.reasons.specs.Places.{EntersAt, RequiresAt}
+
+-- ---- lines that are kept
+
+kept_in : (lines : List (List ℕ)) (line : List ℕ) → Contains lines line →
+    is_skipped (content line) ≡ false → Contains (requirements_among lines) (content line)
+kept_in [] line m kept = absurd (in_none line m)
+kept_in (l ∷ lines) line m kept =
+    by (is_skipped (content l)) refl (in_either l lines line m) (λ more. kept_in lines line more kept)
+  where
+    by : (b : Bool) → is_skipped (content l) ≡ b → (l ≡ line) ⊎ Contains lines line →
+        (Contains lines line → Contains (requirements_among lines) (content line)) →
+        Contains (requirements_among (l ∷ lines)) (content line)
+    by true seen (inl same) rest =
+        let both : true ≡ false = sym seen ∙ ap (λ x. is_skipped (content x)) same ∙ kept in cc both
+    by true seen (inr more) rest = rw seen (rest more)
+    by false seen (inl same) rest =
+        rw seen (in_first (content l) (requirements_among lines) (content line) (ap content same))
+    by false seen (inr more) rest =
+        rw seen (in_rest (content l) (requirements_among lines) (content line) (rest more))
+
+-- a line of which the text is one of the requirements'
+pub record IsKept (lines : List (List ℕ)) (x : List ℕ) : Type 0 where
+  pub line : List ℕ
+  pub among : Contains lines line
+  pub kept : is_skipped (content line) ≡ false
+  pub text : content line ≡ x
+
+kept_of : (lines : List (List ℕ)) (x : List ℕ) → Contains (requirements_among lines) x →
+    IsKept lines x
+kept_of [] x m = absurd (in_none x m)
+kept_of (l ∷ lines) x m = by (is_skipped (content l)) refl (kept_of lines x)
+  where
+    further : IsKept lines x → IsKept (l ∷ lines) x
+    further found = record {
+      line = found.line;
+      among = in_rest l lines found.line found.among;
+      kept = found.kept;
+      text = found.text;
+    }
+
+    first : is_skipped (content l) ≡ false → (Contains (requirements_among lines) x → IsKept lines x) →
+        (content l ≡ x) ⊎ Contains (requirements_among lines) x → IsKept (l ∷ lines) x
+    first seen rest (inl same) = record {
+      line = l;
+      among = in_first l lines l refl;
+      kept = seen;
+      text = same;
+    }
+    first seen rest (inr more) = further (rest more)
+
+    by : (b : Bool) → is_skipped (content l) ≡ b →
+        (Contains (requirements_among lines) x → IsKept lines x) → IsKept (l ∷ lines) x
+    by true seen rest = further (rest (rw seen at m))
+    by false seen rest =
+        first seen rest (in_either (content l) (requirements_among lines) x (rw seen at m))
+
+number_of : {A : Type 0} (xs : List A) (x : A) → Contains xs x → (n : ℕ) × IsNumbered xs n x
+number_of xs x m = (m.0 + 1, numbered xs m.0 m.0 x m.1 (sym m.2) refl)
+
+-- ---- requirements of an input
+
+-- what stands at a number is one of the requirements ..
+pub required_in : (extra : List ℕ) (k : Kind) (group : Option (List ℕ)) (bytes : List ℕ)
+    (rs : List RequirementParts) (number : ℕ) (r : RequirementParts) →
+    Lists extra k group bytes rs → RequiresAt extra k group bytes number r → Contains rs r
+required_in extra kind.List group bytes rs number r h at =
+    let found = zip_read (requirement_lines bytes) rs (content at.line) h.requirements
+    (kept_in (lines_of bytes) at.line (numbered_in (lines_of bytes) number at.line at.numbered) at.kept) in
+    subst (Contains rs) (one_requirement (content at.line) found.0 r found.2 at.reads) found.1
+required_in extra kind.Project group bytes rs number r h at =
+    let same : at.texts ≡ h.0 = cc (one_texts extra group bytes (Ok at.texts) (Ok h.0) at.asked h.1) in
+    let found = zip_read h.0 rs at.text h.2
+    (subst (λ l. Contains l at.text) same (numbered_in at.texts number at.text at.numbered)) in
+    subst (Contains rs) (one_requirement at.text found.0 r found.2 at.reads) found.1
+required_in extra kind.Table group bytes rs number r h at = absurd at
+
+-- .. and each of them stands at one
+pub required_at : (extra : List ℕ) (k : Kind) (group : Option (List ℕ)) (bytes : List ℕ)
+    (rs : List RequirementParts) (r : RequirementParts) → Lists extra k group bytes rs →
+    Contains rs r → (number : ℕ) × RequiresAt extra k group bytes number r
+required_at extra kind.List group bytes rs r h has =
+    let found = zip_line (requirement_lines bytes) rs r h.requirements has in
+    let line = kept_of (lines_of bytes) found.0 found.1 in
+    let at = number_of (lines_of bytes) line.line line.among in (
+      at.0,
+      record {
+        line = line.line;
+        numbered = at.1;
+        kept = line.kept;
+        reads = subst (λ (t : List ℕ). Reads t r) (sym line.text) found.2;
+      },
+    )
+required_at extra kind.Project group bytes rs r h has =
+    let found = zip_line h.0 rs r h.2 has in
+    let at = number_of h.0 found.0 found.1 in (
+      at.0,
+      record {
+        texts = h.0;
+        asked = h.1;
+        text = found.0;
+        numbered = at.1;
+        reads = found.2;
+      },
+    )
+required_at extra kind.Table group bytes rs r h has = absurd h
+
+-- a table has no requirements
+pub no_requirement : (e : EnvironmentParts) (extra : List ℕ) (k : Kind) (group : Option (List ℕ))
+    (bytes : List ℕ) (t : TableParts) (number : ℕ) (r : RequirementParts) → HoldsTable e k bytes t →
+    RequiresAt extra k group bytes number r → ⊥
+no_requirement e extra kind.List group bytes t number r h at = absurd h
+no_requirement e extra kind.Project group bytes t number r h at = absurd h
+no_requirement e extra kind.Table group bytes t number r h at = at
+
+-- ---- entries of a table
+
+-- the entry of a name behind others
+pub entry_behind : (before : TableParts) (name : List ℕ) (entry : EntryParts) (behind : TableParts) →
+    IsAscending (names (before ++ (name, entry) ∷ behind)) →
+    entry_at (before ++ (name, entry) ∷ behind) name ≡ Some entry
+entry_behind [] name entry behind up = entry_first (name, entry) behind
+entry_behind (p ∷ before) name entry behind up =
+    entry_other p (before ++ (name, entry) ∷ behind) name
+    (λ same. behind_apart (p ∷ before) (name, entry) behind up (inl (sym same)))
+    ∙ entry_behind before name entry behind
+    (rest_ascends p.0 (names (before ++ (name, entry) ∷ behind)) up)
+
+pub record IsSplitAt (t : TableParts) (name : List ℕ) (entry : EntryParts) : Type 0 where
+  pub before : TableParts
+  pub behind : TableParts
+  pub whole : t ≡ before ++ (name, entry) ∷ behind
+
+split_there : (t : TableParts) (name : List ℕ) (entry : EntryParts) →
+    entry_at t name ≡ Some entry → IsSplitAt t name entry
+split_there [] name entry at = cc at
+split_there (p ∷ t) name entry at = by (bytes_eq p.0 name) refl (split_there t name entry)
+  where
+    by : (b : Bool) → bytes_eq p.0 name ≡ b → (entry_at t name ≡ Some entry → IsSplitAt t name entry) →
+        IsSplitAt (p ∷ t) name entry
+    by true is rest =
+        let same : p.0 ≡ name = (bytes_eq-Decides p.0 name).0 is in
+        let found : Some p.1 ≡ Some entry = rw is at at in
+        let own : p.1 ≡ entry = cc found in
+        record { before = []; behind = t; whole = λ i. (same i, own i) ∷ t }
+    by false is rest =
+        let found = rest (rw is at at) in
+        record { before = p ∷ found.before; behind = found.behind; whole = λ i. p ∷ found.whole i }
+
+-- the lines of a table cut between entries
+pub record AreCutLines (before behind : TableParts) (x : List ℕ) : Type 0 where
+  pub front : List ℕ
+  pub rest : List ℕ
+  pub fore : AreTableLines before front
+  pub lines : AreTableLines behind rest
+  pub whole : x ≡ front ++ rest
+
+cut_lines : (before behind : TableParts) (x : List ℕ) → AreTableLines (before ++ behind) x →
+    AreCutLines before behind x
+cut_lines [] behind x h = record { front = []; rest = x; fore = refl; lines = h; whole = refl }
+cut_lines (p ∷ before) behind x (w, rest, shows, more, is) =
+    let found = cut_lines before behind rest more in
+    let own = entry_text p.0 w p.1 in
+    record {
+      front = own ++ found.front;
+      rest = found.rest;
+      fore = (w, found.front, shows, found.fore, refl);
+      lines = found.lines;
+      whole = is ∙ ap (λ (t : List ℕ). own ++ t) found.whole
+          ∙ sym (append_assoc own found.front found.rest);
+    }
+
+pub entered_in : (e : EnvironmentParts) (k : Kind) (bytes : List ℕ) (number : ℕ) (name : List ℕ)
+    (entry : EntryParts) → EntersAt e k bytes number name entry → (t : TableParts)
+    × HoldsTable e k bytes t × (entry_at t name ≡ Some entry)
+entered_in e kind.List bytes number name entry at = absurd at
+entered_in e kind.Project bytes number name entry at = absurd at
+entered_in e kind.Table bytes number name entry at = (
+  at.before ++ (name, entry) ∷ at.behind,
+  at.table,
+  entry_behind at.before name entry at.behind at.table.valid.names.0,
+)
+
+pub entered_at : (e : EnvironmentParts) (k : Kind) (bytes : List ℕ) (t : TableParts)
+    (name : List ℕ) (entry : EntryParts) → HoldsTable e k bytes t → entry_at t name ≡ Some entry →
+    (number : ℕ) × EntersAt e k bytes number name entry
+entered_at e kind.List bytes t name entry h at = absurd h
+entered_at e kind.Project bytes t name entry h at = absurd h
+entered_at e kind.Table bytes t name entry h at =
+    let found = split_there t name entry at in
+    let read : IsReadAs e (found.before ++ (name, entry) ∷ found.behind) bytes =
+    subst (λ (s : TableParts). IsReadAs e s bytes) found.whole h.text in
+    by found.before found.behind (subst (λ (s : TableParts). HoldsTable e kind.Table bytes s) found.whole h) read
+  where
+    by : (before behind : TableParts) →
+        HoldsTable e kind.Table bytes (before ++ (name, entry) ∷ behind) →
+        IsReadAs e (before ++ (name, entry) ∷ behind) bytes →
+        (number : ℕ) × EntersAt e kind.Table bytes number name entry
+    by before behind table (inl (lines, are, is)) =
+        let cut = cut_lines before ((name, entry) ∷ behind) lines are in
+        let front = header e ++ cut.front in (
+          length (lines_of front),
+          record {
+            before = before;
+            behind = behind;
+            table = table;
+            front = front;
+            rest = cut.rest;
+            whole = is ∙ ap (λ (t : List ℕ). header e ++ t) cut.whole
+                ∙ sym (append_assoc (header e) cut.front cut.rest);
+            fore = inl (cut.front, cut.fore, refl);
+            lines = cut.lines;
+            counted = refl;
+          },
+        )
+    by before behind table (inr are) =
+        let cut = cut_lines before ((name, entry) ∷ behind) bytes are in (
+          length (lines_of cut.front),
+          record {
+            before = before;
+            behind = behind;
+            table = table;
+            front = cut.front;
+            rest = cut.rest;
+            whole = cut.whole;
+            fore = inr cut.fore;
+            lines = cut.lines;
+            counted = refl;
+          },
+        )

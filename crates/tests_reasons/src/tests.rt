@@ -1,0 +1,5 @@
+//! One module a subject.
+
+mod lines;
+mod shown;
+mod worked;
