@@ -22,6 +22,7 @@ static const char ENVIRONMENT[] =
 /* The bytes of a text, and how many they are, as two arguments of a call. */
 #define BYTES(text) (const uint8_t *)(text), strlen(text)
 
+/* The rooms below have room for what goes out. A caller that doesn't know that compares the size first, as merge does here. */
 static void show(const char *call, tubrambutan_reply reply, const uint8_t *room)
 {
     if (reply.status == TUBRAMBUTAN_MISCUT) {
@@ -32,6 +33,22 @@ static void show(const char *call, tubrambutan_reply reply, const uint8_t *room)
         int is_line = room[reply.size - 1] == '\n';
         printf("%s: %.*s%s", call, (int)reply.size, (const char *)room, is_line ? "" : "\n");
     }
+}
+
+/* Texts with a zero byte between two, as two arguments of a call. */
+#define TEXTS(array) (const uint8_t *)(array), sizeof(array) - 1
+
+static void show_bytes(const char *call, tubrambutan_reply reply, const uint8_t *room)
+{
+    if (reply.status != 0) {
+        show(call, reply, room);
+        return;
+    }
+    printf("%s:", call);
+    for (size_t at = 0; at < reply.size; at++) {
+        printf(" %02x", room[at]);
+    }
+    printf("\n");
 }
 
 /* Merges inputs, in room that grows until the text fits. */
@@ -60,7 +77,7 @@ static void merge_and_check(void)
     const char table[] = "tomli open\n  range before 2 to end\n";
     char bytes[sizeof list + sizeof table];
     uint8_t room[256] = {0};
-    tubrambutan_part parts[] = {{TUBRAMBUTAN_LIST, strlen(list)}, {TUBRAMBUTAN_TABLE, strlen(table)}};
+    tubrambutan_part parts[] = {{TUBRAMBUTAN_LIST, strlen(list), 0}, {TUBRAMBUTAN_TABLE, strlen(table), 0}};
 
     strcpy(bytes, list);
     strcat(bytes, table);
@@ -72,8 +89,40 @@ static void merge_and_check(void)
     parts[0].kind = 3;
     parts[0].size += 1;
     merge("merge", parts, 2, bytes);
-    merge("merge", &(tubrambutan_part){TUBRAMBUTAN_LIST, 17}, 1, "flask>=2.0\nflask<");
+    merge("merge", &(tubrambutan_part){TUBRAMBUTAN_LIST, 17, 0}, 1, "flask>=2.0\nflask<");
     merge("merge", parts, 0, "");
+}
+
+/* A dependency group of a project file, whose name stands in front of it, and questions on what it demands. */
+static void groups_and_questions(void)
+{
+    const char bytes[] = "DOCS[dependency-groups]\ndocs = ['sphinx<8,>=5']\n";
+    tubrambutan_part part = {TUBRAMBUTAN_PROJECT, strlen(bytes) - 4, 4};
+    uint8_t room[64] = {0};
+
+    merge("group", &part, 1, bytes);
+    show_bytes("check each", tubrambutan_check_each(BYTES(ENVIRONMENT), &part, 1, BYTES(bytes), TEXTS("Sphinx 7\0" "sphinx 4\0" "sphinx 6rc1\0" "other 1\0" "sphinx\0" "- 1"), room, sizeof room), room);
+    part.kind = TUBRAMBUTAN_LIST;
+    merge("group", &part, 1, bytes);
+    part.kind = TUBRAMBUTAN_PROJECT;
+    part.group_size += 1;
+    part.size -= 1;
+    merge("group", &part, 1, bytes);
+}
+
+/* Why packages have their verdicts. */
+static void reasons(void)
+{
+    const char bytes[] = "flask>=3\n# why not\nflask<3\nflask!=2.1\nb open\n  range before 1 to end\n";
+    tubrambutan_part parts[] = {{TUBRAMBUTAN_LIST, 38, 0}, {TUBRAMBUTAN_TABLE, 31, 0}};
+    uint8_t room[128] = {0};
+
+    show("why", tubrambutan_why(BYTES(ENVIRONMENT), parts, 2, BYTES(bytes), BYTES("Flask"), room, sizeof room), room);
+    show("why", tubrambutan_why(BYTES(ENVIRONMENT), parts, 2, BYTES(bytes), BYTES("b"), room, sizeof room), room);
+    show("why", tubrambutan_why(BYTES(ENVIRONMENT), parts, 2, BYTES(bytes), BYTES("-"), room, sizeof room), room);
+    show("clashes", tubrambutan_clashes(BYTES(ENVIRONMENT), parts, 2, BYTES(bytes), room, sizeof room), room);
+    parts[0].size -= 1;
+    show("clashes", tubrambutan_clashes(BYTES(ENVIRONMENT), parts, 2, BYTES(bytes), room, sizeof room), room);
 }
 
 static void versions_and_clauses(void)
@@ -90,22 +139,6 @@ static void versions_and_clauses(void)
     show("compare", tubrambutan_compare(BYTES("1.0.dev1"), BYTES("1.0a1"), room, sizeof room), room);
     show("compare", tubrambutan_compare(BYTES("1.0"), BYTES("1.0.0"), room, sizeof room), room);
     show("compare", tubrambutan_compare(BYTES("1.0"), BYTES("1.0rc1"), room, sizeof room), room);
-}
-
-/* Texts with a zero byte between two, as two arguments of a call. */
-#define TEXTS(array) (const uint8_t *)(array), sizeof(array) - 1
-
-static void show_bytes(const char *call, tubrambutan_reply reply, const uint8_t *room)
-{
-    if (reply.status != 0) {
-        show(call, reply, room);
-        return;
-    }
-    printf("%s:", call);
-    for (size_t at = 0; at < reply.size; at++) {
-        printf(" %02x", room[at]);
-    }
-    printf("\n");
 }
 
 static void parts_and_keys(void)
@@ -142,7 +175,7 @@ static void parts_and_keys(void)
     show("version numbers", tubrambutan_version_numbers(BYTES("1.x"), numbers, 16, room, sizeof room), room);
 }
 
-/* As README has it. */
+/* As docs/CALLS.md has it. */
 static void read_me(void)
 {
     uint8_t room[64] = {0};
@@ -163,6 +196,8 @@ static void too_little_room(void)
 int main(void)
 {
     merge_and_check();
+    groups_and_questions();
+    reasons();
     versions_and_clauses();
     parts_and_keys();
     read_me();

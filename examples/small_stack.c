@@ -49,7 +49,7 @@ static void compare(void)
 static int asks(const char *what, uint32_t kind, const char *wanted)
 {
     uint8_t room[64] = {0};
-    tubrambutan_part part = {kind, strlen(text)};
+    tubrambutan_part part = {kind, strlen(text), 0};
     tubrambutan_reply reply = tubrambutan_check((const uint8_t *)ENVIRONMENT, strlen(ENVIRONMENT), &part, 1, (const uint8_t *)text, strlen(text),
                                                 (const uint8_t *)"a", 1, (const uint8_t *)"1", 1, false, room, sizeof room);
     int is_wanted = wanted == NULL ? reply.status == TUBRAMBUTAN_ANSWERED && reply.answer == 1

@@ -9,13 +9,15 @@
  * bytes, they are the text and those behind it stay; where it has fewer, no byte of it is changed: call again with room for `size`
  * bytes. No zero byte ends a text. Where the status is TUBRAMBUTAN_REFUSED, the text is the line that the program tells, with its
  * line feed ("refused input 1 line 2 code 57 33 12"; docs/CODES.md says what the codes mean). TUBRAMBUTAN_MISCUT is told of
- * parts that aren't those of the bytes; nothing goes out then.
+ * a kind that is none, of parts that aren't those of the bytes, or of a group that is asked for of no project file; nothing goes out then.
+ *
+ * Many texts in one. A zero byte stands between two of them, so no bytes are one empty text.
  *
  * What a caller owes. Where it breaks one of these, nothing is promised.
  * - A pointer isn't null, also beside a length of 0, and as many bytes (parts) can be read there as the length behind it says, fewer than
  *   2^63 bytes in all. Nothing changes them while the call runs. Parts stand where a tubrambutan_part may stand.
  * - The room's bytes can be read and written, and lie in nothing else that is handed to the call. Nothing else reads or writes them while it runs.
- *   They have been written before (calloc, not malloc).
+ *   They have been written before (calloc, not malloc). The same holds of the room for numbers, which stands where a uint64_t may stand.
  * - A bool is false or true.
  * - malloc, realloc and free are one allocator's, which aligns a block to each power of two up to 16 that divides its size, and which any thread
  *   that calls may use at once with others.
@@ -42,10 +44,13 @@ enum { TUBRAMBUTAN_ANSWERED = 0, TUBRAMBUTAN_MISCUT = 1, TUBRAMBUTAN_REFUSED = 2
 /* The kind of an input: a list of requirements, a pyproject.toml, or a printed table. docs/INPUTS.md says what each may hold. */
 enum { TUBRAMBUTAN_LIST = 0, TUBRAMBUTAN_PROJECT = 1, TUBRAMBUTAN_TABLE = 2 };
 
-/* An input in a buffer in which all stand one behind the other: its kind, and how many bytes it has. */
+/* An input in a buffer in which all stand one behind the other: its kind, how many bytes it has, and how many bytes in front of them are the
+ * name of the dependency group that is asked for of a project file, in place of its dependencies (PEP 735). The last is 0 where no group
+ * is asked for, as of each list and table. An extra is a variable of the environment. */
 typedef struct {
     uint32_t kind;
     size_t size;
+    size_t group_size;
 } tubrambutan_part;
 
 /* The library is made for addresses of 64 bits. */
@@ -72,6 +77,25 @@ tubrambutan_reply tubrambutan_check(const uint8_t *environment, size_t environme
                                     size_t part_count, const uint8_t *bytes, size_t byte_count, const uint8_t *name,
                                     size_t name_size, const uint8_t *version, size_t version_size, bool wants_pre_releases,
                                     uint8_t *room, size_t room_size);
+
+/* What such inputs say of many versions. They are read once. Each question is a name, a space and a version, with a zero byte between two
+ * questions. For each there is one byte: 0 where a demand on the package isn't met; 1 where all are and the version is no pre-release, 3 where
+ * all are and it is one; 4 where two different URLs are demanded; 2 where the question has no name or no version. */
+tubrambutan_reply tubrambutan_check_each(const uint8_t *environment, size_t environment_size, const tubrambutan_part *parts,
+                                         size_t part_count, const uint8_t *bytes, size_t byte_count, const uint8_t *questions,
+                                         size_t questions_size, uint8_t *room, size_t room_size);
+
+/* Why the package with this name has its verdict on what such inputs demand, as lines: "NAME VERDICT", where the verdict is "open", "none" or
+ * "conflict"; "claim I N TEXT" for each requirement on it that applies, and for each entry of a table on it, in order, where I is the number
+ * of the input, N that of the line there (of an entry its first, of a project file that of the text), both counted from 1, and TEXT the
+ * requirement's normal text, of an entry the name; and "clash I N TEXT" for each of these that clash: without any one of them the others don't. */
+tubrambutan_reply tubrambutan_why(const uint8_t *environment, size_t environment_size, const tubrambutan_part *parts,
+                                  size_t part_count, const uint8_t *bytes, size_t byte_count, const uint8_t *name, size_t name_size,
+                                  uint8_t *room, size_t room_size);
+
+/* The same lines for each package whose verdict isn't open, in the byte order of the names. The inputs are read again for each. */
+tubrambutan_reply tubrambutan_clashes(const uint8_t *environment, size_t environment_size, const tubrambutan_part *parts,
+                                      size_t part_count, const uint8_t *bytes, size_t byte_count, uint8_t *room, size_t room_size);
 
 /* The normal text of a version (PEP 440, "Normalization"). */
 tubrambutan_reply tubrambutan_version(const uint8_t *version, size_t version_size, uint8_t *room, size_t room_size);

@@ -50,8 +50,8 @@ answer_byte false is_pre = 0
 answer_byte true false = 1
 answer_byte true true = 3
 
--- 0 if a clause doesn't admit the version that the text spells, 1 if all do, or 3 if it is a pre-release too; and 2 if the
--- text spells none
+-- 0 if a clause doesn't admit the version that the text spells, 1 if all do, or 3 if it is a pre-release
+-- too; and 2 if the text spells none
 abbrev pub AnswersText : List Clause → List ℕ → ℕ → Type 0
 AnswersText cs text n =
     ((v : Version) × Reads text (Ok v) × (n ≡ answer_byte (list_all (λ c. admits c v) cs) (is_pre_release v)))

@@ -1,16 +1,13 @@
 -- What is said of inputs that come in as bytes, in the environment of a file's bytes.
-use Rattle.std.specs.Prelude.{◌≡◌, ℕ, ◌⊎◌, List, All, Some, None, Ok, Err, Bool, IsUtf8}
+use Rattle.std.specs.Prelude.{◌≡◌, ℕ, ◌⊎◌, List, All, Some, Ok, Err, Bool}
 use Rattle.std.specs.Prelude.{ℤ, pos, negsuc}
 use Rattle.pep_version.specs.Spelling.{Reads}
 use Rattle.pep_version.specs.Version.{Version}
 use Rattle.pep_marker.specs.Environment.{EnvironmentParts}
 use Rattle.pep_marker.specs.Name.{name_of}
-use Rattle.pep_marker.specs.declared.fault.MarkerFault.TheVariants as marker_fault
 use Rattle.demands.specs.Answer.{IsAnswer}
 use Rattle.demands.specs.declared.verdict.Answer.{Answer}
 use Rattle.demands.specs.declared.verdict.Answer.TheVariants.{Conflict, No, Yes}
-use Rattle.faults.specs.InnerFault.{fault_of_argument}
-use Rattle.faults.specs.declared.fault.ArgumentFault.TheVariants as argument
 use Rattle.faults.specs.declared.fault.Fault.{Fault}
 use Rattle.faults.specs.declared.fault.Place.TheVariants as place
 use Rattle.documents.specs.EnvironmentFile.{environment_file}
@@ -18,7 +15,8 @@ use Rattle.inputs.specs.declared.input.Input.{Input}
 use Rattle.inputs.specs.Gathered.{Gathered, IsAccepted}
 use Rattle.inputs.specs.Merge.{IsMerge}
 use Rattle.inputs.specs.Refusal.{BlamesInput}
-use Rattle.pep_c.specs.Parts.{HoldsInputs}
+use Rattle.pep_c.specs.Names.{IsNoName}
+use Rattle.pep_c.specs.Parts.{HoldsInputs, RefusesGroup}
 use Rattle.pep_c.specs.Versions.{RefusesVersion}
 use Rattle.pep_c.specs.declared.parts.Part.{Part}
 pub use Rattle.pep_c.specs.Parts.{IsMiscut}
@@ -41,10 +39,10 @@ pub data RefusesInputs (environment : List ℕ) (inputs : List Input) (fault : F
   by_input : (e : EnvironmentParts) → environment_file environment ≡ Ok e →
       BlamesInput e inputs fault → RefusesInputs environment inputs fault
 
--- .. inputs that stand in one buffer
+-- .. inputs that stand in one buffer: the text of a group is no name, or they are refused
 abbrev pub RefusesMerge : List ℕ → List Part → List ℕ → Fault → Type 0
-RefusesMerge environment parts bytes fault =
-    (inputs : List Input) × HoldsInputs parts bytes inputs × RefusesInputs environment inputs fault
+RefusesMerge environment parts bytes fault = RefusesGroup parts bytes fault
+    ⊎ ((inputs : List Input) × HoldsInputs parts bytes inputs × RefusesInputs environment inputs fault)
 
 -- ---- the check of a version
 
@@ -79,11 +77,6 @@ ChecksParts environment parts bytes name version want_pre number =
     (inputs : List Input) × HoldsInputs parts bytes inputs
     × Checks environment inputs name version want_pre number
 
--- the bytes are no name
-pub record IsNoName (bytes : List ℕ) (fault : Fault) : Type 0 where
-  pub none : ¬ IsUtf8 bytes ⊎ (name_of bytes ≡ None)
-  pub is : fault ≡ fault_of_argument (argument.Name marker_fault.BadName)
-
 -- why a check is refused: the version is, or else the name, or else the environment or an input
 pub data RefusesAsked (environment : List ℕ) (inputs : List Input) (name version : List ℕ)
     (fault : Fault) : Type 0 where
@@ -96,6 +89,6 @@ pub data RefusesAsked (environment : List ℕ) (inputs : List Input) (name versi
 
 -- .. of inputs that stand in one buffer
 abbrev pub RefusesCheck : List ℕ → List Part → List ℕ → List ℕ → List ℕ → Fault → Type 0
-RefusesCheck environment parts bytes name version fault =
-    (inputs : List Input) × HoldsInputs parts bytes inputs
-    × RefusesAsked environment inputs name version fault
+RefusesCheck environment parts bytes name version fault = RefusesGroup parts bytes fault
+    ⊎ ((inputs : List Input) × HoldsInputs parts bytes inputs
+    × RefusesAsked environment inputs name version fault)

@@ -3,7 +3,10 @@ pub mod Fields
 pub mod FirstLine
 pub mod Inputs
 pub mod Keys
+pub mod Names
 pub mod Parts
+pub mod Questions
 pub mod Requirements
 pub mod Room
 pub mod Versions
+pub mod Why

@@ -144,9 +144,10 @@ fn answers_each(alloc: Global, bytes: &[u8], texts: &[u8]) -> Result<Vec<u8>, Fa
     }
 }
 
-/// The normal texts of the clauses that the bytes write, with a comma between two (PEP 440, "Version specifiers"), each on a line of its own.
-/// A piece between commas that is white space alone is passed over. The first piece that is no clause is refused as line 1 of input 1, 57 with 51 or with 33 and
-/// 11 to 16; or the refusal is 60.
+/// The normal texts of the clauses that the bytes write, with a comma between two (PEP 440, "Version
+/// specifiers"), each on a line of its own. A piece between commas that is white space alone is passed
+/// over. The first piece that is no clause is refused as line 1 of input 1, 57 with 51 or with 33 and 11 to
+/// 16; or the refusal is 60.
 #[unsafe(no_mangle)]
 pub extern "C" fn tubrambutan_clauses(alloc: Global, bytes: &[u8], room: &mut [u8]) -> Reply
     ensures status { (result.status ≡ ANSWERED) ⊎ (result.status ≡ REFUSED) }
@@ -159,9 +160,10 @@ pub extern "C" fn tubrambutan_clauses(alloc: Global, bytes: &[u8], room: &mut [u
     give_text(alloc, clause_lines(alloc, bytes), room)
 }
 
-/// Which versions all clauses admit that the bytes write (see [`tubrambutan_clauses`], whose refusals it has): for each text between zero
-/// bytes one byte: 0 if one of the clauses doesn't admit the version that the text spells; 1 if they all do and it is no pre-release, 3 if they all do and it is
-/// one; and 2 if the text is no version.
+/// Which versions all clauses admit that the bytes write (see [`tubrambutan_clauses`], whose refusals it
+/// has): for each text between zero bytes one byte: 0 if one of the clauses doesn't admit the version that
+/// the text spells; 1 if they all do and it is no pre-release, 3 if they all do and it is one; and 2 if the
+/// text is no version.
 #[unsafe(no_mangle)]
 pub extern "C" fn tubrambutan_admits_each(
     alloc: Global,

@@ -87,8 +87,8 @@ fn push_marker(alloc: Global, text: &mut String, marker: Option<&Marker>) -> Res
     }
 }
 
-/// The lines of a requirement: `name N`, `extra E` for each extra, `clause C` for each clause or `url U` as it was
-/// written, and `marker M` where there is one.
+/// The lines of a requirement: `name N`, `extra E` for each extra, `clause C` for each clause or `url U` as
+/// it was written, and `marker M` where there is one.
 pub(crate) fn fields_of(alloc: Global, requirement: &Requirement) -> Result<String, AllocError>
     ensures { IfOk result (λ text.
         string_bytes text ≡ requirement_fields (requirement_parts requirement.now)) }

@@ -133,9 +133,9 @@ fn numbers_of(alloc: Global, bytes: &[u8]) -> Result<Vec<u64>, Fault>
     }
 }
 
-/// The key of the version that the bytes spell (see [`Key::bytes`](pep_version::Key::bytes)): the byte order of keys is
-/// the order of versions (PEP 440, "Summary of permitted suffixes and relative ordering"), and versions that are the same in order have one
-/// key. It is refused as 62 with 1 or 2, or as 60.
+/// The key of the version that the bytes spell (see [`Key::bytes`](pep_version::Key::bytes)): the byte
+/// order of keys is the order of versions (PEP 440, "Summary of permitted suffixes and relative ordering"),
+/// and versions that are the same in order have one key. It is refused as 62 with 1 or 2, or as 60.
 #[unsafe(no_mangle)]
 pub extern "C" fn tubrambutan_key(alloc: Global, bytes: &[u8], room: &mut [u8]) -> Reply
     ensures status { (result.status ≡ ANSWERED) ⊎ (result.status ≡ REFUSED) }
@@ -148,8 +148,9 @@ pub extern "C" fn tubrambutan_key(alloc: Global, bytes: &[u8], room: &mut [u8]) 
     give_bytes(alloc, key_of(alloc, bytes), room)
 }
 
-/// The keys of the versions that the texts between zero bytes spell, in turn: of each its length as eight bytes, the most significant
-/// first, and the key. A text that is no version has the length 0. The only refusal is 60.
+/// The keys of the versions that the texts between zero bytes spell, in turn: of each its length as eight
+/// bytes, the most significant first, and the key. A text that is no version has the length 0. The only
+/// refusal is 60.
 #[unsafe(no_mangle)]
 pub extern "C" fn tubrambutan_keys(alloc: Global, texts: &[u8], room: &mut [u8]) -> Reply
     ensures status { (result.status ≡ ANSWERED) ⊎ (result.status ≡ REFUSED) }
@@ -162,10 +163,11 @@ pub extern "C" fn tubrambutan_keys(alloc: Global, texts: &[u8], room: &mut [u8])
     give_bytes(alloc, keys_of(alloc, texts), room)
 }
 
-/// The numbers of the version that the bytes spell: the epoch; the phase of a pre-release (1 for `a`, 2 for `b`, 3 for `rc`) and its number; 1
-/// and the number of a post-release; 1 and the number of a developmental release; each of these 0 and 0 where there is none; and then the numbers of the
-/// release, with the zeros at its end. The size of the reply counts them. The local version label is what follows the `+` of the normal
-/// text. It is refused as 62 with 1 or 2, or as 60, and then the line goes into the room.
+/// The numbers of the version that the bytes spell: the epoch; the phase of a pre-release (1 for `a`, 2 for
+/// `b`, 3 for `rc`) and its number; 1 and the number of a post-release; 1 and the number of a developmental
+/// release; each of these 0 and 0 where there is none; and then the numbers of the release, with the zeros
+/// at its end. The size of the reply counts them. The local version label is what follows the `+` of the
+/// normal text. It is refused as 62 with 1 or 2, or as 60, and then the line goes into the room.
 #[unsafe(no_mangle)]
 pub extern "C" fn tubrambutan_version_numbers(
     alloc: Global,

@@ -1,20 +1,19 @@
 //! The merge and the check of inputs, in the environment of a file's bytes.
 
-ghost use Rattle.std.specs.Prelude.{◌≡◌, ◌≢◌, ◌⊎◌, ◌≤◌, IfErr, IfOk, Some, pos, string_bytes};
-ghost use Rattle.pep_marker.specs.Name.{name_of};
+ghost use Rattle.std.specs.Prelude.{◌≡◌, ◌≢◌, ◌⊎◌, ◌≤◌, IfErr, IfOk, pos, string_bytes};
 ghost use Rattle.faults.specs.NoMemory.{no_memory};
-ghost use Rattle.pep_c.specs.Inputs.{Checks, IsNoName, Merges, RefusesAsked, RefusesInputs};
+ghost use Rattle.pep_c.specs.Inputs.{Checks, Merges, RefusesAsked, RefusesInputs};
 ghost use Rattle.pep_c.specs.Inputs.{ChecksParts, MergesParts, RefusesCheck, RefusesMerge};
 ghost use Rattle.pep_c.specs.Inputs.{answer_number};
 ghost use Rattle.pep_c.specs.Parts.{IsMiscut};
 ghost use Rattle.pep_c.specs.Room.{GivesNothing, GivesText, TellsRefusal};
 
+use crate::names::read_name;
 use crate::parts::{CutFault, Part, inputs_of};
 use crate::reply::{ANSWERED, MISCUT, REFUSED, Reply, give_answer, give_text, miscut, tell};
 use crate::versions::read_version;
-use faults::{ArgumentFault, Fault};
+use faults::Fault;
 use inputs::{Input, check_bytes, environment_of, merge_bytes};
-use pep_marker::{MarkerFault, Name};
 use pep_table::Answer;
 use std::alloc::Global;
 
@@ -27,40 +26,6 @@ fn merged(alloc: Global, environment: &[u8], inputs: &[Input]) -> Result<String,
 {
     let environment = environment_of(alloc, environment)?;
     merge_bytes(alloc, inputs, &environment)
-}
-
-// The name that a text is.
-fn name_of(alloc: Global, text: &str) -> Result<Name, Fault>
-    ensures name { IfOk result (λ name. name_of text.now ≡ Some name) }
-    ensures refused { IfErr result (λ fault. (fault ≡ no_memory) ⊎ IsNoName text.now fault) }
-{
-    match Name::read(alloc, text) {
-        Ok(name) => Ok(name),
-        Err(fault) => Err(Fault::of_argument(ArgumentFault::Name(fault))),
-    }
-}
-
-// The name that the bytes are.
-fn read_name(alloc: Global, bytes: &[u8]) -> Result<Name, Fault>
-    ensures name { IfOk result (λ name. name_of bytes.now ≡ Some name) }
-    ensures refused { IfErr result (λ fault. (fault ≡ no_memory) ⊎ IsNoName bytes.now fault) }
-{
-    match str::from_utf8(bytes) {
-        Ok(text) => name_of(alloc, text),
-        Err(_) => Err(Fault::of_argument(ArgumentFault::Name(MarkerFault::BadName))),
-    }
-}
-
-// The normalized text of a name.
-fn name_text(alloc: Global, bytes: &[u8]) -> Result<String, Fault>
-    ensures text { IfOk result (λ text. name_of bytes.now ≡ Some (string_bytes text)) }
-    ensures refused { IfErr result (λ fault. (fault ≡ no_memory) ⊎ IsNoName bytes.now fault) }
-{
-    let name = read_name(alloc, bytes)?;
-    match String::from_str(alloc, name.text()) {
-        Ok(text) => Ok(text),
-        Err(_) => Err(Fault::no_memory()),
-    }
 }
 
 // An answer as a number.
@@ -100,9 +65,10 @@ fn checked(
 /// [`merge_bytes`](inputs::merge_bytes)), in the environment of the file with the bytes
 /// `environment` (see [`environment_of`](inputs::environment_of)).
 ///
-/// It is `MISCUT` where a part has a kind that is none, or where the sizes of the parts together
-/// aren't the number of bytes. A refusal is that of the environment, 51, 52, 55, 56 or 59; or that of
-/// an input, 51 to 57; or 60.
+/// It is `MISCUT` where a part has a kind that is none, or asks for a dependency group of a list or a
+/// table, or where the sizes of the parts together aren't the number of bytes. A refusal is that of the
+/// text of a group that is no name, 62 with 21; or else that of the environment, 51, 52, 55, 56 or 59; or
+/// that of an input, 51 to 57, or with a group 65 to 67; or 60.
 #[unsafe(no_mangle)]
 pub extern "C" fn tubrambutan_merge(
     alloc: Global,
@@ -123,7 +89,7 @@ pub extern "C" fn tubrambutan_merge(
     match inputs_of(alloc, parts, bytes) {
         Ok(inputs) => give_text(alloc, merged(alloc, environment, inputs.as_slice()), room),
         Err(CutFault::Miscut) => miscut(),
-        Err(CutFault::NoMemory) => tell(alloc, &Fault::no_memory(), room),
+        Err(CutFault::Refused(fault)) => tell(alloc, &fault, room),
     }
 }
 
@@ -160,19 +126,6 @@ pub extern "C" fn tubrambutan_check(
             give_answer(alloc, answer, room)
         }
         Err(CutFault::Miscut) => miscut(),
-        Err(CutFault::NoMemory) => tell(alloc, &Fault::no_memory(), room),
+        Err(CutFault::Refused(fault)) => tell(alloc, &fault, room),
     }
-}
-
-/// The normalized text of the name that the bytes are (PEP 503, "Normalized Names"). It is refused as 62 with 21, or as 60.
-#[unsafe(no_mangle)]
-pub extern "C" fn tubrambutan_name(alloc: Global, bytes: &[u8], room: &mut [u8]) -> Reply
-    ensures status { (result.status ≡ ANSWERED) ⊎ (result.status ≡ REFUSED) }
-    ensures answer { result.answer ≡ pos 0 }
-    ensures text { result.status ≡ ANSWERED →
-        GivesText (λ text. name_of bytes.now ≡ Some text) result.size room.old room.new }
-    ensures refused { result.status ≡ REFUSED →
-        TellsRefusal (IsNoName bytes.now) result.size room.old room.new }
-{
-    give_text(alloc, name_text(alloc, bytes), room)
 }

@@ -80,9 +80,10 @@ fn requirement_fields(alloc: Global, bytes: &[u8]) -> Result<String, Fault>
     }
 }
 
-/// The parts of the requirement that the bytes are (PEP 508, "Grammar"), each on a line of its own: `name N`, normalized; `extra E` for each
-/// extra, in byte order; `clause C` for each clause, as it stands there, or `url U`, as it was written; and `marker M`, where there is one. It is refused as line 1 of input 1,
-/// as 57 with 31 to 39 or 51; or as 60.
+/// The parts of the requirement that the bytes are (PEP 508, "Grammar"), each on a line of its own: `name N`,
+/// normalized; `extra E` for each extra, in byte order; `clause C` for each clause, in its normal form, or
+/// `url U`, as it was written; and `marker M`, where there is one. A refusal names line 1 of input 1, with 57
+/// and 31 to 39 or 51; or it is 60.
 #[unsafe(no_mangle)]
 pub extern "C" fn tubrambutan_requirement_parts(
     alloc: Global,

@@ -1,4 +1,4 @@
-use Rattle.pep_c.proofs.ClauseListLemmas.{answered_more, none_answered}
+use Rattle.pep_c.proofs.EachText.{answered_more, none_answered}
 use Rattle.pep_c.proofs.clause_lists.answers_of.Goals as goal
 
 pub loop-rest-init : goal.loop-rest-init

@@ -1,13 +1,9 @@
-use Rattle.std.proofs.Common.{ℕ, suc, ◌==◌, List, length, Option, Some, None}
-use Rattle.std.specs.Borrow.{Bor}
+use Rattle.std.proofs.Common.{◌==◌}
 use Rattle.std.specs.List.{slice_split}
 use Rattle.texts.specs.Split.{left_parts}
+use Rattle.pep_c.proofs.EachText.{left_len}
 use Rattle.pep_c.proofs.KeyLemmas.{Taken}
 use Rattle.pep_c.proofs.keys.keys_of.Given as goal
-
-abbrev left_len : Option (Bor (List ℕ)) → ℕ
-left_len None = 0
-left_len (Some rest) = suc (length rest.now)
 
 -- the texts before this place have these keys
 abbrev pub invariant-loop-rest : goal.invariant-loop-rest
