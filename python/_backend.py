@@ -15,6 +15,8 @@ import zipfile
 HERE = os.path.dirname(os.path.abspath(__file__))
 NAME = "tubrambutan"
 OBJECT = "libtubrambutan.so"
+# (the program has the name of the package)
+SCRIPT = "tubrambutan-python"
 TAGS = ("py3-none-manylinux_2_17_x86_64", "py3-none-manylinux2014_x86_64")
 TAG = "py3-none-manylinux_2_17_x86_64.manylinux2014_x86_64"
 METADATA = """Metadata-Version: 2.1
@@ -68,6 +70,7 @@ def _info_files():
     tags = "".join(f"Tag: {it}\n" for it in TAGS)
     return {
         f"{_info()}/METADATA": METADATA.format(version=_version()).encode(),
+        f"{_info()}/entry_points.txt": f"[console_scripts]\n{SCRIPT} = {NAME}.__main__:main\n".encode(),
         f"{_info()}/WHEEL": f"Wheel-Version: 1.0\nGenerator: {NAME}\nRoot-Is-Purelib: false\n{tags}".encode(),
     }
 

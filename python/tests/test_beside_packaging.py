@@ -1,9 +1,13 @@
 """The types beside those of `packaging`, on random texts: the same answers, or a rule of docs/PYTHON.md explains why not."""
 
+from __future__ import annotations
+
+import functools
 import os
 import random
 import sys
 import unittest
+from typing import Callable, Optional, TypeVar, Union
 
 from tubrambutan import Marker, Refused, Requirement, Specifier, Version, canonicalize_name
 from test_tables import STANDARD
@@ -16,13 +20,16 @@ try:
     import packaging.specifiers
     import packaging.utils
     import packaging.version
+
+    IS_THERE = True
 except ImportError:
-    packaging = None
+    IS_THERE = False
 finally:
     sys.path.remove("/usr/lib/python3/dist-packages")
 
-COUNT = int(os.environ.get("TUBRAMBUTAN_RANDOM", "4000"))
+COUNT = int(os.environ.get("TUBRAMBUTAN_RANDOM", "20000"))
 LARGE = "18446744073709551616"
+T = TypeVar("T")
 OPERATORS = ("~=", "==", "!=", "<=", ">=", "<", ">", "===")
 VARIABLES = [it for it in STANDARD if it not in ("platform_version", "platform_release")]
 
@@ -30,35 +37,38 @@ VARIABLES = [it for it in STANDARD if it not in ("platform_version", "platform_r
 class Texts:
     """Random texts, most of them well formed."""
 
-    def __init__(self, seed):
+    def __init__(self, seed: int) -> None:
         self._chance = random.Random(seed)
         self.pick = self._chance.choice
 
-    def number(self):
+    def number(self) -> str:
         return self.pick(["0", "1", "2", "3", "10", "007", "2024", LARGE if self._chance.random() < 0.02 else "4"])
 
-    def release(self):
+    def release(self) -> str:
         return ".".join(self.number() for _ in range(self.pick([1, 2, 2, 3, 4])))
 
-    def maybe(self, share, text):
+    def maybe(self, share: float, text: str) -> str:
         return text if self._chance.random() < share else ""
 
-    def version(self):
-        sep = lambda: self.pick(["", "", ".", "-", "_"])
+    def separator(self) -> str:
+        return self.pick(["", "", ".", "-", "_"])
+
+    def version(self) -> str:
+        sep = self.separator
         pre = self.maybe(0.3, sep() + self.pick(["a", "b", "rc", "c", "alpha", "BETA", "pre", "preview"]) + sep() + self.maybe(0.8, self.number()))
         post = self.maybe(0.25, self.pick(["-" + self.number(), sep() + self.pick(["post", "rev", "r"]) + sep() + self.maybe(0.8, self.number())]))
         dev = self.maybe(0.2, sep() + "dev" + sep() + self.maybe(0.8, self.number()))
         label = self.maybe(0.15, "+" + self.pick(["x", "1", "Ubuntu-01", "a.b_3", "", "9z"]))
         return self.maybe(0.1, "v") + self.maybe(0.1, self.pick(["0!", "1!"])) + self.release() + pre + post + dev + label + self.maybe(0.03, self.pick(["x", ".", "!", " "]))
 
-    def clause(self):
+    def clause(self) -> str:
         operator = self.pick(OPERATORS)
         return operator + self.maybe(0.2, " ") + (self.release() + ".*" if self._chance.random() < 0.2 else self.version())
 
-    def name(self):
+    def name(self) -> str:
         return self.pick(["a", "Flask", "zope.interface", "A__b", "x-1", "-a", "a_"])
 
-    def marker(self, depth=2):
+    def marker(self, depth: int = 2) -> str:
         if depth and self._chance.random() < 0.4:
             inner = f"{self.marker(depth - 1)} {self.pick(['and', 'or'])} {self.marker(depth - 1)}"
             return f"({inner})" if self._chance.random() < 0.5 else inner
@@ -66,14 +76,14 @@ class Texts:
         right = self.pick(["posix", "3.9", "3.10", "3", "linux", "CPython", "2.7"])
         return f"{left} {self.pick(['==', '!=', '<', '>=', 'in', 'not in', '~='])} '{right}'"
 
-    def requirement(self):
+    def requirement(self) -> str:
         extras = self.maybe(0.2, self.pick(["[x]", "[x,Y_z]", "[]", "[x"]))
         clauses = ",".join(self.clause() for _ in range(self.pick([0, 1, 1, 2])))
         target = self.pick([clauses, clauses, f"({clauses})", " @ https://x.test/1"])
         return self.name() + extras + target + self.maybe(0.2, " ; " + self.marker(1))
 
 
-def told(call):
+def told(call: Callable[[], T]) -> Optional[T]:
     """Returns what a call gives, or None where it refuses its text."""
     try:
         return call()
@@ -85,13 +95,13 @@ def told(call):
         raise
 
 
-def parts(it):
+def parts(it: Union[Version, packaging.version.Version]) -> tuple[object, ...]:
     return (it.epoch, it.release, it.pre, it.post, it.dev, it.local, it.public, it.base_version, it.is_prerelease, it.is_postrelease, it.is_devrelease, str(it))
 
 
-def is_near(clause, version):
+def is_near(text: str, version: packaging.version.Version) -> bool:
     """Tells whether a clause with `<` or `>` and a version of the same release, beside which the two read PEP 440 differently."""
-    clause = packaging.specifiers.Specifier(clause)
+    clause = packaging.specifiers.Specifier(text)
     if clause.operator not in ("<", ">"):
         return False
     bound = packaging.version.Version(clause.version)
@@ -100,13 +110,13 @@ def is_near(clause, version):
     return bound.epoch == version.epoch and padded[0] == padded[1]
 
 
-@unittest.skipIf(packaging is None, "NOT COMPARED WITH packaging, WHICH IS NOT INSTALLED (Debian: python3-packaging)")
+@unittest.skipUnless(IS_THERE, "NOT COMPARED WITH packaging, WHICH IS NOT INSTALLED (Debian: python3-packaging)")
 class BesidePackaging(unittest.TestCase):
-    def compare(self, text, ours, theirs, explained):
+    def compare(self, text: object, ours: object, theirs: object, explained: Callable[[], bool]) -> None:
         if ours != theirs and not explained():
             self.fail(f"{text!r}: {ours!r}, and packaging {theirs!r}")
 
-    def test_versions(self):
+    def test_versions(self) -> None:
         texts, before = Texts(1), None
         for _ in range(COUNT):
             text = texts.version()
@@ -117,7 +127,7 @@ class BesidePackaging(unittest.TestCase):
                 self.assertEqual(order[0], order[1], (text, str(before[0])))
             before = (ours, theirs) if ours and theirs else before
 
-    def test_clauses(self):
+    def test_clauses(self) -> None:
         texts = Texts(2)
         for _ in range(COUNT):
             text, version = texts.clause(), texts.version()
@@ -128,11 +138,11 @@ class BesidePackaging(unittest.TestCase):
                 # (`packaging` takes the prefix of `~=` from the text as it was written)
                 written = packaging.specifiers.Specifier(str(ours))
                 answers = ours.contains(version, prereleases=True), written.contains(version, prereleases=True)
-                self.compare((text, version), *answers, lambda: is_near(text, candidate))
+                self.compare((text, version), *answers, functools.partial(is_near, text, candidate))
                 if not text.startswith("==="):
                     self.assertEqual((ours.operator, ours.prereleases), (theirs.operator, theirs.prereleases), text)
 
-    def test_requirements(self):
+    def test_requirements(self) -> None:
         texts = Texts(3)
         for _ in range(COUNT):
             text = texts.requirement()
@@ -143,8 +153,10 @@ class BesidePackaging(unittest.TestCase):
                 name, extras = packaging.utils.canonicalize_name(theirs.name), {packaging.utils.canonicalize_name(it) for it in theirs.extras}
                 self.assertEqual((ours.name, ours.extras, ours.url), (name, extras, theirs.url), text)
                 self.assertEqual({it.operator for it in ours.specifier}, {it.operator for it in theirs.specifier}, text)
+                again = Requirement(str(ours))
+                self.assertEqual((again, str(again)), (ours, str(ours)), text)
 
-    def test_markers(self):
+    def test_markers(self) -> None:
         texts, environment = Texts(4), {**STANDARD, "extra": ""}
         for _ in range(COUNT // 4):
             text = texts.marker()
@@ -152,7 +164,7 @@ class BesidePackaging(unittest.TestCase):
             # (of two sides `packaging` may judge one alone, and it refuses to compare a text that is no version with one that is)
             self.compare(text, ours, theirs, lambda: ours is None or theirs is None)
 
-    def test_names(self):
+    def test_names(self) -> None:
         for text in ("A", "a--B_.c", "x1", "Zope.Interface"):
             self.assertEqual(canonicalize_name(text), packaging.utils.canonicalize_name(text))
 

@@ -1,26 +1,36 @@
 """Calls in threads, and many calls."""
 
+from __future__ import annotations
+
 import concurrent.futures
 import gc
+import os
 import resource
+import subprocess
+import sys
 import threading
 import time
 import unittest
+from typing import Any, Callable, Optional, TypeVar
 
-from tubrambutan import Refused, Version, admits, merge, requirement_text
+import tubrambutan
+from tubrambutan import Refused, Table, Version, admits, merge, requirement_text
 from test_tables import STANDARD
 
+T = TypeVar("T")
 
-def pages():
+
+def pages() -> int:
     """Returns how much memory the process has, in bytes."""
     with open("/proc/self/statm", encoding="ascii") as it:
         return int(it.read().split()[1]) * resource.getpagesize()
 
 
-def call_each():
+def call_each() -> int:
     """Calls each function of the library, and returns how often."""
     package = merge(lists=["a>=1,!=1.5\nb"], environment=STANDARD)["a"]
     package.admits("1.5")
+    list(package.filter(["1.5", "1.6"]))
     sum(Version("1.0") < Version(f"1.{i}") for i in range(5))
     admits("~=1.4", "1.5")
     requirement_text("a[x]>=1 ; os_name=='nt'")
@@ -33,11 +43,11 @@ def call_each():
     try:
         merge(lists=["a<"], environment=STANDARD)
     except Refused:
-        return 1 + 1 + 15 + 1 + 1 + 3 + 1
+        return 1 + 1 + 1 + 15 + 1 + 1 + 3 + 1
     raise AssertionError("a<")
 
 
-def codes_of(**inputs):
+def codes_of(**inputs: Any) -> Optional[tuple[int, ...]]:
     """Returns the codes by which the inputs are refused, or None where they are merged."""
     try:
         merge(**inputs)
@@ -46,9 +56,10 @@ def codes_of(**inputs):
     return None
 
 
-def in_a_small_stack(call):
+def in_a_small_stack(call: Callable[[], T]) -> T:
     """Returns what a call gives on a thread with the least stack that the package asks for."""
-    found, size = [], threading.stack_size(512 * 1024)
+    found: list[T] = []
+    size = threading.stack_size(512 * 1024)
     try:
         thread = threading.Thread(target=lambda: found.append(call()))
         thread.start()
@@ -59,10 +70,10 @@ def in_a_small_stack(call):
 
 
 class Calls(unittest.TestCase):
-    def test_a_call_gives_the_lock_back(self):
+    def test_a_call_gives_the_lock_back(self) -> None:
         lists = ["".join(f"n{i}!=1.{i % 97}\n" for i in range(400_000))]
         began, ticks = time.monotonic(), 0
-        tables = []
+        tables: list[Table] = []
         thread = threading.Thread(target=lambda: tables.append(merge(lists=lists, environment=STANDARD)))
         thread.start()
         while thread.is_alive():
@@ -74,19 +85,19 @@ class Calls(unittest.TestCase):
         self.assertGreater(ticks, 20)
         self.assertEqual([len(table) for table in tables], [400_000])
 
-    def test_calls_at_once(self):
-        def merged(i):
+    def test_calls_at_once(self) -> None:
+        def merged(i: int) -> bool:
             table = merge(lists=[f"n{i}>={j}" for j in range(20)], environment=STANDARD)
-            return list(table) == [f"n{i}"] and table[f"n{i}"].ranges[0].low == "before 19" and str(Version(f"{i}.0a")) == f"{i}.0a0"
+            return list(table) == [f"n{i}"] and str(table[f"n{i}"].ranges[0].low) == "before 19" and str(Version(f"{i}.0a")) == f"{i}.0a0"
 
         with concurrent.futures.ThreadPoolExecutor(8) as pool:
             self.assertTrue(all(pool.map(merged, range(2_000))))
 
-    def test_the_largest_marker_in_a_small_stack(self):
+    def test_the_largest_marker_in_a_small_stack(self) -> None:
         marker = "(" * 64 + " or ".join(["python_version == '1'"] * 1_023) + ")" * 64 + " or os_name == 'posix'"
         self.assertEqual(in_a_small_stack(lambda: list(merge(lists=[f"a; {marker}"], environment=STANDARD))), ["a"])
 
-    def test_the_deepest_documents_in_a_small_stack(self):
+    def test_the_deepest_documents_in_a_small_stack(self) -> None:
         for parts, behind, codes in ((8, "", None), (8, "\n=", (52,)), (8, "\nx=1", (52,)), (8, "\n[z]\n[z]", (52,)), (80, "", (52,)), (80, "\n=", (52,))):
             deep = "x=" + ("{" + ".".join("b" * parts) + "=") * 80 + "1" + "}" * 80 + behind
             with self.subTest(parts=parts, behind=behind):
@@ -94,7 +105,22 @@ class Calls(unittest.TestCase):
                 # (as an environment it has a value that is no text, where it is read)
                 self.assertEqual(in_a_small_stack(lambda: codes_of(environment=deep)), codes or (55,))
 
-    def test_memory_stays(self):
+    def test_there_is_no_room(self) -> None:
+        limited = """
+import resource, tubrambutan
+text = "a\\n" * 4_000_000
+with open("/proc/self/statm", encoding="ascii") as it:
+    limit = int(it.read().split()[0]) * resource.getpagesize() + 48_000_000
+resource.setrlimit(resource.RLIMIT_AS, (limit, limit))
+try:
+    tubrambutan.merge(lists=[text])
+except MemoryError:
+    print("no room")
+"""
+        environment = {**os.environ, "PYTHONPATH": os.path.dirname(tubrambutan.__path__[0])}
+        self.assertEqual(subprocess.run([sys.executable, "-c", limited], env=environment, stdout=subprocess.PIPE, check=True).stdout, b"no room\n")
+
+    def test_memory_stays(self) -> None:
         for _ in range(500):
             call_each()
         gc.collect()

@@ -1,17 +1,21 @@
 """The examples of the package's docstrings, of README.md and of docs/PYTHON.md."""
 
+from __future__ import annotations
+
 import doctest
 import importlib
 import os
 import pkgutil
 import re
+import unittest
+from typing import Optional
 
 import tubrambutan
 
 ROOT = os.path.dirname(os.path.dirname(os.path.dirname(os.path.abspath(__file__))))
 
 
-def of_page(page):
+def of_page(page: str) -> unittest.TestCase:
     """Returns the test of a page's blocks for Python, in their order."""
     with open(f"{ROOT}/{page}", encoding="utf-8") as it:
         blocks = re.findall(r"^```python\n(.*?)^```$", it.read(), re.M | re.S)
@@ -20,7 +24,7 @@ def of_page(page):
     return doctest.DocTestCase(doctest.DocTestParser().get_doctest("\n".join(blocks), {}, page, page, 0))
 
 
-def load_tests(loader, tests, pattern):
+def load_tests(loader: unittest.TestLoader, tests: unittest.TestSuite, pattern: Optional[str]) -> unittest.TestSuite:
     names = [it.name for it in pkgutil.iter_modules(tubrambutan.__path__) if it.name != "libtubrambutan"]
     for module in [tubrambutan, *(importlib.import_module(f"tubrambutan.{name}") for name in names)]:
         # (a module without an example has no test)

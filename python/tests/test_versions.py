@@ -2,6 +2,7 @@
 
 import itertools
 import unittest
+from typing import Any
 
 from tubrambutan import Refused, Version, admits
 
@@ -34,27 +35,27 @@ CLAUSES = [
 
 
 class Versions(unittest.TestCase):
-    def test_order(self):
+    def test_order(self) -> None:
         for (i, first), (j, second) in itertools.product(enumerate(ASCENDING), repeat=2):
             with self.subTest(first=first, second=second):
                 self.assertEqual(Version(first) < Version(second), i < j)
                 self.assertEqual(Version(first) >= Version(second), i >= j)
                 self.assertEqual(Version(first) == Version(second), i == j)
 
-    def test_sorted(self):
+    def test_sorted(self) -> None:
         self.assertEqual([str(it) for it in sorted(map(Version, reversed(ASCENDING)))], ASCENDING)
 
-    def test_normal_texts(self):
+    def test_normal_texts(self) -> None:
         for normal, others in SPELLINGS.items():
             for text in [normal, *others]:
                 self.assertEqual(str(Version(text)), normal)
 
-    def test_same_versions_are_equal_and_hashed_alike(self):
+    def test_same_versions_are_equal_and_hashed_alike(self) -> None:
         for group in SAME:
             self.assertEqual(len({Version(it) for it in group}), 1, group)
         self.assertEqual(len({Version(it) for it in ASCENDING}), len(ASCENDING))
 
-    def test_no_versions(self):
+    def test_no_versions(self) -> None:
         for text in NONE:
             with self.subTest(text=text), self.assertRaises(Refused) as caught:
                 Version(text)
@@ -63,25 +64,26 @@ class Versions(unittest.TestCase):
             Version("18446744073709551616")
         self.assertEqual(caught.exception.codes, (62, 2))
 
-    def test_other_types_are_not_compared(self):
+    def test_other_types_are_not_compared(self) -> None:
         self.assertNotEqual(Version("1.0"), "1.0")
+        other: Any = "2.0"
         with self.assertRaises(TypeError):
-            self.assertLess(Version("1.0"), "2.0")
+            self.assertLess(Version("1.0"), other)
 
-    def test_long_texts(self):
+    def test_long_texts(self) -> None:
         text = ".".join(["1"] * 5_000)
         self.assertEqual(str(Version(text)), text)
         self.assertEqual(hash(Version("1" + ".0" * 5_000)), hash(Version("1")))
 
 
 class Clauses(unittest.TestCase):
-    def test_what_clauses_admit(self):
+    def test_what_clauses_admit(self) -> None:
         for clause, version, wanted in CLAUSES:
             with self.subTest(clause=clause, version=version):
                 self.assertIs(admits(clause, version), wanted)
                 self.assertIs(admits(clause, Version(version)), wanted)
 
-    def test_no_clauses(self):
+    def test_no_clauses(self) -> None:
         rows = [("1.0", 11), ("", 11), (">=x", 12), (">=1.*", 13), (">=1+a", 14), ("~=1", 15), ("==18446744073709551616", 16)]
         for clause, code in rows:
             with self.subTest(clause=clause), self.assertRaises(Refused) as caught:

@@ -6,7 +6,7 @@
 >>> flask.extras, flask.verdict
 (('async',), 'open')
 >>> flask.ranges
-(Range(low='before 2', high='before 3.dev0'),)
+(Range(low=Cut('before 2'), high=Cut('before 3.dev0')),)
 >>> flask.admits("2.3.2"), flask.admits("3.0rc1", prereleases=True)
 (True, False)
 
@@ -15,35 +15,54 @@ What an input may hold, and what is printed, `docs/INPUTS.md` of the project say
 the forked child of a process with threads.
 """
 
+from ._audit import Audit, Finding, audit
+from ._cuts import Cut, Range
 from ._environment import default_environment
+from ._lines import Line, Lines, Metadata, RequirementsFile, requirements_file, requirements_of
 from ._merge import merge
+from ._names import canonicalize_name
 from ._refused import InvalidMarker, InvalidName, InvalidRequirement, InvalidSpecifier, InvalidVersion, Refused, UndefinedComparison
-from ._requirement import Marker, Requirement, admits, canonicalize_name, requirement_text
+from ._requirement import Marker, Requirement, admits, requirement_text
 from ._specifiers import Specifier, SpecifierSet
-from ._table import Difference, Package, Range, Table
+from ._table import Difference, Package, Table
 from ._version import Version
+from ._why import Claim, Reason, clashes, why
 
 __all__ = [
+    "Audit",
+    "Claim",
+    "Cut",
     "Difference",
+    "Finding",
     "InvalidMarker",
     "InvalidName",
     "InvalidRequirement",
     "InvalidSpecifier",
     "InvalidVersion",
+    "Line",
+    "Lines",
     "Marker",
+    "Metadata",
     "Package",
     "Range",
+    "Reason",
     "Refused",
     "Requirement",
+    "RequirementsFile",
     "Specifier",
     "SpecifierSet",
     "Table",
     "UndefinedComparison",
     "Version",
     "admits",
+    "audit",
     "canonicalize_name",
+    "clashes",
     "default_environment",
     "merge",
     "requirement_text",
+    "requirements_file",
+    "requirements_of",
+    "why",
 ]
 __version__ = "0.1.0"

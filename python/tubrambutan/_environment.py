@@ -2,13 +2,14 @@
 
 from __future__ import annotations
 
+import functools
 import os
 import platform
 import re
 import sys
 from typing import Any, Mapping
 
-from ._texts import encoded
+from ._texts import encoded, text_in
 
 # What a basic string of TOML may not hold as it is.
 _ESCAPED = re.compile(r'[\x00-\x1f"\\\x7f]')
@@ -57,6 +58,7 @@ def default_environment() -> dict[str, str]:
     }
 
 
+@functools.lru_cache(maxsize=128)
 def _string(text: str) -> str:
     """Returns a basic string of TOML."""
     return '"' + _ESCAPED.sub(lambda it: f"\\u{ord(it[0]):04x}", text) + '"'
@@ -64,4 +66,5 @@ def _string(text: str) -> str:
 
 def file_of(environment: Mapping[str, str]) -> bytes:
     """Returns the environment file with these variables."""
-    return encoded("".join(f"{_string(name)} = {_string(text)}\n" for name, text in environment.items()))
+    pairs = ((text_in(name, "a variable's name"), text_in(text, "a variable's text")) for name, text in environment.items())
+    return encoded("".join(f"{_string(name)} = {_string(text)}\n" for name, text in pairs))

@@ -8,16 +8,23 @@ a call has 512 KiB of the stack left (`threading.stack_size`), and none comes fr
 from __future__ import annotations
 
 import ctypes
+import mmap
 import pathlib
+import struct
 from typing import Any, Callable, Sequence
 
 from ._refused import Refused
+from ._texts import between_zero_bytes
 
 LIST, PROJECT, TABLE = 0, 1, 2
 _ANSWERED, _REFUSED = 0, 2
 # Room for any line of a refusal, and for most texts but those of tables.
 _SIZE = 512
 _Room = ctypes.c_char * _SIZE
+# Above it room is taken from the system, which gives memory for what is written alone.
+_LARGE = 1 << 18
+# The length in front of a key.
+_length_at = struct.Struct(">Q").unpack_from
 
 
 def _path() -> pathlib.Path:
@@ -28,7 +35,7 @@ def _path() -> pathlib.Path:
 
 
 class _Part(ctypes.Structure):
-    _fields_ = [("kind", ctypes.c_uint32), ("size", ctypes.c_size_t)]
+    _fields_ = [("kind", ctypes.c_uint32), ("size", ctypes.c_size_t), ("group_size", ctypes.c_size_t)]
 
 
 class _Reply(ctypes.Structure):
@@ -52,6 +59,9 @@ def _export(name: str, *types: Any) -> Any:
 
 _merge = _export("tubrambutan_merge", *_INPUTS)
 _check = _export("tubrambutan_check", *_INPUTS, *_BYTES, *_BYTES, ctypes.c_bool)
+_check_each = _export("tubrambutan_check_each", *_INPUTS, *_BYTES)
+_why = _export("tubrambutan_why", *_INPUTS, *_BYTES)
+_clashes = _export("tubrambutan_clashes", *_INPUTS)
 _version = _export("tubrambutan_version", *_BYTES)
 _requirement = _export("tubrambutan_requirement", *_BYTES)
 _requirement_parts = _export("tubrambutan_requirement_parts", *_BYTES)
@@ -67,19 +77,31 @@ _version_numbers = _export("tubrambutan_version_numbers", *_BYTES, ctypes.c_void
 def _refused(reply: Any, room: Any) -> Exception:
     """Returns the exception of a call that isn't answered. The room is larger than any line of a refusal."""
     if reply.status == _REFUSED:
-        return Refused(ctypes.string_at(room, reply.size).decode())
+        return Refused(room[: reply.size].decode())
     return AssertionError("inputs that aren't cut as they were joined")
+
+
+def _room_of(size: int) -> Any:
+    """Returns room of at least this size."""
+    if size <= _SIZE:
+        return _Room()
+    if size <= _LARGE:
+        return ctypes.create_string_buffer(size)
+    try:
+        return (ctypes.c_char * size).from_buffer(mmap.mmap(-1, size))
+    except OSError as fault:
+        raise MemoryError from fault
 
 
 def _given(function: Callable[..., Any], size: int, *arguments: Any) -> bytes:
     """Returns the bytes that go out of a call, for which there is room of this size, which is enough for a refusal, at first."""
     while True:
-        room = ctypes.create_string_buffer(size)
+        room = _room_of(size)
         reply = function(*arguments, room, size)
         if reply.status != _ANSWERED:
             raise _refused(reply, room)
         if reply.size <= size:
-            return ctypes.string_at(room, reply.size)
+            return bytes(room[: reply.size])
         size = reply.size
 
 
@@ -98,21 +120,38 @@ def _answer(function: Callable[..., Any], *arguments: Any) -> int:
 
 
 class Inputs:
-    """Inputs in one buffer, each with its kind."""
+    """Inputs in one buffer, each with its kind; and the dependency group of the project files that is asked for."""
 
-    def __init__(self, environment: bytes, inputs: Sequence[tuple[int, bytes]]) -> None:
-        parts = (_Part * max(len(inputs), 1))(*[_Part(kind, len(data)) for kind, data in inputs])
-        data = b"".join(it for _, it in inputs)
+    def __init__(self, environment: bytes, inputs: Sequence[tuple[int, bytes]], group: bytes = b"") -> None:
+        groups = [group if kind == PROJECT else b"" for kind, _ in inputs]
+        parts = (_Part * max(len(inputs), 1))(*[_Part(kind, len(data), len(own)) for (kind, data), own in zip(inputs, groups)])
+        data = b"".join(own + data for (_, data), own in zip(inputs, groups))
         self._size = len(data)
         self._arguments = (environment, len(environment), parts, len(inputs), data, len(data))
 
     def merged(self) -> str:
         """Returns the text of the table of the inputs."""
-        return _text(_merge, self._size + 4096, *self._arguments)
+        # (a table that finds no room is made twice, and most are far shorter)
+        return _text(_merge, 8 * self._size + 4096, *self._arguments)
 
     def answer(self, name: bytes, version: bytes, wants_pre_releases: bool) -> int:
         """Returns 1 where a version of the name meets what the inputs demand, 0 where it doesn't, -1 where two URLs are demanded."""
         return _answer(_check, *self._arguments, name, len(name), version, len(version), wants_pre_releases)
+
+    def why(self, name: bytes) -> str:
+        """Returns the lines of why the package with a name has its verdict: `NAME VERDICT`; `claim I N TEXT` for each claim, with the number of its input and
+        that of its line or text there; and `clash I N TEXT` for each that clashes."""
+        return _text(_why, 4096, *self._arguments, name, len(name))
+
+    def clashes(self) -> str:
+        """Returns the same lines of each package whose verdict isn't open."""
+        return _text(_clashes, 4096, *self._arguments)
+
+    def answers(self, questions: Sequence[str]) -> bytes:
+        """Returns a byte for each question, which is a name, a space and a version: 1 where it meets what the inputs demand, or 3 where it is a pre-release
+        too; 0 where it doesn't meet that; 4 where two URLs are demanded; 2 where the question has no name or no version."""
+        joined = between_zero_bytes(questions)
+        return _given(_check_each, max(len(questions), _SIZE), *self._arguments, joined, len(joined)) if questions else b""
 
 
 def version_text(version: bytes) -> str:
@@ -145,11 +184,11 @@ def clause_texts(clauses: bytes) -> list[str]:
     return _text(_clauses, _SIZE, clauses, len(clauses)).split("\n")[:-1]
 
 
-def admits_each(clauses: bytes, versions: Sequence[bytes]) -> bytes:
-    """Returns a byte for each version, in which there is no zero byte: 1 where all clauses admit it, or 3 where it is a pre-release too; 0 where
-    a clause doesn't admit it; 2 where it is no version."""
-    joined = b"\0".join(versions)
-    return _given(_admits_each, len(versions) + _SIZE, clauses, len(clauses), joined, len(joined)) if versions else b""
+def admits_each(clauses: bytes, versions: Sequence[str]) -> bytes:
+    """Returns a byte for each version: 1 where all clauses admit it, or 3 where it is a pre-release too; 0 where a clause doesn't admit it; 2 where it
+    is no version."""
+    joined = between_zero_bytes(versions)
+    return _given(_admits_each, max(len(versions), _SIZE), clauses, len(clauses), joined, len(joined)) if versions else b""
 
 
 def version_key(version: bytes) -> bytes:
@@ -161,15 +200,15 @@ def version_key(version: bytes) -> bytes:
     return _given(_key, max(_SIZE, reply.size), version, len(version))
 
 
-def version_keys(versions: Sequence[bytes]) -> list[bytes]:
-    """Returns the key of each version, in which there is no zero byte, and no bytes where it is none."""
-    joined = b"\0".join(versions)
+def version_keys(versions: Sequence[str]) -> list[bytes]:
+    """Returns the key of each version, and no bytes where it is none."""
+    joined = between_zero_bytes(versions)
     given = _given(_keys, 64 * len(versions) + 10 * len(joined) + _SIZE, joined, len(joined)) if versions else b""
-    keys, at = [], 0
-    while at < len(given):
-        begin = at + 8
-        at = begin + int.from_bytes(given[at:begin], "big")
-        keys.append(given[begin:at])
+    keys, begin = [], 8
+    for _ in versions:
+        end = begin + _length_at(given, begin - 8)[0]
+        keys.append(given[begin:end])
+        begin = end + 8
     return keys
 
 

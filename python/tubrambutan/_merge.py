@@ -2,105 +2,89 @@
 
 from __future__ import annotations
 
-import os
-from typing import Iterable, Iterator, Mapping, Optional, Union
+from typing import Iterable, Optional, Sequence
 
-from ._environment import default_environment, file_of
-from ._library import LIST, PROJECT, TABLE, Inputs
+from ._inputs import Environment, Given, Path, Source, Text, buffer_of, environment_file, given_inputs, group_of, placed
+from ._library import TABLE
+from ._names import canonicalize_name
 from ._refused import Refused
-from ._table import Table
-from ._texts import encoded
-
-Path = Union[str, "os.PathLike[str]"]
-Text = Union[str, bytes]
+from ._table import Table, lines_of
 
 
-def _file(path: Path) -> bytes:
-    """Returns the bytes of the file at a path."""
-    with open(path, "rb") as file:
-        return file.read()
+def _extras_of(extras: object) -> tuple[str, ...]:
+    """Returns the normalized names of extras, each once, in order; a text alone in their place would be taken letter by letter."""
+    if isinstance(extras, (str, bytes)) or not isinstance(extras, Iterable):
+        raise TypeError(f"extras takes a list of names, one alone too, and not {type(extras).__name__}")
+    names = list(extras)
+    for name in names:
+        if not isinstance(name, str):
+            raise TypeError(f"extras takes names, and not {type(name).__name__}")
+    return tuple(sorted({canonicalize_name(name) for name in names}))
 
 
-def _kind_of(path: str) -> int:
-    """Returns the kind of a file, which the program tells by its name too."""
-    return PROJECT if path.endswith(".toml") else TABLE if path.endswith(".table") else LIST
+def _with_extra(environment: bytes, extra: str) -> bytes:
+    """Returns an environment file with an extra more."""
+    return environment + f'\nextra = "{extra}"\n'.encode()
 
 
-def _of_path(path: object) -> tuple[int, bytes, str]:
-    """Returns the kind of the file at a path, its bytes, and the path."""
-    if not isinstance(path, (str, os.PathLike)):
-        raise TypeError(f"a path is a str or os.PathLike, and not {type(path).__name__}")
-    name = os.fspath(path)
-    return _kind_of(name), _file(name), name
+def _merged(environment: bytes, inputs: Sequence[Given], group: bytes, more: Sequence[bytes] = ()) -> str:
+    """Returns the text of the table of inputs, and of printed tables more."""
+    try:
+        return buffer_of(environment, inputs, group, more).merged()
+    except Refused as refused:
+        raise placed(refused, inputs) from None
 
 
-def _of_text(text: object, argument: str) -> bytes:
-    """Returns the bytes of a text or of bytes, which this argument of `merge` has."""
-    if isinstance(text, bytes):
-        return text
-    if not isinstance(text, str):
-        raise TypeError(f"{argument} takes texts and bytes, and not {type(text).__name__}: files are positional arguments of merge")
-    if "\n" not in text and os.path.isfile(text):
-        raise ValueError(f"{argument} takes texts, and {text!r} is the name of a file: write merge({text!r}) to read the file, or end the text with a line feed")
-    return encoded(text)
-
-
-def _texts(texts: object, argument: str) -> Iterator[bytes]:
-    """Returns the bytes of the texts of an argument of `merge`; one alone in their place would be taken letter by letter."""
-    if isinstance(texts, (str, bytes)) or not isinstance(texts, Iterable):
-        raise TypeError(f"{argument} takes a list of texts, one alone too, and not {type(texts).__name__}")
-    return (_of_text(text, argument) for text in texts)
-
-
-def _environment_file(environment: object) -> bytes:
-    """Returns the bytes of the environment file of variables, of a file's text, of its bytes, or of its path."""
-    if environment is None:
-        environment = default_environment()
-    if isinstance(environment, Mapping):
-        return file_of(environment)
-    if isinstance(environment, os.PathLike):
-        return _file(environment)
-    if isinstance(environment, (str, bytes)):
-        return _of_text(environment, "environment")
-    raise TypeError(f"environment takes a mapping, a text, bytes or an os.PathLike, and not {type(environment).__name__}")
+def _merged_extras(environment: bytes, inputs: Sequence[Given], group: bytes, extras: Sequence[str]) -> str:
+    """Returns the text of the join of the tables of each extra. Its header names none of them. Printed tables are joined in the environment
+    without an extra."""
+    judged = [it for it in inputs if it.kind != TABLE]
+    of_each = [_merged(_with_extra(environment, extra), judged, group) for extra in extras]
+    return _merged(environment, [it for it in inputs if it.kind == TABLE], b"", [lines_of(text).encode() for text in of_each])
 
 
 def merge(
     *paths: Path,
-    lists: Iterable[Text] = (),
+    lists: Iterable[Source] = (),
     projects: Iterable[Text] = (),
     tables: Iterable[Text] = (),
-    environment: Optional[Union[Mapping[str, str], Text, "os.PathLike[str]"]] = None,
+    environment: Environment = None,
+    group: Optional[str] = None,
+    extras: Iterable[str] = (),
 ) -> Table:
     r"""Merges files, lists of requirements, project files and printed tables into the table of all that they demand.
 
     Positional arguments are paths of files. Their names tell their kinds: `.toml` ends the name of a project file, `.table` that of
-    a printed table, and every other file is a list. `lists`, `projects` and `tables` take texts or bytes in place of files. The environment
+    a printed table, and every other file is a list. `lists`, `projects` and `tables` take texts or bytes in place of files, and `lists` also `Lines`. The environment
     is a mapping of the eleven variables of PEP 508, and perhaps `extra`, to their texts, or an environment file (its text, its bytes,
     or an `os.PathLike`). By default it is `default_environment()`. In whatever order inputs are handed in, the table is the same.
 
+    `group` names a dependency group (PEP 735), which counts in place of the dependencies of each project file. `extras` names extras: one is
+    the `extra` of the environment. Of several, all inputs are judged with each one, and what they demand is joined; such a table has
+    `lines` and no `text`, since the header of a printed table names one extra at most.
+
     >>> import tubrambutan
-    >>> project = '[project]\nname = "demo"\ndependencies = ["Flask>=2.0"]'
+    >>> project = '[project]\nname = "demo"\ndependencies = ["Flask>=2.0"]\noptional-dependencies = {dev = ["pytest"], docs = ["sphinx"]}'
     >>> table = tubrambutan.merge(lists=["flask!=2.1"], projects=[project])
-    >>> [(it.low, it.high) for it in table["flask"].ranges]
-    [('before 2', 'before 2.1'), ('before 2.1.post0.dev0', 'end')]
+    >>> [str(it) for it in table["flask"].ranges]
+    ['before 2 to before 2.1', 'before 2.1.post0.dev0 to end']
     >>> tubrambutan.merge(tables=[table.text]) == table
     True
+    >>> list(tubrambutan.merge(projects=[project], extras=["dev", "docs"]))
+    ['flask', 'pytest', 'sphinx']
 
     Raises:
         Refused: an input isn't accepted in the environment, or the environment is none.
+        InvalidName: the group or an extra has no name.
         OSError: a file can't be read.
-        ValueError: a text is the name of a file.
+        ValueError: a text is the name of a file, or a mapping as environment has an extra, and `extras` names some.
         TypeError: an argument has another type.
     """
-    files = [_of_path(path) for path in paths]
-    kinds = ((LIST, "lists", lists), (PROJECT, "projects", projects), (TABLE, "tables", tables))
-    inputs = [(kind, data) for kind, data, _ in files]
-    inputs += [(kind, data) for kind, argument, texts in kinds for data in _texts(texts, argument)]
-    file = _environment_file(environment)
-    try:
-        return Table(Inputs(file, inputs).merged(), file)
-    except Refused as refused:
-        if refused.input and refused.input <= len(files):
-            raise Refused(refused.text, files[refused.input - 1][2]) from None
-        raise
+    inputs = given_inputs(paths, lists, projects, tables)
+    asked, names = group_of(group), _extras_of(extras)
+    file = environment_file(environment, names)
+    if len(names) > 1:
+        return Table(_merged_extras(file, inputs, asked, names), file, names)
+    for name in names:
+        file = _with_extra(file, name)
+    return Table(_merged(file, inputs, asked), file)

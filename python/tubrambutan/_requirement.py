@@ -1,4 +1,4 @@
-"""Requirements, markers and names."""
+"""Requirements and markers."""
 
 from __future__ import annotations
 
@@ -7,10 +7,11 @@ from typing import Mapping, Optional, Union
 from . import _library
 from ._environment import default_environment, file_of
 from ._library import LIST, Inputs
-from ._refused import InvalidMarker, InvalidName, InvalidRequirement, InvalidSpecifier, InvalidVersion, Refused, UndefinedComparison, of_text
+from ._refused import InvalidMarker, InvalidRequirement, InvalidSpecifier, InvalidVersion, Refused, UndefinedComparison, of_text
 from ._specifiers import SpecifierSet
-from ._texts import encoded
-from ._version import Version
+from ._table import lines_of
+from ._texts import encoded, text_in
+from ._version import Version, text_of
 
 
 class Marker:
@@ -31,13 +32,18 @@ class Marker:
     __slots__ = ("_text", "__weakref__")
 
     def __init__(self, marker: str) -> None:
-        if not isinstance(marker, str):
-            raise TypeError(f"marker is a str, and not {type(marker).__name__}")
         try:
-            parts = _library.requirement_parts(b"x;" + encoded(marker))
+            parts = _library.requirement_parts(b"x;" + encoded(text_in(marker, "marker")))
         except Refused as refused:
             raise of_text(InvalidMarker, refused, marker) from None
         self._text = parts[-1].partition(" ")[2]
+
+    @classmethod
+    def _of_normal(cls, text: str) -> Marker:
+        """Returns the marker with this normal text."""
+        found = cls.__new__(cls)
+        found._text = text
+        return found
 
     def evaluate(self, environment: Optional[Mapping[str, str]] = None) -> bool:
         """Returns whether the marker holds in the environment of the interpreter, with the variables of a mapping in place of its own.
@@ -48,7 +54,7 @@ class Marker:
         """
         file = file_of({**default_environment(), **(environment or {})})
         try:
-            return len(Inputs(file, [(LIST, f"x;{self}".encode())]).merged().split("\n", 13)[13]) > 0
+            return bool(lines_of(Inputs(file, [(LIST, f"x;{self}".encode())]).merged()))
         except Refused as refused:
             if refused.codes == (57, 28):
                 raise of_text(UndefinedComparison, refused, str(self)) from None
@@ -75,12 +81,18 @@ class Marker:
 class Requirement:
     """A requirement (PEP 508). Its name and its extras are normalized.
 
-    >>> from tubrambutan import Requirement
+    >>> from tubrambutan import Marker, Requirement
     >>> requirement = Requirement("Flask[Async] >=2.0,<3 ; python_version < '4'")
     >>> requirement.name, requirement.extras, str(requirement.specifier), str(requirement.marker), requirement.url
     ('flask', {'async'}, '<3,>=2.0', 'python_version < "4"', None)
     >>> str(requirement)
-    'flask[async]>=2.0,<3 ; python_version < "4"'
+    'flask[async]<3,>=2.0 ; python_version < "4"'
+
+    The attributes may be set, and the text is made of them.
+
+    >>> requirement.marker = Marker("extra == 'web'")
+    >>> str(requirement)
+    'flask[async]<3,>=2.0 ; extra == "web"'
 
     Raises:
         InvalidRequirement: the text is no requirement.
@@ -94,30 +106,33 @@ class Requirement:
         marker: the marker, or None.
     """
 
-    __slots__ = ("_given", "name", "extras", "specifier", "url", "marker", "__weakref__")
+    __slots__ = ("name", "extras", "specifier", "url", "marker", "__weakref__")
 
     def __init__(self, requirement: str) -> None:
-        if not isinstance(requirement, str):
-            raise TypeError(f"requirement is a str, and not {type(requirement).__name__}")
-        self._given = requirement
         try:
-            parts = [it.partition(" ") for it in _library.requirement_parts(encoded(requirement))]
+            parts = _library.requirement_parts(encoded(text_in(requirement, "requirement")))
         except Refused as refused:
             raise of_text(InvalidRequirement, refused, requirement) from None
-        self.name = parts[0][2]
-        self.extras = {text for kind, _, text in parts if kind == "extra"}
-        self.specifier = SpecifierSet(",".join(text for kind, _, text in parts if kind == "clause"))
-        self.url: Optional[str] = next((text for kind, _, text in parts if kind == "url"), None)
-        self.marker: Optional[Marker] = next((Marker(text) for kind, _, text in parts if kind == "marker"), None)
+        found: dict[str, list[str]] = {"name": [], "extra": [], "clause": [], "url": [], "marker": []}
+        for part in parts:
+            kind, _, text = part.partition(" ")
+            found[kind].append(text)
+        self.name = found["name"][0]
+        self.extras = set(found["extra"])
+        self.specifier = SpecifierSet._of_normal(found["clause"])
+        self.url: Optional[str] = found["url"][0] if found["url"] else None
+        self.marker: Optional[Marker] = Marker._of_normal(found["marker"][0]) if found["marker"] else None
 
     def __str__(self) -> str:
-        return requirement_text(self._given)
+        extras = f"[{','.join(sorted(self.extras))}]" if self.extras else ""
+        url = f" @ {self.url}" if self.url else ""
+        return f"{self.name}{extras}{url}{self.specifier}{f' ; {self.marker}' if self.marker else ''}"
 
     def __repr__(self) -> str:
         return f"<Requirement({str(self)!r})>"
 
     def __reduce__(self) -> tuple[type[Requirement], tuple[str]]:
-        return type(self), (self._given,)
+        return type(self), (str(self),)
 
     def __eq__(self, other: object) -> bool:
         if not isinstance(other, Requirement):
@@ -126,22 +141,6 @@ class Requirement:
 
     def __hash__(self) -> int:
         return hash((self.name, frozenset(self.extras), self.specifier, self.url, self.marker))
-
-
-def canonicalize_name(name: str) -> str:
-    """Returns the normalized text of a name (PEP 503).
-
-    >>> import tubrambutan
-    >>> tubrambutan.canonicalize_name("Zope.Interface")
-    'zope-interface'
-
-    Raises:
-        InvalidName: the text is no name.
-    """
-    try:
-        return _library.name_text(encoded(name))
-    except Refused as refused:
-        raise of_text(InvalidName, refused, name) from None
 
 
 def requirement_text(requirement: str) -> str:
@@ -155,7 +154,7 @@ def requirement_text(requirement: str) -> str:
         InvalidRequirement: the text is no requirement.
     """
     try:
-        return _library.requirement_text(encoded(requirement))
+        return _library.requirement_text(encoded(text_in(requirement, "requirement")))
     except Refused as refused:
         raise of_text(InvalidRequirement, refused, requirement) from None
 
@@ -172,8 +171,8 @@ def admits(clause: str, version: Union[Version, str]) -> bool:
         InvalidVersion: the text is no version.
     """
     try:
-        return _library.clause_admits(encoded(clause), encoded(str(version)))
+        return _library.clause_admits(encoded(text_in(clause, "clause")), encoded(text_of(version)))
     except Refused as refused:
         if refused.input:
             raise of_text(InvalidSpecifier, refused, clause) from None
-        raise of_text(InvalidVersion, refused, str(version)) from None
+        raise of_text(InvalidVersion, refused, text_of(version)) from None

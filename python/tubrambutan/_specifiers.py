@@ -2,17 +2,17 @@
 
 from __future__ import annotations
 
-from typing import Iterable, Iterator, Optional, TypeVar, Union
+from typing import Iterable, Iterator, Optional, Union
 
 from . import _library
 from ._library import LIST, Inputs
 from ._environment import file_of
 from ._refused import InvalidSpecifier, InvalidVersion, Refused, of_text
-from ._table import Range, Table
-from ._texts import encoded, without_zero_bytes
-from ._version import Version
+from ._cuts import Range
+from ._table import AnyVersion, Table
+from ._texts import encoded, text_in
+from ._version import Version, text_of
 
-AnyVersion = TypeVar("AnyVersion", bound=Union[Version, str])
 _OPERATORS = ("===", "~=", "==", "!=", "<=", ">=", "<", ">")
 # What the library answers of a version: whether all clauses admit it, and then whether it is a pre-release.
 _FINAL, _NO_VERSION, _PRE_RELEASE = 1, 2, 3
@@ -24,9 +24,9 @@ _VARIABLES = (
 _ENVIRONMENT = file_of({name: "" for name in _VARIABLES.split()})
 
 
-def _bytes_of(version: Union[Version, str]) -> bytes:
-    """Returns the bytes of a version's text."""
-    return version._bytes if isinstance(version, Version) else encoded(version)
+def _in_order(clauses: Iterable[str]) -> tuple[str, ...]:
+    """Returns clauses in their normal form, each once, in one order."""
+    return tuple(sorted(set(clauses)))
 
 
 class SpecifierSet:
@@ -39,7 +39,7 @@ class SpecifierSet:
     >>> list(versions.filter(["0.9", "1.2", "1.5", "1.9"]))
     ['1.2', '1.9']
     >>> versions.ranges
-    (Range(low='before 1', high='before 1.5'), Range(low='before 1.5.post0.dev0', high='before 2.dev0'))
+    (Range(low=Cut('before 1'), high=Cut('before 1.5')), Range(low=Cut('before 1.5.post0.dev0'), high=Cut('before 2.dev0')))
     >>> SpecifierSet(">=2,<1").is_empty(), versions <= SpecifierSet(">=1"), SpecifierSet(">=1") <= versions
     (True, True, False)
 
@@ -48,21 +48,27 @@ class SpecifierSet:
         TypeError: the specifiers are no text.
     """
 
-    __slots__ = ("_clauses", "_prereleases", "_table", "__weakref__")
+    # (what the clauses say of pre-releases, what they are compared by, and the table, stand there once they were asked for)
+    __slots__ = ("_clauses", "_prereleases", "_named", "_compared", "_table", "__weakref__")
     _clauses: tuple[str, ...]
     _prereleases: Optional[bool]
-    _table: Optional[Table]
+    _named: bool
+    _compared: frozenset[object]
+    _table: Table
 
     def __init__(self, specifiers: str = "", prereleases: Optional[bool] = None) -> None:
-        if not isinstance(specifiers, str):
-            raise TypeError(f"specifiers is a str, and not {type(specifiers).__name__}")
         try:
-            texts = _library.clause_texts(encoded(specifiers))
+            self._clauses = _in_order(_library.clause_texts(encoded(text_in(specifiers, "specifiers"))))
         except Refused as refused:
             raise of_text(InvalidSpecifier, refused, specifiers) from None
-        self._clauses = tuple(sorted(set(texts)))
         self._prereleases = prereleases
-        self._table = None
+
+    @classmethod
+    def _of_normal(cls, clauses: Iterable[str]) -> SpecifierSet:
+        """Returns the set of clauses in their normal form."""
+        found = cls.__new__(cls)
+        found._clauses, found._prereleases = _in_order(clauses), None
+        return found
 
     def __str__(self) -> str:
         return ",".join(self._clauses)
@@ -79,7 +85,11 @@ class SpecifierSet:
         """Whether pre-releases are admitted: as it was given, or else whether a clause with `==`, `>=`, `<=`, `~=` or `===` names one."""
         if self._prereleases is not None or not self._clauses:
             return self._prereleases
-        return any(it.prereleases for it in self)
+        try:
+            return self._named
+        except AttributeError:
+            self._named = any(it.prereleases for it in self)
+            return self._named
 
     @prereleases.setter
     def prereleases(self, value: Optional[bool]) -> None:
@@ -87,10 +97,10 @@ class SpecifierSet:
 
     def _answers(self, versions: list[Union[Version, str]]) -> bytes:
         """Returns the answer on each version."""
-        answers = _library.admits_each(encoded(str(self)), [without_zero_bytes(_bytes_of(it)) for it in versions])
-        for version, answer in zip(versions, answers):
-            if answer == _NO_VERSION:
-                Version(str(version))
+        texts = [text_of(it) for it in versions]
+        answers = _library.admits_each(encoded(str(self)), texts)
+        if _NO_VERSION in answers:
+            Version(texts[answers.index(_NO_VERSION)])
         return answers
 
     def contains(self, item: Union[Version, str], prereleases: Optional[bool] = None) -> bool:
@@ -99,7 +109,8 @@ class SpecifierSet:
         Raises:
             InvalidVersion: the text is no version.
         """
-        return next(iter(self.filter([item], prereleases)), None) is not None
+        answer = self._answers([item])[0]
+        return answer == _FINAL or (answer == _PRE_RELEASE and bool(self.prereleases if prereleases is None else prereleases))
 
     def __contains__(self, item: Union[Version, str]) -> bool:
         return self.contains(item)
@@ -128,27 +139,41 @@ class SpecifierSet:
         return SpecifierSet(",".join((*self._clauses, *other._clauses)), wanted.pop() if wanted else None)
 
     def __iter__(self) -> Iterator[Specifier]:
-        return (Specifier(it) for it in self._clauses)
+        return map(Specifier._of_normal, self._clauses)
 
     def __len__(self) -> int:
         return len(self._clauses)
 
     def __eq__(self, other: object) -> bool:
-        if isinstance(other, str):
-            other = SpecifierSet(other)
+        if isinstance(other, (str, Specifier)):
+            try:
+                other = SpecifierSet(str(other))
+            except InvalidSpecifier:
+                return NotImplemented
         if not isinstance(other, SpecifierSet):
             return NotImplemented
-        return set(self) == set(other)
+        return self._clauses == other._clauses or self._canonical() == other._canonical()
 
     def __hash__(self) -> int:
-        return hash(frozenset(self))
+        return hash(self._canonical())
+
+    def _canonical(self) -> frozenset[object]:
+        """Returns what the clauses are compared by."""
+        try:
+            return self._compared
+        except AttributeError:
+            self._compared = frozenset(it._canonical() for it in self)
+            return self._compared
 
     def _merged(self) -> Table:
         """Returns the table of one package of which the clauses are demanded."""
-        if self._table is None:
-            text = f"package{self}".encode()
+        try:
+            return self._table
+        except AttributeError:
+            # (each on a line of its own, since a line has a limit)
+            text = "\n".join(f"package{clause}" for clause in self._clauses or ("",)).encode()
             self._table = Table(Inputs(_ENVIRONMENT, [(LIST, text)]).merged(), _ENVIRONMENT)
-        return self._table
+            return self._table
 
     @property
     def ranges(self) -> tuple[Range, ...]:
@@ -194,9 +219,16 @@ class Specifier:
     _set: SpecifierSet
 
     def __init__(self, spec: str, prereleases: Optional[bool] = None) -> None:
-        self._set = SpecifierSet(spec, prereleases)
-        if len(self._set) != 1:
+        self._set = SpecifierSet(text_in(spec, "spec"), prereleases)
+        if len(self._set) != 1 or "," in spec:
             raise InvalidSpecifier("refused code 57 33 11", repr(spec))
+
+    @classmethod
+    def _of_normal(cls, clause: str) -> Specifier:
+        """Returns the clause with this normal text."""
+        found = cls.__new__(cls)
+        found._set = SpecifierSet._of_normal([clause])
+        return found
 
     @property
     def operator(self) -> str:
@@ -252,7 +284,10 @@ class Specifier:
 
     def __eq__(self, other: object) -> bool:
         if isinstance(other, str):
-            other = Specifier(other)
+            try:
+                other = Specifier(other)
+            except InvalidSpecifier:
+                return NotImplemented
         if not isinstance(other, Specifier):
             return NotImplemented
         return self._canonical() == other._canonical()

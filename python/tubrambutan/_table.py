@@ -3,34 +3,50 @@
 from __future__ import annotations
 
 import contextlib
+import functools
+import html
+import itertools
 import os
 import re
 import secrets
-from typing import Iterator, Mapping, NamedTuple, Union
+from typing import Iterable, Iterator, Mapping, NamedTuple, Sequence, TypeVar, Union
 
-from ._library import TABLE, Inputs, name_text
-from ._refused import InvalidVersion, Refused, of_text
-from ._texts import encoded
-from ._version import Version
+from ._cuts import range_of
+from ._library import TABLE, Inputs
+from ._names import canonicalize_name
+from ._refused import InvalidName
+from ._texts import encoded, text_in
+from ._version import Version, text_of
 
+AnyVersion = TypeVar("AnyVersion", bound=Union[Version, str])
 # How many lines the header of a printed table has.
 _HEADER = 13
 _OF_NAME = re.compile(r"(\S+) (open|none|conflict)")
+_ENTRY = re.compile(r"[^ \n].*\n(?: .*\n)*")
+# How many packages a table of HTML shows, and how many demands of each.
+_SHOWN = 50
+# What the library answers of a name and a version: whether all that is demanded is met, by a pre-release in the second case.
+_FINAL, _NOTHING_ASKED, _PRE_RELEASE = 1, 2, 3
 
 
-class Range(NamedTuple):
-    """The versions under the cut `high` and not under the cut `low`.
+def lines_of(text: str) -> str:
+    """Returns a printed table without its header."""
+    return text.split("\n", _HEADER)[_HEADER]
 
-    A cut `before V` has under it all versions below V; `after V` these and all that are the same as V in order; `past R` all of R's
-    release, its post-releases and labels too, and all below; `end` all versions.
 
-    >>> import tubrambutan
-    >>> tubrambutan.merge(lists=["flask==2.*"])["flask"].ranges
-    (Range(low='before 2.dev0', high='before 3.dev0'),)
-    """
+def _asked(name: str) -> str:
+    """Returns a name that a question may begin with, which a space ends."""
+    return canonicalize_name(name) if " " in text_in(name, "name") else name
 
-    low: str
-    high: str
+
+def _admitted(inputs: Inputs, asked: Sequence[tuple[str, Union[Version, str]]], prereleases: bool) -> Iterator[bool]:
+    """Returns of each name with a version whether the version meets what the inputs demand."""
+    answers = inputs.answers([f"{_asked(name)} {text_of(version)}" for name, version in asked])
+    if _NOTHING_ASKED in answers:
+        name, version = asked[answers.index(_NOTHING_ASKED)]
+        canonicalize_name(name)
+        Version(text_of(version))
+    return (answer == _FINAL or (answer == _PRE_RELEASE and prereleases) for answer in answers)
 
 
 class Package:
@@ -50,23 +66,23 @@ class Package:
         ranges: the versions that every clause but `===` admits, as sorted ranges.
     """
 
-    def __init__(self, lines: list[str], environment: bytes) -> None:
-        self._given = lines, environment
-        found = _OF_NAME.fullmatch(lines[0])
+    def __init__(self, text: str, environment: bytes) -> None:
+        self._given = text, environment
+        first, *lines = text.split("\n")[:-1]
+        found = _OF_NAME.fullmatch(first)
         if not found:
-            raise AssertionError(f"no line of a name: {lines[0]!r}")
+            raise AssertionError(f"no line of a name: {first!r}")
         self.name, self.verdict = found.groups()
         items: dict[str, list[str]] = {"extra": [], "url": [], "text": [], "range": []}
-        for line in lines[1:]:
-            kind, _, text = line[2:].partition(" ")
-            items[kind].append(text)
+        for line in lines:
+            kind, _, item = line[2:].partition(" ")
+            items[kind].append(item)
         self.extras = tuple(items["extra"])
         self.urls = tuple(items["url"])
         self.texts = tuple(items["text"])
-        self.ranges = tuple(Range(*text.split(" to ")) for text in items["range"])
+        self.ranges = tuple(map(range_of, items["range"]))
         # (the lines of one name are a table too)
-        table = "".join(f"{line}\n" for line in lines).encode()
-        self._inputs = Inputs(environment, [(TABLE, table)])
+        self._inputs = Inputs(environment, [(TABLE, encoded(text))])
 
     def admits(self, version: Union[Version, str], prereleases: bool = False) -> bool:
         """Returns whether a version meets all that is demanded, and is no pre-release unless these are wanted. In a conflict none does.
@@ -80,12 +96,22 @@ class Package:
             InvalidVersion: the text is no version.
             Refused: what is demanded has more than 16,777,216 bytes, which no input may have.
         """
-        try:
-            return self._inputs.answer(self.name.encode(), encoded(str(version)), prereleases) == 1
-        except Refused as refused:
-            if refused.codes[0] == 62:
-                raise of_text(InvalidVersion, refused, str(version)) from None
-            raise
+        return next(_admitted(self._inputs, [(self.name, version)], prereleases))
+
+    def filter(self, versions: Iterable[AnyVersion], prereleases: bool = False) -> Iterator[AnyVersion]:
+        """Returns the versions that are admitted, in their order, all asked of in one call of the library.
+
+        >>> import tubrambutan
+        >>> demo = tubrambutan.merge(lists=["demo~=1.4", "demo!=1.5"])["demo"]
+        >>> list(demo.filter(["1.3", "1.4", "1.5", "1.6rc1", "1.6"]))
+        ['1.4', '1.6']
+
+        Raises:
+            InvalidVersion: one of them is no version.
+            Refused: what is demanded has more than 16,777,216 bytes, which no input may have.
+        """
+        them = list(versions)
+        return itertools.compress(them, _admitted(self._inputs, [(self.name, it) for it in them], prereleases))
 
     def __eq__(self, other: object) -> bool:
         if not isinstance(other, Package):
@@ -93,9 +119,9 @@ class Package:
         return self._given[0] == other._given[0]
 
     def __hash__(self) -> int:
-        return hash(tuple(self._given[0]))
+        return hash(self._given[0])
 
-    def __reduce__(self) -> tuple[type[Package], tuple[list[str], bytes]]:
+    def __reduce__(self) -> tuple[type[Package], tuple[str, bytes]]:
         return Package, self._given
 
     def __repr__(self) -> str:
@@ -137,44 +163,80 @@ class Table(Mapping[str, Package]):
 
     >>> one, other = tubrambutan.merge(lists=["demo>=1"]), tubrambutan.merge(lists=["demo<2"])
     >>> (one | other)["demo"].ranges, (one | other) <= one, one <= other
-    ((Range(low='before 1', high='before 2.dev0'),), True, False)
+    ((Range(low=Cut('before 1'), high=Cut('before 2.dev0')),), True, False)
+
+    A table of several extras is the join of their tables. It has `lines`, and no `text`, since a header names one extra at most.
 
     Attributes:
-        text: the printed table, its header too, which is an input of `merge` again where it has at most 16,777,216 bytes.
-        lines: the text without the header.
+        extras: the extras in whose environments the markers were judged, in order, if they are several; else none.
     """
 
-    def __init__(self, text: str, environment: bytes) -> None:
-        self.text = text
-        self.lines = text.split("\n", _HEADER)[_HEADER]
+    def __init__(self, text: str, environment: bytes, extras: tuple[str, ...] = ()) -> None:
+        self._printed = text
         self._environment = environment
-        self._lines: dict[str, list[str]] = {}
-        lines: list[str] = []
-        for line in self.lines.split("\n")[:-1]:
-            if not line.startswith(" "):
-                lines = self._lines.setdefault(line.partition(" ")[0], [])
-            lines.append(line)
+        self.extras = extras
+
+    @property
+    def text(self) -> str:
+        """The printed table, its header too, which is an input of `merge` again where it has at most 16,777,216 bytes.
+
+        Raises:
+            AttributeError: the table is one of several extras.
+        """
+        if self.extras:
+            raise AttributeError(f"a table of the extras {', '.join(self.extras)} has no text, since a header names one extra at most: take its lines")
+        return self._printed
+
+    @functools.cached_property
+    def lines(self) -> str:
+        """The printed table without its header, which is an input of `merge` too."""
+        return lines_of(self._printed)
+
+    @functools.cached_property
+    def _entries(self) -> dict[str, str]:
+        """The lines of each name."""
+        return {entry.partition(" ")[0]: entry for entry in _ENTRY.findall(self.lines)}
+
+    @functools.cached_property
+    def _inputs(self) -> Inputs:
+        return Inputs(self._environment, [(TABLE, encoded(self._printed))])
 
     def __getitem__(self, name: str) -> Package:
-        lines = self._lines.get(name)
-        if lines is None:
-            try:
-                lines = self._lines[name_text(encoded(name))]
-            except (Refused, KeyError):
-                raise KeyError(name) from None
-        return Package(lines, self._environment)
+        try:
+            entry = self._entries.get(name) or self._entries[canonicalize_name(name)]
+        except (InvalidName, KeyError, TypeError):
+            raise KeyError(name) from None
+        return Package(entry, self._environment)
 
     def __iter__(self) -> Iterator[str]:
-        return iter(self._lines)
+        return iter(self._entries)
 
     def __len__(self) -> int:
-        return len(self._lines)
+        return len(self._entries)
+
+    def admits_each(self, versions: Iterable[tuple[str, Union[Version, str]]], prereleases: bool = False) -> list[bool]:
+        """Returns of each name with a version whether the version meets all that is demanded of the package, and is no pre-release unless these are
+        wanted. All are asked of in one call of the library, which reads the table once. Where nothing is demanded, all versions do.
+
+        >>> import tubrambutan
+        >>> table = tubrambutan.merge(lists=["demo~=1.4"])
+        >>> table.admits_each([("Demo", "1.5"), ("demo", "2"), ("other", "1.0")])
+        [True, False, True]
+
+        Raises:
+            InvalidName: a name is none.
+            InvalidVersion: a version is none.
+            Refused: the table has more than 16,777,216 bytes, which no input may have.
+        """
+        return list(_admitted(self._inputs, list(versions), prereleases))
 
     def __or__(self, other: Table) -> Table:
         if not isinstance(other, Table):
             return NotImplemented
-        tables = [(TABLE, encoded(it.text)) for it in (self, other)]
-        return Table(Inputs(self._environment, tables).merged(), self._environment)
+        if self.extras != other.extras:
+            raise ValueError("tables of several extras are joined where their extras are the same")
+        tables = [(TABLE, encoded(it._printed)) for it in (self, other)]
+        return Table(Inputs(self._environment, tables).merged(), self._environment, self.extras)
 
     def __le__(self, other: Table) -> bool:
         return self | other == self if isinstance(other, Table) else NotImplemented
@@ -196,9 +258,9 @@ class Table(Mapping[str, Package]):
         both = self | other
         kinds: dict[str, list[str]] = {kind: [] for kind in Difference._fields}
         for name in both:
-            ours, theirs = self._lines.get(name), other._lines.get(name)
+            ours, theirs = self._entries.get(name), other._entries.get(name)
             if ours != theirs:
-                whole = both._lines[name]
+                whole = both._entries[name]
                 kind = "added" if ours is None else "removed" if theirs is None else "narrowed" if whole == theirs else "widened"
                 kinds["changed" if ours and theirs and whole not in (ours, theirs) else kind].append(name)
         return Difference(*(tuple(kinds[kind]) for kind in Difference._fields))
@@ -208,13 +270,14 @@ class Table(Mapping[str, Package]):
 
         Raises:
             OSError: the file can't be written.
+            AttributeError: the table is one of several extras, which has no text.
         """
-        target = os.fspath(path)
+        text, target = self.text, os.fspath(path)
         folder, name = os.path.split(target)
         beside = os.path.join(folder, f".{name}.{secrets.token_hex(8)}")
         try:
             with open(beside, "xb") as file:
-                file.write(encoded(self.text))
+                file.write(encoded(text))
             os.replace(beside, target)
         except BaseException:
             with contextlib.suppress(FileNotFoundError):
@@ -224,10 +287,29 @@ class Table(Mapping[str, Package]):
     def __eq__(self, other: object) -> bool:
         if not isinstance(other, Table):
             return NotImplemented
-        return self.text == other.text
+        return self.extras == other.extras and self._printed == other._printed
 
     def __hash__(self) -> int:
-        return hash(self.text)
+        return hash(self._printed)
+
+    def __reduce__(self) -> tuple[type[Table], tuple[str, bytes, tuple[str, ...]]]:
+        return type(self), (self._printed, self._environment, self.extras)
 
     def __repr__(self) -> str:
         return f"<Table of {len(self)} packages>"
+
+    def _repr_html_(self) -> str:
+        """Returns a table of HTML for notebooks: the first packages, and how many more there are.
+
+        >>> import tubrambutan
+        >>> tubrambutan.merge(lists=["demo[x]<2"])._repr_html_().splitlines()[1]
+        '<tr><td>demo</td><td>open</td><td>extra x<br>range before 0.dev0 to before 2.dev0</td></tr>'
+        """
+        rows = ["<table><tr><th>package</th><th>verdict</th><th>demands</th></tr>"]
+        for entry in itertools.islice(self._entries.values(), _SHOWN):
+            first, *lines = (html.escape(line) for line in entry.split("\n")[:-1])
+            shown = "<br>".join(line.strip() for line in lines[:_SHOWN]) + ("<br>.." if len(lines) > _SHOWN else "")
+            name, _, verdict = first.partition(" ")
+            rows.append(f"<tr><td>{name}</td><td>{verdict}</td><td>{shown}</td></tr>")
+        more = len(self) - _SHOWN
+        return "\n".join([*rows, f"</table>{f'<p>and {more:,} more</p>' if more > 0 else ''}"])

@@ -2,6 +2,8 @@
 
 from __future__ import annotations
 
+from typing import Sequence
+
 
 def encoded(text: str) -> bytes:
     r"""Returns a text in UTF-8. What can't be written so becomes bytes that aren't UTF-8, which the library refuses.
@@ -12,10 +14,24 @@ def encoded(text: str) -> bytes:
     return text.encode("utf-8", "surrogatepass")
 
 
-def without_zero_bytes(data: bytes) -> bytes:
-    r"""Returns bytes that may stand between zero bytes: with a zero byte they are no version, and with another byte that no version has neither.
+def between_zero_bytes(texts: Sequence[str]) -> bytes:
+    r"""Returns texts with a zero byte between two. A zero byte within one becomes another byte that no version has either.
 
-    >>> without_zero_bytes(b"1\x00")
-    b'1\x01'
+    >>> between_zero_bytes(["1.0", "2\x00"])
+    b'1.0\x002\x01'
     """
-    return data.replace(b"\0", b"\1")
+    joined = "\0".join(texts)
+    if joined.count("\0") >= len(texts):
+        joined = "\0".join(text.replace("\0", "\1") for text in texts)
+    return encoded(joined)
+
+
+def text_in(value: object, argument: str) -> str:
+    """Returns the text that an argument is.
+
+    Raises:
+        TypeError: it is none. The message names the argument.
+    """
+    if not isinstance(value, str):
+        raise TypeError(f"{argument} is a str, and not {type(value).__name__}")
+    return value

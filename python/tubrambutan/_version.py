@@ -2,11 +2,11 @@
 
 from __future__ import annotations
 
-from typing import Iterable, Optional
+from typing import Iterable, Optional, Union
 
 from . import _library
 from ._refused import InvalidVersion, Refused, of_text
-from ._texts import encoded, without_zero_bytes
+from ._texts import encoded, text_in
 
 _PHASES = ("a", "b", "rc")
 
@@ -30,21 +30,19 @@ class Version:
         TypeError: it is no text.
     """
 
-    __slots__ = ("_bytes", "_key", "_text", "_numbers", "__weakref__")
-    _bytes: bytes
-    _key: bytes
-    _text: Optional[str]
-    _numbers: Optional[tuple[int, ...]]
+    # (the text and the numbers stand there once they were asked for)
+    __slots__ = ("_given", "_key_bytes", "_text", "_numbers", "__weakref__")
+    _given: str
+    _key_bytes: bytes
+    _text: str
+    _numbers: tuple[int, ...]
 
     def __init__(self, version: str) -> None:
-        if not isinstance(version, str):
-            raise TypeError(f"version is a str, and not {type(version).__name__}")
-        self._bytes = encoded(version)
+        self._given = text_in(version, "version")
         try:
-            self._key = _library.version_key(self._bytes)
+            self._key_bytes = _library.version_key(encoded(version))
         except Refused as refused:
             raise of_text(InvalidVersion, refused, version) from None
-        self._text = self._numbers = None
 
     @classmethod
     def read_all(cls, versions: Iterable[str]) -> list[Version]:
@@ -56,67 +54,77 @@ class Version:
 
         Raises:
             InvalidVersion: one of them is no version; the first such is told.
+            TypeError: one of them is no text, or a text stands in place of many.
         """
-        texts = list(versions)
-        data = [without_zero_bytes(encoded(it)) for it in texts]
-        found = []
-        for text, given, key in zip(texts, data, _library.version_keys(data)):
-            if not key:
-                cls(text)
-            version = cls.__new__(cls)
-            version._bytes, version._key, version._text, version._numbers = given, key, None, None
+        if isinstance(versions, str):
+            raise TypeError("versions is many texts, and not one")
+        texts, found = [text_in(it, "versions") for it in versions], []
+        new = cls.__new__
+        for text, key in zip(texts, _library.version_keys(texts)):
+            version = new(cls)
+            version._given, version._key_bytes = text, key or cls(text)._key_bytes
             found.append(version)
         return found
 
     def __str__(self) -> str:
-        if self._text is None:
-            self._text = _library.version_text(self._bytes)
-        return self._text
+        try:
+            return self._text
+        except AttributeError:
+            self._text = _library.version_text(encoded(self._given))
+            return self._text
 
     def __repr__(self) -> str:
         return f"<Version('{self}')>"
 
     def __reduce__(self) -> tuple[type[Version], tuple[str]]:
-        return type(self), (str(self),)
+        return type(self), (Version.__str__(self),)
 
+    # (versions alone have such bytes, and to look for them is faster than to ask for the type)
     def __eq__(self, other: object) -> bool:
-        if not isinstance(other, Version):
+        try:
+            return self._key_bytes == other._key_bytes  # type: ignore[attr-defined, no-any-return]
+        except AttributeError:
             return NotImplemented
-        return self._key == other._key
 
     def __lt__(self, other: Version) -> bool:
-        if not isinstance(other, Version):
+        try:
+            return self._key_bytes < other._key_bytes
+        except AttributeError:
             return NotImplemented
-        return self._key < other._key
 
     def __le__(self, other: Version) -> bool:
-        if not isinstance(other, Version):
+        try:
+            return self._key_bytes <= other._key_bytes
+        except AttributeError:
             return NotImplemented
-        return self._key <= other._key
 
     def __gt__(self, other: Version) -> bool:
-        if not isinstance(other, Version):
+        try:
+            return self._key_bytes > other._key_bytes
+        except AttributeError:
             return NotImplemented
-        return self._key > other._key
 
     def __ge__(self, other: Version) -> bool:
-        if not isinstance(other, Version):
+        try:
+            return self._key_bytes >= other._key_bytes
+        except AttributeError:
             return NotImplemented
-        return self._key >= other._key
 
     def __hash__(self) -> int:
-        return hash(self._key)
+        return hash(self._key_bytes)
 
     @property
     def key(self) -> bytes:
         """The key: byte order of keys is the order of versions, and versions that are the same in order have one key."""
-        return self._key
+        return self._key_bytes
 
     @property
     def _parts(self) -> tuple[int, ...]:
-        if self._numbers is None:
-            self._numbers = _library.version_numbers(self._bytes)
-        return self._numbers
+        try:
+            return self._numbers
+        except AttributeError:
+            self._numbers = _library.version_numbers(encoded(self._given))
+            return self._numbers
 
     @property
     def epoch(self) -> int:
@@ -146,12 +154,12 @@ class Version:
     @property
     def local(self) -> Optional[str]:
         """The local version label."""
-        return str(self).partition("+")[2] or None
+        return Version.__str__(self).partition("+")[2] or None
 
     @property
     def public(self) -> str:
         """The normal text without the local version label."""
-        return str(self).partition("+")[0]
+        return Version.__str__(self).partition("+")[0]
 
     @property
     def base_version(self) -> str:
@@ -193,3 +201,16 @@ class Version:
     def is_devrelease(self) -> bool:
         """Whether it is a developmental release."""
         return self.dev is not None
+
+
+def text_of(version: Union[Version, str], argument: str = "version") -> str:
+    """Returns a text that spells a version, whatever `str` of a subclass says.
+
+    Raises:
+        TypeError: it is neither a version nor a text. The message names the argument.
+    """
+    if isinstance(version, Version):
+        return version._given
+    if isinstance(version, str):
+        return version
+    raise TypeError(f"{argument} is a Version or a str, and not {type(version).__name__}")

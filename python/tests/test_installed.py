@@ -1,0 +1,160 @@
+"""Requirements with their places, audits, and the package as a command."""
+
+import contextlib
+import io
+import json
+import pathlib
+import tempfile
+import unittest
+from typing import Iterator, Union
+from unittest import mock
+
+import tubrambutan
+from test_tables import STANDARD
+from tubrambutan import Line, Lines, Refused, audit, merge, requirements_file, requirements_of
+from tubrambutan.__main__ import main
+
+METADATA = """Metadata-Version: 2.1
+Name: Demo
+Version: 1.0
+Requires-Dist: flask
+ >=2.0
+Requires-Python: >=3.9
+requires-dist: pytest ; extra == "dev"
+Provides-Extra: dev
+
+Requires-Dist: text
+"""
+FILES = {
+    "all.txt": "\ufeff# a comment\nflask>=2.0  # why\n\n-r more/base.txt\n--requirement=more/base.txt\n-cmore/limits.txt\n",
+    "more/base.txt": "django>=4,\\\n  <5\nattrs ; python_version \\\n >= '3'\nurl @ https://x.test/#egg\n",
+    "more/limits.txt": "flask<3\n--constraint other.txt\n",
+    "more/other.txt": "attrs!=1 # no more",
+    "faulty.txt": "a\n\nb>=\n",
+    "option.txt": "a\n--index-url https://x.test\n",
+    "hash.txt": "a==1 --hash=sha256:0\n",
+    "variable.txt": "a @ https://${TOKEN}@x.test\n",
+    "cycle.txt": "-r cycle.txt\n",
+}
+# Distributions by their names, with versions and further lines of metadata.
+DISTRIBUTIONS = {
+    "a": ("1.0", "Requires-Dist: B>=2\nRequires-Dist: c\nRequires-Dist: d; extra == 'x'\nRequires-Dist: e<1\nRequires-Python: <3"),
+    "B": ("1.5", "Requires-Dist: e>1\nRequires-Dist: f ==1.0\nRequires-Dist: f (broken"),
+    "e": ("1", ""),
+    "f": ("1.0rc1", "Requires-Dist: a>=1rc1"),
+    "g": ("x", ""),
+}
+
+
+@contextlib.contextmanager
+def folder_of(files: "dict[str, str]") -> Iterator[pathlib.Path]:
+    """Makes files in a folder, which is gone at the end."""
+    with tempfile.TemporaryDirectory() as name:
+        for path, text in files.items():
+            whole = pathlib.Path(name, path)
+            whole.parent.mkdir(exist_ok=True, parents=True)
+            whole.write_text(text, encoding="utf-8")
+        yield pathlib.Path(name)
+
+
+class Places(unittest.TestCase):
+    def test_metadata(self) -> None:
+        both: "list[Union[str, bytes]]" = [METADATA, METADATA.encode()]
+        for data in both:
+            found = requirements_of(data, "x/METADATA")
+            self.assertEqual((found.name, found.version, found.requires_python, found.extras), ("Demo", "1.0", ">=3.9", ("dev",)))
+            self.assertEqual([(" ".join(it.text.split()), it.file, it.number) for it in found.requires], [("flask >=2.0", "x/METADATA", 4), ('pytest ; extra == "dev"', "x/METADATA", 7)])
+        self.assertEqual(list(merge(lists=[found.requires], environment=STANDARD)), ["flask"])
+        with self.assertRaisesRegex(ValueError, "no Name"):
+            requirements_of("Version: 1")
+
+    def test_requirements_files(self) -> None:
+        with folder_of(FILES) as folder:
+            found = requirements_file(folder / "all.txt")
+            base = [("django>=4,  <5", "base.txt", 1), ("attrs ; python_version  >= '3'", "base.txt", 3), ("url @ https://x.test/#egg", "base.txt", 5)]
+            self.assertEqual([(it.text, pathlib.Path(it.file).name, it.number) for it in found.requirements], [("flask>=2.0", "all.txt", 2), *base, *base])
+            self.assertEqual([(it.text, pathlib.Path(it.file).name, it.number) for it in found.constraints], [("flask<3", "limits.txt", 1), ("attrs!=1", "other.txt", 1)])
+            table = merge(lists=[found.requirements, found.constraints], environment=STANDARD)
+            self.assertEqual((list(table), [str(it) for it in table["flask"].ranges]), (["attrs", "django", "flask", "url"], ["before 2 to before 3.dev0"]))
+            with self.assertRaises(Refused) as caught:
+                merge(lists=["a", requirements_file(str(folder / "faulty.txt")).requirements], environment=STANDARD)
+            self.assertEqual((caught.exception.subject, caught.exception.line, caught.exception.input), (str(folder / "faulty.txt"), 3, 2))
+            for name, message in (("option.txt", "option.txt, line 2: '--index"), ("hash.txt", "line 1"), ("variable.txt", "line 1"), ("cycle.txt", "includes itself")):
+                with self.subTest(name), self.assertRaisesRegex(ValueError, message):
+                    requirements_file(folder / name)
+            with self.assertRaises(OSError):
+                requirements_file(folder / "none.txt")
+
+    def test_lines(self) -> None:
+        lines = Lines([Line("a>=1", "x", 1), Line("b\n<2", "y", 9)])
+        self.assertEqual((lines.text, list(merge(lists=[lines], environment=STANDARD))), ("a>=1\nb <2", ["a", "b"]))
+        for wrong in ({"lists": lines}, {"tables": [lines]}):
+            with self.subTest(wrong), self.assertRaises(TypeError):
+                merge(**wrong, environment=STANDARD)  # type: ignore[arg-type]  # (it is refused when it runs too)
+
+
+class Audits(unittest.TestCase):
+    def test_distributions(self) -> None:
+        files = {f"{name}-{version}.dist-info/METADATA": f"Metadata-Version: 2.1\nName: {name}\nVersion: {version}\n{more}\n\n" for name, (version, more) in DISTRIBUTIONS.items()}
+        with folder_of(files) as folder:
+            found = audit([str(folder)])
+        self.assertEqual(found.distributions, 5)
+        self.assertEqual([(it.package, it.installed, [line.text for line in it.demands]) for it in found.missing], [("c", None, ["c"])])
+        self.assertEqual([(it.package, it.installed, [line.file for line in it.demands]) for it in found.refused[:2]], [("b", "1.5", ["a 1.0"]), ("f", "1.0rc1", ["b 1.5"])])
+        self.assertEqual([it.package for it in found.refused], ["b", "f", "python"])
+        self.assertEqual([(it.package, {line.file for line in it.demands}) for it in found.clashes], [("e", {"a 1.0", "b 1.5"})])
+        self.assertEqual([it.text for it in found.unread], ["f (broken", "x"])
+        self.assertTrue(found)
+        self.assertIn("not installed: c\n  c, of a 1.0\n", str(found))
+
+    def test_what_is_installed_here(self) -> None:
+        self.assertGreater(audit().distributions, 0)
+        self.assertFalse(audit([]))
+
+
+def run(*words: str, given: bytes = b"") -> "tuple[int, str, str]":
+    """Returns the status of the command, and what it prints."""
+    out, told = io.StringIO(), io.StringIO()
+    with contextlib.redirect_stdout(out), contextlib.redirect_stderr(told), mock.patch("sys.stdin", io.TextIOWrapper(io.BytesIO(given))):
+        try:
+            status = main(words)
+        except SystemExit as end:
+            status = int(end.code or 0)
+    return status, out.getvalue(), told.getvalue()
+
+
+class Commands(unittest.TestCase):
+    def test_commands(self) -> None:
+        project = '[project]\nname = "demo"\ndependencies = ["flask"]\noptional-dependencies = {a = ["x"], b = ["y"]}\n[dependency-groups]\ng = ["z"]\n'
+        files = {"list.txt": "flask>=2\ndjango<1\ndjango>2\n", "pyproject.toml": project}
+        with folder_of(files) as folder:
+            listed, file = str(folder / "list.txt"), str(folder / "pyproject.toml")
+            rows = [
+                (("merge", listed), 0, "django none\nflask open\n  range before 2 to end\n"),
+                (("merge", "--extra", "a", "--extra", "b", file), 0, "y open\n  range before 0.dev0 to end\n"),
+                (("merge", "--group", "G", file), 0, "z open\n  range before 0.dev0 to end\n"),
+                (("check", "flask", "2.1", listed), 0, "yes\n"),
+                (("check", "flask", "3rc1", listed), 1, "no\n"),
+                (("check", "--pre", "flask", "3rc1", listed), 0, "yes\n"),
+                (("why", "Flask", listed), 0, f"flask: these demands can be met\n  {listed}, line 1: flask>=2\n"),
+                (("why", "django", listed), 1, f"django: no version meets these together\n  {listed}, line 2: django<1\n  {listed}, line 3: django>2\n"),
+                (("env",), 0, f'"implementation_version" = "{tubrambutan.default_environment()["implementation_version"]}"\n'),
+                (("audit", str(folder)), 0, "0 distributions: nothing is wrong\n"),
+            ]
+            for words, status, end in rows:
+                with self.subTest(words):
+                    self.assertEqual((run(*words)[0], run(*words)[1][-len(end) :], run(*words)[2]), (status, end, ""))
+            self.assertEqual(json.loads(run("merge", "--json", listed)[1])["flask"]["ranges"], ["before 2 to end"])
+            self.assertEqual(run("check", "a", "1", "-", given=b"a>1")[:2], (1, "no\n"))
+            merge(listed).save(folder / "old.table")
+            merge(file).save(folder / "new.table")
+            self.assertEqual(run("diff", str(folder / "old.table"), str(folder / "new.table"))[:2], (1, "removed django\nwidened flask\n"))
+            self.assertEqual(run("diff", str(folder / "old.table"), str(folder / "old.table"))[:2], (0, ""))
+
+    def test_refusals(self) -> None:
+        self.assertEqual(run("merge", "-", given=b"a\nb>"), (2, "", "tubrambutan: input 1, line 2: what follows the operator is no version, or behind `===` no text (code 57 33 12)\n"))
+        self.assertEqual((run("merge", "none.txt")[0], run("none")[0], run()[0], run("--help")[0]), (2, 2, 2, 0))
+
+
+if __name__ == "__main__":
+    unittest.main()

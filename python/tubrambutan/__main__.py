@@ -1,0 +1,155 @@
+"""The package as a command: `python -m tubrambutan`.
+
+It ends with status 0; with 1 where a version isn't admitted, demands clash, tables differ or something is wrong with what is installed; and with 2 where something is
+refused.
+"""
+
+from __future__ import annotations
+
+import argparse
+import json
+import pathlib
+import sys
+from typing import Any, Callable, Iterable, NamedTuple, Optional, Sequence
+
+from . import __version__
+from ._audit import Audit, Finding, audit
+from ._environment import default_environment, file_of
+from ._merge import merge
+from ._table import Table
+from ._why import why
+
+
+class _Answer(NamedTuple):
+    """What is printed, in words and for machines, and the status."""
+
+    words: str
+    data: Any
+    status: int = 0
+
+
+def _paths(given: argparse.Namespace) -> list[str]:
+    """Returns the files on the command line."""
+    return [it for it in given.files if it != "-"]
+
+
+def _standard_input(given: argparse.Namespace) -> list[bytes]:
+    """Returns what stands on standard input, if it is asked for."""
+    return [sys.stdin.buffer.read()] if "-" in given.files else []
+
+
+def _environment(given: argparse.Namespace) -> Optional[pathlib.Path]:
+    """Returns the environment file that is named, if one is."""
+    return pathlib.Path(given.env) if given.env else None
+
+
+def _merged(given: argparse.Namespace) -> Table:
+    """Returns the table of the files on the command line."""
+    return merge(*_paths(given), lists=_standard_input(given), environment=_environment(given), group=given.group, extras=given.extra)
+
+
+def _merge(given: argparse.Namespace) -> _Answer:
+    table = _merged(given)
+    packages = {
+        name: {"verdict": it.verdict, "extras": it.extras, "urls": it.urls, "texts": it.texts, "ranges": [str(versions) for versions in it.ranges]}
+        for name, it in (table.items() if given.json else ())
+    }
+    return _Answer(table.lines if table.extras else table.text, packages)
+
+
+def _check(given: argparse.Namespace) -> _Answer:
+    table = _merged(given)
+    (is_met,) = table.admits_each([(given.name, given.version)], prereleases=given.pre)
+    return _Answer("yes\n" if is_met else "no\n", is_met, 0 if is_met else 1)
+
+
+def _why(given: argparse.Namespace) -> _Answer:
+    reason = why(given.name, *_paths(given), lists=_standard_input(given), environment=_environment(given), group=given.group)
+    data = {**reason._asdict(), "claims": [it._asdict() for it in reason.claims], "clash": [it._asdict() for it in reason.clash]}
+    return _Answer(f"{reason}\n", data, 0 if reason.verdict == "open" else 1)
+
+
+def _diff(given: argparse.Namespace) -> _Answer:
+    # (of tables of other environments the lines alone can be compared)
+    old, new = (merge(tables=[pathlib.Path(it).read_bytes()], environment=_environment(given)) for it in (given.old, given.new))
+    found = old.diff(new)._asdict()
+    words = "".join(f"{kind} {name}\n" for kind, names in found.items() for name in names)
+    return _Answer(words, found, 1 if words else 0)
+
+
+def _finding(it: Finding) -> dict[str, Any]:
+    return {"package": it.package, "installed": it.installed, "demands": [line._asdict() for line in it.demands]}
+
+
+def _audit(given: argparse.Namespace) -> _Answer:
+    found: Audit = audit(given.folders or None)
+    data = {
+        "distributions": found.distributions,
+        **{kind: [_finding(it) for it in getattr(found, kind)] for kind in ("missing", "refused", "clashes")},
+        "unread": [it._asdict() for it in found.unread],
+    }
+    return _Answer(f"{found}\n", data, 1 if found else 0)
+
+
+def _env(_: argparse.Namespace) -> _Answer:
+    environment = default_environment()
+    return _Answer(file_of(environment).decode(), environment)
+
+
+def _parser() -> argparse.ArgumentParser:
+    """Returns the parser of the command line."""
+    parser = argparse.ArgumentParser(prog="python -m tubrambutan", description="Reads Python requirements and merges them into one table.")
+    parser.add_argument("--version", action="version", version=__version__)
+    commands = parser.add_subparsers(required=True, metavar="COMMAND")
+
+    def command(name: str, run: Callable[[argparse.Namespace], _Answer], text: str) -> argparse.ArgumentParser:
+        found = commands.add_parser(name, help=text, description=text)
+        found.add_argument("--json", action="store_true", help="print JSON")
+        found.set_defaults(run=run)
+        return found
+
+    def with_files(found: argparse.ArgumentParser, has_extras: bool = True) -> None:
+        found.add_argument("--env", metavar="FILE", help="an environment file, in place of the running interpreter's environment")
+        found.add_argument("--group", metavar="NAME", help="the dependency group of project files, in place of their dependencies")
+        if has_extras:
+            found.add_argument("--extra", metavar="NAME", action="append", default=[], help="an extra; it may be given more than once")
+        found.add_argument("files", nargs="+", metavar="FILE", help="a list, a project file (.toml), a printed table (.table), or - for standard input")
+
+    with_files(command("merge", _merge, "Print the table of all that files demand."))
+    check = command("check", _check, "Say whether a version meets all that files demand of a package.")
+    check.add_argument("--pre", action="store_true", help="pre-releases are wanted")
+    check.add_argument("name", metavar="NAME")
+    check.add_argument("version", metavar="VERSION")
+    with_files(check)
+    reason = command("why", _why, "Say who demands what of a package, and which of these demands clash.")
+    reason.add_argument("name", metavar="NAME")
+    with_files(reason, has_extras=False)
+    diff = command("diff", _diff, "Say which packages two printed tables demand differently.")
+    diff.add_argument("--env", metavar="FILE", help="the environment file of both tables, in place of the running interpreter's environment")
+    diff.add_argument("old", metavar="OLD")
+    diff.add_argument("new", metavar="NEW")
+    installed = command("audit", _audit, "Say what is wrong with the distributions that are installed.")
+    installed.add_argument("folders", nargs="*", metavar="FOLDER", help="folders to look in, in place of those of the running interpreter")
+    command("env", _env, "Print the environment file of the running interpreter.")
+    return parser
+
+
+def _told(answer: _Answer, is_json: bool) -> Iterable[str]:
+    """Returns what is printed."""
+    return [json.dumps(answer.data, indent=1), "\n"] if is_json else [answer.words]
+
+
+def main(words: Optional[Sequence[str]] = None) -> int:
+    """Runs a command, and returns its status."""
+    given = _parser().parse_args(words)
+    try:
+        answer: _Answer = given.run(given)
+        sys.stdout.writelines(_told(answer, given.json))
+    except (ValueError, OSError) as fault:
+        print(f"tubrambutan: {fault}", file=sys.stderr)
+        return 2
+    return answer.status
+
+
+if __name__ == "__main__":
+    sys.exit(main())

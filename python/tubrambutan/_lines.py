@@ -1,0 +1,149 @@
+"""Requirements with the places where they stand: of core metadata, and of requirements files as pip reads them."""
+
+from __future__ import annotations
+
+import email
+import os
+import re
+from typing import Iterable, Iterator, NamedTuple, Optional, Union
+
+_COMMENT = re.compile(r"(?:^|\s+)#.*$")
+_OPTION = re.compile(r"(?:^|\s)-")
+_INCLUDE = re.compile(r"(?:-r|-c|--requirement|--constraint)(?:\s+|=|(?<=-[rc]))(\S.*)")
+_VARIABLE = re.compile(r"\$\{[A-Z0-9_]+\}")
+
+
+class Line(NamedTuple):
+    """A requirement, and where it stands.
+
+    Attributes:
+        text: the requirement, in one line.
+        file: the file, or what it was read from.
+        number: the number of the line in it, counted from 1.
+    """
+
+    text: str
+    file: str
+    number: int
+
+
+class Lines(tuple[Line, ...]):
+    """Requirements with their places: an input of `merge`, among its `lists`. A refusal names the file and the line.
+
+    >>> from tubrambutan import Line, Lines, merge
+    >>> merge(lists=[Lines([Line("flask>=2.0", "base.txt", 7), Line("flask<", "more.txt", 3)])])
+    Traceback (most recent call last):
+        ...
+    tubrambutan._refused.Refused: more.txt, line 3: what follows the operator is no version, or behind `===` no text (code 57 33 12)
+    """
+
+    __slots__ = ()
+
+    @property
+    def text(self) -> str:
+        """The requirements, one a line."""
+        return "\n".join(" ".join(line.text.split("\n")) for line in self)
+
+
+class Metadata(NamedTuple):
+    """What core metadata says of a distribution's requirements.
+
+    Attributes:
+        name: the name, as it stands there.
+        version: the version, as it stands there.
+        requires: the requirements, of `Requires-Dist`.
+        extras: the extras that the distribution provides, of `Provides-Extra`.
+        requires_python: the clauses on the version of Python, or None.
+    """
+
+    name: str
+    version: str
+    requires: Lines
+    extras: tuple[str, ...]
+    requires_python: Optional[str]
+
+
+def requirements_of(metadata: Union[str, bytes], file: str = "METADATA") -> Metadata:
+    r"""Reads core metadata, as of a file `METADATA` or `PKG-INFO`, by the standard library's `email`.
+
+    >>> import tubrambutan
+    >>> found = tubrambutan.requirements_of("Name: demo\nVersion: 1.0\nRequires-Python: >=3.9\nRequires-Dist: flask>=2\nProvides-Extra: dev\n\nText.")
+    >>> found.name, found.version, found.requires_python, found.extras, found.requires[0]
+    ('demo', '1.0', '>=3.9', ('dev',), Line(text='flask>=2', file='METADATA', number=4))
+
+    Raises:
+        ValueError: the metadata has no name or no version.
+        UnicodeDecodeError: bytes aren't UTF-8.
+    """
+    text = metadata.decode() if isinstance(metadata, bytes) else metadata
+    message = email.message_from_string(text)
+    name, version = message["Name"], message["Version"]
+    if not name or not version:
+        raise ValueError(f"{file} has no Name or no Version")
+    head = text.split("\n\n", 1)[0].split("\n")
+    numbers = [number for number, line in enumerate(head, 1) if line.lower().startswith("requires-dist:")]
+    requires = [Line(" ".join(str(it).split("\n")), file, number) for it, number in zip(message.get_all("Requires-Dist", []), numbers)]
+    extras = tuple(str(it) for it in message.get_all("Provides-Extra", []))
+    return Metadata(str(name), str(version), Lines(requires), extras, message["Requires-Python"])
+
+
+class RequirementsFile(NamedTuple):
+    """The lines of a requirements file, with those that it includes.
+
+    Attributes:
+        requirements: the requirements.
+        constraints: those of files that are included by `-c`: they hold for packages that something else requires.
+    """
+
+    requirements: Lines
+    constraints: Lines
+
+
+def _logical(text: str) -> Iterator[tuple[int, str]]:
+    """Returns the lines without comments, each with its number; a line that ends with a backslash goes on in the next one."""
+    front, begin = "", 0
+    for number, line in enumerate(text.split("\n"), 1):
+        begin = begin if front else number
+        if line.rstrip("\r").endswith("\\") and not line.lstrip().startswith("#"):
+            front += line.rstrip("\r")[:-1]
+            continue
+        kept = _COMMENT.sub("", front + line.rstrip("\r")).strip()
+        front = ""
+        if kept:
+            yield begin, kept
+    if _COMMENT.sub("", front).strip():
+        yield begin, _COMMENT.sub("", front).strip()
+
+
+def _read(path: str, above: tuple[str, ...]) -> Iterator[tuple[bool, Line]]:
+    """Returns the lines of a file and of those that it includes, and of each whether it is a constraint."""
+    if os.path.realpath(path) in above:
+        raise ValueError(f"{path} includes itself")
+    with open(path, encoding="utf-8-sig", newline="") as it:
+        text = it.read()
+    for number, line in _logical(text):
+        include = _INCLUDE.fullmatch(line)
+        if include:
+            inner = os.path.join(os.path.dirname(path), include[1].strip())
+            is_constraint = line.startswith(("-c", "--constraint"))
+            yield from ((is_constraint or held, found) for held, found in _read(inner, (*above, os.path.realpath(path))))
+        elif _OPTION.search(line.partition(";")[0]) or _VARIABLE.search(line):
+            raise ValueError(f"{path}, line {number}: {line!r} has an option or a variable that says nothing of requirements here")
+        else:
+            yield False, Line(line, path, number)
+
+
+def requirements_file(path: Union[str, os.PathLike[str]]) -> RequirementsFile:
+    """Reads a requirements file as pip does: comments behind requirements, lines that go on, and files that `-r` and `-c` include. Nothing is left out.
+
+    Raises:
+        ValueError: a line has another option, or a variable; or a file includes itself. The message names the file and the line.
+        OSError: a file can't be read.
+        UnicodeDecodeError: a file isn't UTF-8.
+    """
+    found = list(_read(os.fspath(path), ()))
+    return RequirementsFile(_of_kind(found, False), _of_kind(found, True))
+
+
+def _of_kind(found: Iterable[tuple[bool, Line]], is_constraint: bool) -> Lines:
+    return Lines(line for held, line in found if held == is_constraint)
