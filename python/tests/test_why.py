@@ -47,6 +47,14 @@ class Reasons(unittest.TestCase):
             table = merge(lists=["\n".join(kept)], environment=STANDARD)
             self.assertEqual(table["a"].verdict if kept else "open", found.verdict if left_out < 0 else "open")
 
+    def test_names_like_words(self) -> None:
+        for name in ("claim", "clash"):
+            lists = [f"{name}>=2\n{name}<1", "a @ https://x.test/1\na @ https://x.test/2"]
+            found = why(name, lists=lists, environment=STANDARD)
+            self.assertEqual((found.name, found.verdict, [it.line for it in found.claims], len(found.clash)), (name, "none", [1, 2], 2))
+            self.assertEqual([it.name for it in clashes(lists=lists, environment=STANDARD)], ["a", name])
+            self.assertEqual(why(name, lists=["b"], environment=STANDARD).claims, ())
+
     def test_three_urls(self) -> None:
         found = why("a", lists=[f"a @ https://x.test/{number}" for number in (1, 1, 2, 3)], environment=STANDARD)
         self.assertEqual((found.verdict, len(found.claims), len(found.clash)), ("conflict", 4, 2))
@@ -72,7 +80,7 @@ class Reasons(unittest.TestCase):
             self.assertEqual([it.line for it in found.clash], [2, 3])
             self.assertEqual([it.text for it in why("a", file, group="test", environment=STANDARD).claims], ["a<1"])
         words = str(found)
-        self.assertEqual(words, f"a: no version meets these together\n  {file}, line 2: a>=2\n  input 2, line 3: a<2\nand 2 more demands")
+        self.assertEqual(words, f"a: no version meets these together\n  {file}, text 2: a>=2\n  input 2, line 3: a<2\nand 2 more demands")
         self.assertEqual(str(why("c", lists=["a"], environment=STANDARD)), "c: nothing is demanded")
 
     def test_refusals(self) -> None:

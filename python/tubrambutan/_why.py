@@ -5,7 +5,7 @@ from __future__ import annotations
 from typing import Iterable, NamedTuple, Optional, Sequence
 
 from ._inputs import Environment, Given, Path, Source, Text, buffer_of, environment_file, given_inputs, group_of, placed
-from ._library import TABLE
+from ._library import PROJECT, TABLE
 from ._lines import Lines
 from ._names import canonicalize_name
 from ._refused import Refused
@@ -19,16 +19,18 @@ class Claim(NamedTuple):
         line: the number of the line, or of the text of a project file, counted from 1; of a table's entry that of its first line.
         text: the normal text of the requirement; of a table's entry its lines.
         path: the path of the file, or None where the input was none.
+        is_text: whether `line` is the number of a text of a project file.
     """
 
     input: int
     line: int
     text: str
     path: Optional[str]
+    is_text: bool = False
 
     def __str__(self) -> str:
         lines = self.text.rstrip().replace("\n", "\n  ")
-        return f"{self.path or f'input {self.input}'}, line {self.line}: {lines}"
+        return f"{self.path or f'input {self.input}'}, {'text' if self.is_text else 'line'} {self.line}: {lines}"
 
 
 class Reason(NamedTuple):
@@ -61,36 +63,46 @@ class Reason(NamedTuple):
         return "\n".join([f"{self.name}: {told if shown else 'nothing is demanded'}", *(f"  {it}" for it in shown), *more])
 
 
-def _entry_at(given: Given, line: int) -> str:
-    """Returns the lines of the entry of a printed table that begins at a line."""
-    first, *others = given.data.decode().split("\n")[line - 1 :]
-    more = next((number for number, it in enumerate(others) if not it.startswith(" ")), len(others))
-    return "".join(f"{it}\n" for it in (first, *others[:more]))
+class _Reader:
+    """Reads the lines of reasons that the library writes of inputs."""
 
+    def __init__(self, inputs: Sequence[Given]) -> None:
+        self._inputs = inputs
+        # (the lines of printed tables, by the numbers of the inputs)
+        self._lines: dict[int, list[str]] = {}
 
-def _claim(line: str, inputs: Sequence[Given]) -> Claim:
-    """Returns the claim that the library writes on a line, behind its word."""
-    _, of_input, number, text = line.split(" ", 3)
-    given = inputs[int(of_input) - 1]
-    if given.kind == TABLE:
-        text = _entry_at(given, int(number))
-    if isinstance(given.places, Lines):
-        place = given.places[int(number) - 1]
-        return Claim(given.number, place.number, text, place.file)
-    return Claim(given.number, int(number), text, given.places)
+    def _entry_at(self, of_input: int, line: int) -> str:
+        """Returns the lines of the entry of a printed table that begins at a line."""
+        if of_input not in self._lines:
+            self._lines[of_input] = self._inputs[of_input - 1].data.decode().split("\n")
+        lines = self._lines[of_input]
+        end = line
+        while end < len(lines) and lines[end].startswith(" "):
+            end += 1
+        return "".join(f"{it}\n" for it in lines[line - 1 : end])
 
+    def _claim(self, line: str) -> Claim:
+        """Returns the claim that stands on a line, behind its word."""
+        _, of_input, at, text = line.split(" ", 3)
+        given, number = self._inputs[int(of_input) - 1], int(at)
+        if given.kind == TABLE:
+            text = self._entry_at(int(of_input), number)
+        if isinstance(given.places, Lines):
+            place = given.places[number - 1]
+            return Claim(given.number, place.number, text, place.file)
+        return Claim(given.number, number, text, given.places, given.kind == PROJECT)
 
-def _reasons(text: str, inputs: Sequence[Given]) -> tuple[Reason, ...]:
-    """Returns the reasons that the library writes."""
-    found: list[tuple[list[str], list[Claim], list[Claim]]] = []
-    for line in text.split("\n")[:-1]:
-        if line.startswith("claim "):
-            found[-1][1].append(_claim(line, inputs))
-        elif line.startswith("clash "):
-            found[-1][2].append(_claim(line, inputs))
-        else:
-            found.append((line.split(" "), [], []))
-    return tuple(Reason(name, verdict, tuple(claims), tuple(clash)) for (name, verdict), claims, clash in found)
+    def reasons(self, text: str) -> tuple[Reason, ...]:
+        """Returns the reasons: a line of two words begins each, whatever the name is."""
+        found: list[tuple[str, str, list[Claim], list[Claim]]] = []
+        for line in text.split("\n")[:-1]:
+            if line.count(" ") == 1:
+                name, verdict = line.split(" ")
+                found.append((name, verdict, [], []))
+            else:
+                _, _, claims, clash = found[-1]
+                (claims if line.startswith("claim ") else clash).append(self._claim(line))
+        return tuple(Reason(name, verdict, tuple(claims), tuple(clash)) for name, verdict, claims, clash in found)
 
 
 def why(
@@ -114,7 +126,7 @@ def why(
     asked = canonicalize_name(name).encode()
     inputs = given_inputs(paths, lists, projects, tables)
     try:
-        return _reasons(buffer_of(environment_file(environment), inputs, group_of(group)).why(asked), inputs)[0]
+        return _Reader(inputs).reasons(buffer_of(environment_file(environment), inputs, group_of(group)).why(asked))[0]
     except Refused as refused:
         raise placed(refused, inputs) from None
 
@@ -142,6 +154,6 @@ def clashes(
     """
     inputs = given_inputs(paths, lists, projects, tables)
     try:
-        return _reasons(buffer_of(environment_file(environment), inputs, group_of(group)).clashes(), inputs)
+        return _Reader(inputs).reasons(buffer_of(environment_file(environment), inputs, group_of(group)).clashes())
     except Refused as refused:
         raise placed(refused, inputs) from None
