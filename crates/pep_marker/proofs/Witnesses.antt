@@ -2,6 +2,7 @@
 use Rattle.std.proofs.Common.{◌≡◌, ◌⊎◌, inl, inr, ℕ, List, [], ◌∷◌, length, drop, Some, None}
 use Rattle.std.proofs.Common.{true, false, codes, refl, lit<, ap, arith}
 use Rattle.std.specs.Fmt.{digits}
+use Rattle.std.specs.Hash as fed
 use Rattle.std.specs.List.{take_while}
 use Rattle.std.specs.Borrow.{Bor}
 use Rattle.std.specs.Prelude.{Ok, bytes_eq}
@@ -15,9 +16,10 @@ use Rattle.specifiers.specs.Clause.{less_than}
 use Rattle.specifiers.specs.declared.op.Op.TheVariants.{Compatible, Less}
 use Rattle.texts.specs.Bytes.{is_letter_or_digit, is_name_byte}
 use Rattle.pep_marker.specs.Environment.{EnvironmentParts, environment_of, is_value, pairs_fault}
-use Rattle.pep_marker.specs.Environment.{value_at, variable_of}
+use Rattle.pep_marker.specs.Environment.{value_at, variable_name, variable_of}
 use Rattle.pep_marker.specs.Header.{found_behind, header_value}
 use Rattle.pep_marker.specs.Holds.{Compares, Evaluates}
+use Rattle.pep_marker.specs.Judged.{RefusesText}
 use Rattle.pep_marker.specs.Marker.{MarkerParts, compare, or, text, variable, version_operator}
 use Rattle.pep_marker.specs.MarkerText.{is_or}
 use Rattle.pep_marker.specs.Name.{name_cmp, name_of, normalized}
@@ -65,6 +67,10 @@ Name_copied-empty e = cc e
 pub Name_eq-by_the_head : ¬ (true ≡ bytes_eq (codes "nine-byte") (codes "nine-byts"))
 Name_eq-by_the_head e = cc e
 
+-- `a`
+pub Name_hash-of_the_head : ¬ ((0 ∷ 0 ∷ 0 ∷ 0 ∷ 0 ∷ 0 ∷ 0 ∷ 97 ∷ []) ∷ [] ≡ fed.str (codes "a"))
+Name_hash-of_the_head e = cc e
+
 -- `a b`
 pub Name_in_front-name_again_behind_it : ¬ (codes "a b"
     ≡ drop (length (take_while is_name_byte (codes "a b"))) (codes "a b"))
@@ -79,6 +85,10 @@ Name_read-any_name e = cc e
 -- `a`
 pub Name_text-none : ¬ (codes "" ≡ codes "a")
 Name_text-none e = cc e
+
+-- `extra`
+pub Variable_fmt-nothing : ¬ ([] ≡ variable_name Extra)
+Variable_fmt-nothing e = cc e
 
 -- `extra`
 pub Variable_of_name-another : ¬ (Some OsName ≡ variable_of (codes "extra"))
@@ -136,6 +146,13 @@ numbered n rest = refl
 pub found_behind-one_line_too_early : (rest : Bor (List ℕ)) → ¬ (Other 1 rest
     ≡ found_behind true (Other 1 rest))
 found_behind-one_line_too_early rest e = absurd (omega (arith, ap number_of e, numbered 1 rest, numbered 2 rest))
+
+-- no text
+pub JudgedMarkers_judge-another_fault : ¬ RefusesText extra_a [] fault.BadValue
+JudgedMarkers_judge-another_fault (inl e) = cc e
+JudgedMarkers_judge-another_fault (inr (inl (e, _))) = cc e
+JudgedMarkers_judge-another_fault (inr (inr (inl e, _))) = cc e
+JudgedMarkers_judge-another_fault (inr (inr (inr (e, _), _))) = cc e
 
 -- no memory
 pub JudgedMarkers_new-another_fault : ¬ (fault.Undefined ≡ fault.NoMemory)

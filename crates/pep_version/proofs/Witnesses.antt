@@ -36,6 +36,10 @@ pub Key_cmp_release-backwards : ¬ (Greater ≡ place_cmp (plain 1) (plain 2))
 Key_cmp_release-backwards e = cc e
 
 -- 0
+pub Key_copied-another_key : ¬ ([] ≡ key_bytes (plain 0))
+Key_copied-another_key e = cc e
+
+-- 0
 pub Key_hash-no_bytes : ¬ ([] ∷ [] ≡ key_feed (plain 0))
 unfolding key_feed
 Key_hash-no_bytes e = cc e
