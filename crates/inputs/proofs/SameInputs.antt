@@ -21,7 +21,7 @@ use Rattle.inputs.specs.Lists.{HoldsTable, IsInputText, Lists, requirement_lines
 -- ---- by requirements
 
 -- what inputs demand, one of their requirements demands, or a table that one of them is
-abbrev ByOne : EnvironmentParts → List Input → Demands
+abbrev pub ByOne : EnvironmentParts → List Input → Demands
 ByOne e inputs name d =
     ((r : RequirementParts) × HasRequirement e inputs r × Applies e r × RequirementDemands r name d)
     ⊎ ((t : TableParts) × HasTable e inputs t × TableDemands t name d)
@@ -33,7 +33,7 @@ one_further e i inputs name d (inl (r, (j, among, has), applies, demands)) =
 one_further e i inputs name d (inr (t, (j, among, is), demands)) =
     inr (t, (j, in_rest i inputs j among, is), demands)
 
-demanded_by : (e : EnvironmentParts) (inputs : List Input) (name : List ℕ) (d : Demand) →
+pub demanded_by : (e : EnvironmentParts) (inputs : List Input) (name : List ℕ) (d : Demand) →
     Gathered e inputs name d → ByOne e inputs name d
 demanded_by e [] name d g = absurd g
 demanded_by e (i ∷ inputs) name d (inl (inl (rs, is, (r, has, applies, demands)))) =
@@ -44,7 +44,7 @@ demanded_by e (i ∷ inputs) name d (inr g) =
     one_further e i inputs name d (demanded_by e inputs name d g)
 
 -- .. and what one of them demands, the inputs do
-demands_of : (e : EnvironmentParts) (inputs : List Input) (i : Input) (name : List ℕ)
+pub demands_of : (e : EnvironmentParts) (inputs : List Input) (i : Input) (name : List ℕ)
     (d : Demand) → Contains inputs i → BytesDemand e i.kind i.group i.bytes.items name d →
     Gathered e inputs name d
 demands_of e [] i name d has q = absurd (in_none i has)
@@ -87,7 +87,7 @@ text_read extra kind.Project group bytes rs x h has =
 text_read extra kind.Table group bytes rs x h has = absurd h
 
 -- .. and each requirement stands in one of its texts
-text_of : (extra : List ℕ) (k : Kind) (group : Option (List ℕ)) (bytes : List ℕ)
+pub text_of : (extra : List ℕ) (k : Kind) (group : Option (List ℕ)) (bytes : List ℕ)
     (rs : List RequirementParts) (r : RequirementParts) → Lists extra k group bytes rs →
     Contains rs r → (x : List ℕ) × IsInputText extra k group bytes x × Reads x r
 text_of extra kind.List group bytes rs r h has =
@@ -105,7 +105,7 @@ no_texts e extra kind.Project group bytes t x is has = is
 no_texts e extra kind.Table group bytes t x is has = has
 
 -- what one input has in a line, an accepted one with this line has too
-read_too : (e : EnvironmentParts) (b : List Input) (x : List ℕ) (r : RequirementParts) →
+pub read_too : (e : EnvironmentParts) (b : List Input) (x : List ℕ) (r : RequirementParts) →
     All (IsAccepted e) b → HasLine e b x → Reads x r → HasRequirement e b r
 read_too e b x r accepted (i, among, has) reads =
     by (All-contains (IsAccepted e) b i accepted among)

@@ -25,6 +25,7 @@ use Rattle.faults.specs.declared.fault.Place.TheVariants as place
 use Rattle.texts.specs.Bytes.{is_letter_or_digit}
 use Rattle.texts.specs.Limits.{line_limit}
 use Rattle.inputs.specs.Gathered.{BytesDemand, Gathered}
+use Rattle.inputs.specs.LineReading.{HasText}
 use Rattle.inputs.specs.Lists.{IsRequirementList}
 use Rattle.inputs.specs.Merge.{IsMerge}
 use Rattle.inputs.specs.Refusal.{no_memory}
@@ -101,6 +102,10 @@ gather_reader-another_input d h = elim h [
 pub gather-no_input : (i : Input) → i.kind ≡ kind.List → i.bytes.items ≡ line
     → ¬ IsTable (Gathered nowhere (i ∷ [])) []
 gather-no_input i k b = no_empty_table (Gathered nowhere (i ∷ [])) (gathered i k b)
+
+-- a line with `#` alone
+pub text_on-comment_taken : ¬ HasText (codes "#") (Some (codes "#"))
+text_on-comment_taken h = cc h.text.0
 
 -- a list with the one line `a`
 pub list_of-requirement_dropped : ¬ IsRequirementList line []

@@ -85,9 +85,12 @@ fn is_skipped(content: &[u8]) -> bool
     content.is_empty() || content.starts_with(b"#")
 }
 
-// The text of the requirement on a line, or none if the line is skipped.
+/// The text of the requirement on a line of a list, without its line feed; nothing where the line is empty or a
+/// comment. A carriage return at the line's end and white space at both ends are dropped.
+///
+/// The refusals are `LineTooLong`, 38, over 65,536 bytes, and `NotUtf8`, 51. Public for the crates above alone.
 #[inline(always)]
-fn text_on(line: &[u8]) -> Result<Option<&str>, LineFault>
+pub fn text_on(line: &[u8]) -> Result<Option<&str>, LineFault>
     ensures ok { IfOk result (λ found. HasText line.now (option_map (λ text. text.now) found)) }
     ensures refused { IfErr result (IsRefusedLine line.now) }
 {

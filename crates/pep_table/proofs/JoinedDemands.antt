@@ -96,7 +96,7 @@ is_in-intersection a b c v is h =
     at_place c v ∙ h.points (before (place_of v)) (place-version v is, place-of-place v)
     ∙ (λ i. sym (at_place a v) i && sym (at_place b v) i)
 
-joined_entry : (Q W : Demand → Type 0) (a b c : EntryParts) → IsEntry Q a → IsEntry W b →
+pub joined_entry : (Q W : Demand → Type 0) (a b c : EntryParts) → IsEntry Q a → IsEntry W b →
     JoinsEntries a b c → IsEntry (λ d. Q d ⊎ W d) c
 joined_entry Q W a b c h g j = record {
   extras = λ x. either (j.extras.members x) (h.extras x) (g.extras x);

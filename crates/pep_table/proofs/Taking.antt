@@ -95,7 +95,7 @@ texts_from (c ∷ cs) t h = by (demanded_text c) refl (texts_from cs t)
 
 -- ---- what a requirement demands of its own name
 
-abbrev OwnDemands : RequirementParts → Demand → Type 0
+abbrev pub OwnDemands : RequirementParts → Demand → Type 0
 OwnDemands r d = RequirementDemands r r.name d
 
 -- a demand on the name of the requirement, by its target
@@ -197,7 +197,7 @@ points_own r cut f =
     passes_from (λ k. is_point (set_of k) cut) (target_clauses r.target) (λ c m.
     f (clause c) (refl, clause_demanded r.target c m))
 
-taken_entry : (Q : Demand → Type 0) (a b : EntryParts) (r : RequirementParts) → IsEntry Q a →
+pub taken_entry : (Q : Demand → Type 0) (a b : EntryParts) (r : RequirementParts) → IsEntry Q a →
     HasToldSets r → TakesEntry a r b → IsEntry (λ d. Q d ⊎ OwnDemands r d) b
 taken_entry Q a b r h told k = record {
   extras = λ x. either (k.extras.members x) (h.extras x) (extras_own r x);
@@ -237,7 +237,7 @@ taken_points Q a b r h k = λ cut is.
 
 -- ---- the old entry, or the bare one where nothing is demanded
 
-bare_is_entry : (Q : Demand → Type 0) → ((d : Demand) → Q d → ⊥) → IsEntry Q bare_entry
+pub bare_is_entry : (Q : Demand → Type 0) → ((d : Demand) → Q d → ⊥) → IsEntry Q bare_entry
 bare_is_entry Q never = record {
   extras = λ x. ((λ m. absurd (in_none x m)), λ q. absurd (never (extra x) q));
   urls = λ u. ((λ m. absurd (in_none u m)), λ q. absurd (never (url u) q));

@@ -22,7 +22,7 @@ use Rattle.demands.specs.declared.fault.TableFault.{TableFault}
 use Rattle.demands.specs.declared.fault.TableFault.TheVariants as fault
 use Rattle.demands.specs.declared.verdict.Verdict.TheVariants.{Conflict}
 use Rattle.pep_table.specs.EntryReading.{found_with}
-use Rattle.pep_table.specs.TableText.{AreNoLines, IsTableText, Shows}
+use Rattle.pep_table.specs.TableText.{AreNoLines, IsTableText, Shows, entry_text}
 
 abbrev named : List ℕ → EntryParts → TableParts
 named name e = (name, e) ∷ []
@@ -43,6 +43,10 @@ requirement name marker = record { name = name; extras = []; target = bounds [];
 
 nothing : {X : Type 0} {x : X} → Contains [] x → ⊥
 nothing h = absurd (omega (arith, h.1))
+
+-- an entry
+pub entry_text-no_lines : ¬ ([] ≡ entry_text (codes "a") Conflict bare_entry)
+entry_text-no_lines e = cc e
 
 -- an entry
 pub Gathering_finish-without_entries : ¬ ([] ≡ named (codes "a") bare_entry)

@@ -11,4 +11,5 @@ mod verdict;
 
 pub use crate::gathering::Gathering;
 pub use crate::table::Table;
+pub use crate::text::entry_text;
 pub use demands::{Answer, Entry, Join, Kept, LineVersions, Sorted, TableFault, Verdict, join_all};

@@ -126,6 +126,18 @@ pub(crate) fn push_entry(
     push_lines(text, name, verdict, entry)
 }
 
+/// The lines of the entry of a name, as they stand in the text of a table (see [`Table::text`]). The only fault is
+/// `NoMemory`, 42.
+pub fn entry_text(alloc: Global, name: &Name, entry: &Entry) -> Result<String, TableFault>
+    ensures text { IfOk result (λ text. (verdict : Verdict) × Shows entry.now verdict
+        × (string_bytes text ≡ entry_text name.now verdict entry.now)) }
+    ensures faults { IfErr result (λ e. e ≡ TableFault.NoMemory) }
+{
+    let mut lines = String::new(alloc);
+    push_entry(alloc, &mut lines, name, entry)?;
+    Ok(lines)
+}
+
 fn push_place(text: &mut String, place: Place) -> Result<(), TableFault>
     ensures ok { OnOk result (string_bytes text.new ≡ string_bytes text.old ++ cut_text place) }
     ensures faults { IfErr result (λ e. e ≡ TableFault.NoMemory) }

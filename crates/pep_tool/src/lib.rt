@@ -14,3 +14,5 @@ pub use inputs::{
     Input, Kind, check_bytes, environment_of, gather, gather_reader, laws, list_of, merge_bytes,
     merge_reader, project_of,
 };
+pub use reasons::{Claim, PlacedClaim, Reason, clashes, reasons_text, why};
+pub use shards::{shard_of, shards_of};

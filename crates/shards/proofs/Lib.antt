@@ -1,0 +1,3 @@
+pub mod SplitLines
+pub mod ShardLaws
+mod Witnesses
