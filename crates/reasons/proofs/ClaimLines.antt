@@ -23,7 +23,8 @@ use Rattle.inputs.specs.declared.input.Kind.{Kind}
 use Rattle.inputs.specs.declared.input.Kind.TheVariants as kind
 use Rattle.inputs.specs.Lists.{HoldsTable, Lists, content, is_skipped, lines_of, requirement_lines}
 use Rattle.inputs.specs.Lists.{requirements_among}
-use Rattle.reasons.specs.Places.{EntersAt, RequiresAt}
+use Rattle.inputs.specs.TableFiles.{IsTableFile}
+use Rattle.reasons.specs.Places.{BeginsOn, EntersAt, RequiresAt}
 
 -- ---- lines that are kept
 
@@ -206,26 +207,24 @@ entered_in e kind.Table bytes number name entry at = (
   entry_behind at.before name entry at.behind at.table.valid.names.0,
 )
 
-pub entered_at : (e : EnvironmentParts) (k : Kind) (bytes : List ℕ) (t : TableParts)
-    (name : List ℕ) (entry : EntryParts) → HoldsTable e k bytes t → entry_at t name ≡ Some entry →
-    (number : ℕ) × EntersAt e k bytes number name entry
-entered_at e kind.List bytes t name entry h at = absurd h
-entered_at e kind.Project bytes t name entry h at = absurd h
-entered_at e kind.Table bytes t name entry h at =
-    let found = split_there t name entry at in
-    let read : IsReadAs e (found.before ++ (name, entry) ∷ found.behind) bytes =
-    subst (λ (s : TableParts). IsReadAs e s bytes) found.whole h.text in
-    by found.before found.behind (subst (λ (s : TableParts). HoldsTable e kind.Table bytes s) found.whole h) read
+-- where the entry begins, by those in front of it and those behind
+pub record IsEntered (e : EnvironmentParts) (bytes : List ℕ) (name : List ℕ) (entry : EntryParts)
+    (behind : TableParts) : Type 0 where
+  pub number : ℕ
+  pub begins : BeginsOn e bytes number name entry
+  pub same : begins.behind ≡ behind
+
+pub begins_there : (e : EnvironmentParts) (bytes : List ℕ) (before : TableParts) (name : List ℕ)
+    (entry : EntryParts) (behind : TableParts) →
+    IsTableFile e bytes (before ++ (name, entry) ∷ behind) → IsEntered e bytes name entry behind
+begins_there e bytes before name entry behind table = by table.text
   where
-    by : (before behind : TableParts) →
-        HoldsTable e kind.Table bytes (before ++ (name, entry) ∷ behind) →
-        IsReadAs e (before ++ (name, entry) ∷ behind) bytes →
-        (number : ℕ) × EntersAt e kind.Table bytes number name entry
-    by before behind table (inl (lines, are, is)) =
+    by : IsReadAs e (before ++ (name, entry) ∷ behind) bytes → IsEntered e bytes name entry behind
+    by (inl (lines, are, is)) =
         let cut = cut_lines before ((name, entry) ∷ behind) lines are in
-        let front = header e ++ cut.front in (
-          length (lines_of front),
-          record {
+        let front = header e ++ cut.front in record {
+          number = length (lines_of front);
+          begins = record {
             before = before;
             behind = behind;
             table = table;
@@ -236,12 +235,13 @@ entered_at e kind.Table bytes t name entry h at =
             fore = inl (cut.front, cut.fore, refl);
             lines = cut.lines;
             counted = refl;
-          },
-        )
-    by before behind table (inr are) =
-        let cut = cut_lines before ((name, entry) ∷ behind) bytes are in (
-          length (lines_of cut.front),
-          record {
+          };
+          same = refl;
+        }
+    by (inr are) =
+        let cut = cut_lines before ((name, entry) ∷ behind) bytes are in record {
+          number = length (lines_of cut.front);
+          begins = record {
             before = before;
             behind = behind;
             table = table;
@@ -251,5 +251,17 @@ entered_at e kind.Table bytes t name entry h at =
             fore = inr cut.fore;
             lines = cut.lines;
             counted = refl;
-          },
-        )
+          };
+          same = refl;
+        }
+
+pub entered_at : (e : EnvironmentParts) (k : Kind) (bytes : List ℕ) (t : TableParts)
+    (name : List ℕ) (entry : EntryParts) → HoldsTable e k bytes t → entry_at t name ≡ Some entry →
+    (number : ℕ) × EntersAt e k bytes number name entry
+entered_at e kind.List bytes t name entry h at = absurd h
+entered_at e kind.Project bytes t name entry h at = absurd h
+entered_at e kind.Table bytes t name entry h at =
+    let found = split_there t name entry at in
+    let there = begins_there e bytes found.before name entry found.behind
+    (subst (λ (s : TableParts). IsTableFile e bytes s) found.whole h) in
+    (there.number, there.begins)

@@ -17,6 +17,9 @@ use Rattle.pep_require.proofs.Members.{in_none}
 use Rattle.inputs.specs.declared.input.Input.{Input}
 use Rattle.reasons.proofs.ClaimOrder.{order_append}
 use Rattle.reasons.specs.Claims.{ClaimParts, PlacedParts, StandsBefore, entered, name_of, required}
+use Rattle.std.specs.List.{AllZip}
+use Rattle.reasons.proofs.AskedClaims.{gains_both, gains_nothing, gains_same}
+use Rattle.reasons.specs.Asked.{AskedParts, Gains}
 use Rattle.reasons.specs.ClaimSearch.{AreClaimsBy}
 use Rattle.reasons.specs.Places.{AreClaims, ClaimsAt, StandsAmong, StandsIn}
 
@@ -125,55 +128,65 @@ input_more e name done x ps own h g = record {
 -- ---- the claims of an input, by its kind
 
 pub of_kind : (e : EnvironmentParts) (i : Input) (k : Kind) (group : Option (List ℕ))
-    (bytes : List ℕ) (number : ℕ) (name : List ℕ) (ps : List PlacedParts) → i.kind ≡ k →
-    i.group ≡ group → bytes ≡ i.bytes.items → AreClaimsBy (StandsIn e k group bytes) number name ps →
-    AreClaimsBy (ClaimsAt e i) number name ps
-of_kind e i k group bytes number name ps kind_is group_is same h =
-    subst (λ (j : Kind). AreClaimsBy (StandsIn e j i.group i.bytes.items) number name ps) (sym kind_is)
-    (subst (λ (g : Option (List ℕ)). AreClaimsBy (StandsIn e k g i.bytes.items) number name ps)
-    (sym group_is)
-    (subst (λ (x : List ℕ). AreClaimsBy (StandsIn e k group x) number name ps) same h))
+    (bytes : List ℕ) (number : ℕ) (os ns : List AskedParts) → i.kind ≡ k → i.group ≡ group →
+    bytes ≡ i.bytes.items → AllZip (Gains (AreClaimsBy (StandsIn e k group bytes) number)) os ns →
+    AllZip (Gains (AreClaimsBy (ClaimsAt e i) number)) os ns
+of_kind e i k group bytes number os ns kind_is group_is same h =
+    subst (λ (j : Kind). AllZip (Gains (AreClaimsBy (StandsIn e j i.group i.bytes.items) number)) os ns)
+    (sym kind_is)
+    (subst (λ (g : Option (List ℕ)).
+    AllZip (Gains (AreClaimsBy (StandsIn e k g i.bytes.items) number)) os ns) (sym group_is)
+    (subst (λ (x : List ℕ). AllZip (Gains (AreClaimsBy (StandsIn e k group x) number)) os ns) same h))
 
 -- lists and tables have no group
 pub list_group : (e : EnvironmentParts) (group : Option (List ℕ)) (bytes : List ℕ) (number : ℕ)
-    (name : List ℕ) (ps : List PlacedParts) →
-    AreClaimsBy (StandsIn e kind.List None bytes) number name ps →
-    AreClaimsBy (StandsIn e kind.List group bytes) number name ps
-list_group e group bytes number name ps h =
+    (os ns : List AskedParts) →
+    AllZip (Gains (AreClaimsBy (StandsIn e kind.List None bytes) number)) os ns →
+    AllZip (Gains (AreClaimsBy (StandsIn e kind.List group bytes) number)) os ns
+list_group e group bytes number os ns h =
+    gains_same (AreClaimsBy (StandsIn e kind.List None bytes) number)
+    (AreClaimsBy (StandsIn e kind.List group bytes) number) (λ name ps.
     same_claims (StandsIn e kind.List None bytes) (StandsIn e kind.List group bytes) number name ps
-    same h
+    (same name)) os ns h
   where
-    same : (n : ℕ) (c : ClaimParts) → name_of c ≡ name →
+    same : (name : List ℕ) (n : ℕ) (c : ClaimParts) → name_of c ≡ name →
         StandsIn e kind.List None bytes n c ↔ StandsIn e kind.List group bytes n c
-    same n (required r) is = ((λ at. at), λ at. at)
-    same n (entered m x) is = ((λ at. at), λ at. at)
+    same name n (required r) is = ((λ at. at), λ at. at)
+    same name n (entered m x) is = ((λ at. at), λ at. at)
 
 pub table_group : (e : EnvironmentParts) (group : Option (List ℕ)) (bytes : List ℕ) (number : ℕ)
-    (name : List ℕ) (ps : List PlacedParts) →
-    AreClaimsBy (StandsIn e kind.Table None bytes) number name ps →
-    AreClaimsBy (StandsIn e kind.Table group bytes) number name ps
-table_group e group bytes number name ps h =
+    (os ns : List AskedParts) →
+    AllZip (Gains (AreClaimsBy (StandsIn e kind.Table None bytes) number)) os ns →
+    AllZip (Gains (AreClaimsBy (StandsIn e kind.Table group bytes) number)) os ns
+table_group e group bytes number os ns h =
+    gains_same (AreClaimsBy (StandsIn e kind.Table None bytes) number)
+    (AreClaimsBy (StandsIn e kind.Table group bytes) number) (λ name ps.
     same_claims (StandsIn e kind.Table None bytes) (StandsIn e kind.Table group bytes) number name ps
-    same h
+    (same name)) os ns h
   where
-    same : (n : ℕ) (c : ClaimParts) → name_of c ≡ name →
+    same : (name : List ℕ) (n : ℕ) (c : ClaimParts) → name_of c ≡ name →
         StandsIn e kind.Table None bytes n c ↔ StandsIn e kind.Table group bytes n c
-    same n (required r) is = ((λ at. at), λ at. at)
-    same n (entered m x) is = ((λ at. at), λ at. at)
+    same name n (required r) is = ((λ at. at), λ at. at)
+    same name n (entered m x) is = ((λ at. at), λ at. at)
 
 -- ---- the code's loop over inputs
 
-pub inputs_next : (e : EnvironmentParts) (name : List ℕ) (inputs : List Input) (k number : ℕ)
-    (x : Input) (ps own new : List PlacedParts) → k < length inputs → x ≡ get_or inputs k x →
-    number ≡ k → AreClaims e (take k inputs) name ps →
-    AreClaimsBy (ClaimsAt e x) (number + 1) name own → new ≡ ps ++ own →
-    AreClaims e (take (k + 1) inputs) name new
-inputs_next e name inputs k number x ps own new lt is counted h g made =
+pub none_of_inputs : (e : EnvironmentParts) (qs : List AskedParts) →
+    AllZip (Gains (AreClaims e [])) qs qs
+none_of_inputs e qs = gains_nothing (AreClaims e []) (no_inputs e) qs
+
+pub inputs_next : (e : EnvironmentParts) (inputs : List Input) (k number : ℕ) (x : Input)
+    (os ns new : List AskedParts) → k < length inputs → x ≡ get_or inputs k x → number ≡ k →
+    AllZip (Gains (AreClaims e (take k inputs))) os ns →
+    AllZip (Gains (AreClaimsBy (ClaimsAt e x) (number + 1))) ns new →
+    AllZip (Gains (AreClaims e (take (k + 1) inputs))) os new
+inputs_next e inputs k number x os ns new lt is counted h g =
     let more : take (k + 1) inputs ≡ take k inputs ++ x ∷ [] =
     take_more inputs k x lt ∙ ap (λ (i : Input). take k inputs ++ i ∷ []) (sym is) in
     let count : number + 1 ≡ length (take k inputs) + 1 =
     ap (λ n. n + 1) (counted ∙ sym (length-take-le k inputs (omega (arith, lt)))) in
-    subst (λ (l : List Input). AreClaims e l name new) (sym more)
-    (subst (λ (l : List PlacedParts). AreClaims e (take k inputs ++ x ∷ []) name l) (sym made)
-    (input_more e name (take k inputs) x ps own h
-    (subst (λ n. AreClaimsBy (ClaimsAt e x) n name own) count g)))
+    subst (λ (l : List Input). AllZip (Gains (AreClaims e l)) os new) (sym more)
+    (gains_both (AreClaims e (take k inputs)) (AreClaimsBy (ClaimsAt e x) (number + 1))
+    (AreClaims e (take k inputs ++ x ∷ [])) (λ name ps own a b.
+    input_more e name (take k inputs) x ps own a
+    (subst (λ n. AreClaimsBy (ClaimsAt e x) n name own) count b)) os ns new h g)

@@ -1,23 +1,21 @@
 -- How claims that clash are found: what each step of the search keeps.
-use Rattle.std.proofs.Common.{◌≡◌, ◌≢◌, ℕ, zero, suc, ◌+◌, ◌<◌, ◌≤◌, Bool, true, false, List, [], ◌∷◌, ◌++◌}
-use Rattle.std.proofs.Common.{append_assoc, arith, length, take, refl, sym, ap, subst, ◌∙◌, inl, inr}
-use Rattle.std.proofs.Common.{◌⊎◌, add-one}
-use Rattle.std.specs.Prelude.{Contains, reverse, slice_index_or}
-use Rattle.std.proofs.Math.Seq.{take-length}
-use Rattle.std.proofs.lemmas.List.{append-nil, map-append, reverse-append}
-use Rattle.std.proofs.lemmas.List.Elements.{All-append, All-cons, All-nil}
+use Rattle.std.proofs.Common.{◌≡◌, ◌≢◌, ℕ, Bool, true, false, List, [], ◌∷◌, ◌++◌}
+use Rattle.std.proofs.Common.{append_assoc, arith, length, refl, sym, ap, subst, ◌∙◌, inl, inr}
+use Rattle.std.specs.Prelude.{slice_index_or}
+use Rattle.std.proofs.lemmas.List.{append-nil}
 use Rattle.std.proofs.lemmas.List.Elements.{Contains-append_cases, Contains-append_left}
 use Rattle.std.proofs.lemmas.List.Elements.{Contains-append_right}
-use Rattle.pep_require.proofs.Members.{in_either, in_first, in_none, in_rest}
+use Rattle.pep_require.proofs.Members.{in_none}
 use Rattle.demands.specs.declared.verdict.Verdict.{Verdict}
 use Rattle.demands.specs.declared.verdict.Verdict.TheVariants.{Possible, Nothing, Conflict}
 use Rattle.demands.specs.Verdict.{IsVerdict}
-use Rattle.reasons.proofs.ClaimOrder.{first_before, rest_in_order}
 use Rattle.reasons.proofs.FoundClashes.{fewer_admit, more_conflict, more_nothing}
-use Rattle.reasons.specs.Claims.{AreAmong, AreInOrder, Claimed, PlacedParts, StandsBefore}
+use Rattle.reasons.proofs.PickedClaims.{all_at, at_among, at_in_order, claims_picked, indices_rise}
+use Rattle.reasons.proofs.PickedClaims.{indices_within, parts_at, picked_rise, picked_there, some_within}
+use Rattle.reasons.specs.Claims.{AreAmong, AreInOrder, Claimed, PlacedParts}
 use Rattle.reasons.specs.Clash.{IsClash, IsPartThatClashes}
-use Rattle.reasons.specs.ClashSearch.{AreNeeded, AreWithin, Clashing, Fitting, FoundSoFar, IsLeast, IsTold}
-use Rattle.reasons.specs.ClashSearch.{RiseFrom, under_trial}
+use Rattle.reasons.specs.ClashSearch.{AreEnough, AreFound, AreNeeded, ArePicked, Clashing, Fitting}
+use Rattle.reasons.specs.ClashSearch.{IsLeast, IsTold, indices}
 use Rattle.reasons.specs.View.{claims_at, nowhere}
 
 -- ---- fewer claims
@@ -61,135 +59,6 @@ told_by name w v ps qs true among all some alike unlike =
 told_by name w v ps qs false among all some alike unlike =
     tells_other name w v ps qs among all some (unlike refl)
 
--- ---- claims at indices
-
-pub in_front : (n : ℕ) (ps : List PlacedParts) → AreAmong (take n ps) ps
-in_front zero ps p m = absurd (in_none p m)
-in_front (suc n) [] p m = absurd (in_none p m)
-in_front (suc n) (q ∷ ps) p m = elim (in_either q (take n ps) p m) [
-  | inl same ↦ in_first q ps p same
-  | inr more ↦ in_rest q ps p (in_front n ps p more)
-]
-
-pub in_more_front : (m n : ℕ) (ps : List PlacedParts) → m ≤ n → AreAmong (take m ps) (take n ps)
-in_more_front zero n ps le p h = absurd (in_none p h)
-in_more_front (suc m) zero ps le p h = absurd (omega (arith, le))
-in_more_front (suc m) (suc n) [] le p h = absurd (in_none p h)
-in_more_front (suc m) (suc n) (q ∷ ps) le p h = elim (in_either q (take m ps) p h) [
-  | inl same ↦ in_first q (take n ps) p same
-  | inr more ↦ in_rest q (take n ps) p (in_more_front m n ps (omega (arith, le)) p more)
-]
-
--- the one at an index
-abbrev pub claim_at : List PlacedParts → ℕ → PlacedParts
-claim_at ps k = slice_index_or ps k nowhere
-
-there_at : (ps : List PlacedParts) (k : ℕ) → k < length ps → Contains ps (claim_at ps k)
-there_at [] k lt = absurd (omega (arith, lt))
-there_at (p ∷ ps) zero lt = in_first p ps p refl
-there_at (p ∷ ps) (suc k) lt =
-    in_rest p ps (claim_at ps k) (there_at ps k (omega (arith, lt)))
-
-front_more : (ps : List PlacedParts) (k : ℕ) → k < length ps →
-    take (suc k) ps ≡ take k ps ++ claim_at ps k ∷ []
-front_more [] k lt = absurd (omega (arith, lt))
-front_more (p ∷ ps) zero lt = refl
-front_more (p ∷ ps) (suc k) lt =
-    ap (λ (l : List PlacedParts). p ∷ l) (front_more ps k (omega (arith, lt)))
-
--- each index is one of the list's, one by one
-AllBelow : ℕ → List ℕ → Type 0
-AllBelow n [] = Unit {0}
-AllBelow n (k ∷ ks) = (k < n) × AllBelow n ks
-
-within_all : (ps : List PlacedParts) (ks : List ℕ) → AreWithin ps ks → AllBelow (length ps) ks
-unfolding AllBelow
-within_all ps [] h = tt
-within_all ps (k ∷ ks) h = (h 0 0 (omega arith), within_all ps ks (λ i d lt. h (suc i) d (omega (arith, lt))))
-
-within_more : (ps : List PlacedParts) (ks : List ℕ) (k : ℕ) → k < length ps → AreWithin ps ks →
-    AreWithin ps (ks ++ k ∷ [])
-within_more ps ks k lt h =
-    All-append (λ i. i < length ps) ks (k ∷ []) h (All-cons (λ i. i < length ps) k [] lt
-    (All-nil (λ i. i < length ps)))
-
--- claims at indices are among all
-picked_among : (ps : List PlacedParts) (ks : List ℕ) → AllBelow (length ps) ks →
-    AreAmong (claims_at ps ks) ps
-unfolding AllBelow
-picked_among ps [] h p m = absurd (in_none p m)
-picked_among ps (k ∷ ks) h p m = elim (in_either (claim_at ps k) (claims_at ps ks) p m) [
-  | inl same ↦ subst (Contains ps) same (there_at ps k h.0)
-  | inr more ↦ picked_among ps ks h.1 p more
-]
-
--- turned round they are the same
-turned : (ps : List PlacedParts) (k : ℕ) (ks : List ℕ) →
-    claims_at ps (reverse (k ∷ ks)) ≡ claims_at ps (reverse ks) ++ claim_at ps k ∷ []
-turned ps k ks =
-    ap (claims_at ps) (reverse-append (k ∷ []) ks)
-    ∙ map-append (claim_at ps) (reverse ks) (k ∷ [])
-
-turned_there : (ps : List PlacedParts) (ks : List ℕ) →
-    AreAmong (claims_at ps (reverse ks)) (claims_at ps ks)
-turned_there ps [] p m = m
-turned_there ps (k ∷ ks) p m =
-    elim (Contains-append_cases (claims_at ps (reverse ks)) (claim_at ps k ∷ []) p
-    (subst (λ l. Contains l p) (turned ps k ks) m)) [
-      | inl more ↦ in_rest (claim_at ps k) (claims_at ps ks) p (turned_there ps ks p more)
-      | inr one ↦ in_first (claim_at ps k) (claims_at ps ks) p (only (claim_at ps k) p one)
-    ]
-  where
-    only : (q p : PlacedParts) → Contains (q ∷ []) p → q ≡ p
-    only q p m = elim (in_either q [] p m) [
-      | inl same ↦ same
-      | inr more ↦ absurd (in_none p more)
-    ]
-
-turned_back : (ps : List PlacedParts) (ks : List ℕ) →
-    AreAmong (claims_at ps ks) (claims_at ps (reverse ks))
-turned_back ps [] p m = m
-turned_back ps (k ∷ ks) p m =
-    subst (λ l. Contains l p) (sym (turned ps k ks))
-    (elim (in_either (claim_at ps k) (claims_at ps ks) p m) [
-      | inl same ↦ Contains-append_right (claims_at ps (reverse ks)) (claim_at ps k ∷ []) p
-          (in_first (claim_at ps k) [] p same)
-      | inr more ↦ Contains-append_left (claims_at ps (reverse ks)) (claim_at ps k ∷ []) p
-          (turned_back ps ks p more)
-    ])
-
-pub both_among : (xs bs cs ds : List PlacedParts) → AreAmong xs bs → AreAmong cs ds →
-    AreAmong (xs ++ cs) (bs ++ ds)
-both_among xs bs cs ds f g p m = elim (Contains-append_cases xs cs p m) [
-  | inl here ↦ Contains-append_left bs ds p (f p here)
-  | inr there ↦ Contains-append_right bs ds p (g p there)
-]
-
-itself : (ps : List PlacedParts) → AreAmong ps ps
-itself ps p m = m
-
--- ---- what is gathered
-
-pub trial_there : (ps : List PlacedParts) (end : ℕ) (found : List ℕ) →
-    AreAmong (under_trial ps end found) (take end ps ++ claims_at ps found)
-trial_there ps end found =
-    both_among (take end ps) (take end ps) (claims_at ps (reverse found)) (claims_at ps found)
-    (itself (take end ps)) (turned_there ps found)
-
-pub trial_back : (ps : List PlacedParts) (end : ℕ) (found : List ℕ) →
-    AreAmong (take end ps ++ claims_at ps found) (under_trial ps end found)
-trial_back ps end found =
-    both_among (take end ps) (take end ps) (claims_at ps found) (claims_at ps (reverse found))
-    (itself (take end ps)) (turned_back ps found)
-
-pub trial_among : (ps : List PlacedParts) (end : ℕ) (found : List ℕ) → AreWithin ps found →
-    AreAmong (under_trial ps end found) ps
-trial_among ps end found within p m =
-    elim (Contains-append_cases (take end ps) (claims_at ps found) p (trial_there ps end found p m)) [
-      | inl here ↦ in_front end ps p here
-      | inr there ↦ picked_among ps found (within_all ps found within) p there
-    ]
-
 pub told_enough : (name : List ℕ) (w : Verdict) (qs : List PlacedParts) (b : Bool) → b ≡ true →
     IsTold name w qs b → Clashing name w qs
 told_enough name w qs b is h = subst (IsTold name w qs) is h
@@ -198,144 +67,182 @@ pub told_few : (name : List ℕ) (w : Verdict) (qs : List PlacedParts) (b : Bool
     IsTold name w qs b → Fitting name w qs
 told_few name w qs b is h = subst (IsTold name w qs) is h
 
-pub trial_fewer : (name : List ℕ) (w : Verdict) (ps : List PlacedParts) (k low : ℕ)
-    (found : List ℕ) → k ≤ low → Fitting name w (under_trial ps low found) →
-    Fitting name w (under_trial ps k found)
-trial_fewer name w ps k low found le h =
-    fewer_fit name w (under_trial ps low found) (under_trial ps k found)
-    (both_among (take k ps) (take low ps) (claims_at ps (reverse found)) (claims_at ps (reverse found))
-    (in_more_front k low ps le) (itself (claims_at ps (reverse found)))) h
+-- ---- claims among others
+
+pub none_among : (ps : List PlacedParts) → AreAmong [] ps
+none_among ps p m = absurd (in_none p m)
+
+left : (xs ys : List PlacedParts) → AreAmong xs (xs ++ ys)
+left xs ys p m = Contains-append_left xs ys p m
+
+right : (xs ys : List PlacedParts) → AreAmong ys (xs ++ ys)
+right xs ys p m = Contains-append_right xs ys p m
+
+pub both_among : (xs ys zs : List PlacedParts) → AreAmong xs zs → AreAmong ys zs →
+    AreAmong (xs ++ ys) zs
+both_among xs ys zs f g p m = elim (Contains-append_cases xs ys p m) [
+  | inl here ↦ f p here
+  | inr there ↦ g p there
+]
+
+-- xs among the first or the second of three
+first_of : (xs ys zs : List PlacedParts) → AreAmong xs ((xs ++ ys) ++ zs)
+first_of xs ys zs p m = left (xs ++ ys) zs p (left xs ys p m)
+
+second_of : (xs ys zs : List PlacedParts) → AreAmong ys ((xs ++ ys) ++ zs)
+second_of xs ys zs p m = left (xs ++ ys) zs p (right xs ys p m)
 
 -- ---- the search
 
--- the last of the least front is taken to those that were found
-found_more : (ps : List PlacedParts) (k : ℕ) (found : List ℕ) →
-    claims_at ps (reverse (found ++ k ∷ [])) ≡ claim_at ps k ∷ claims_at ps (reverse found)
-found_more ps k found = ap (claims_at ps) (reverse-append found (k ∷ []))
+-- an item of two lists stands in the first or in the second
+data StandsIn (xs ys before : List PlacedParts) (p : PlacedParts) (behind : List PlacedParts) :
+    Type 0 where
+  first : (more : List PlacedParts) → xs ≡ before ++ p ∷ more → behind ≡ more ++ ys →
+      StandsIn xs ys before p behind
+  second : (more : List PlacedParts) → ys ≡ more ++ p ∷ behind → before ≡ xs ++ more →
+      StandsIn xs ys before p behind
 
-trial_same : (ps : List PlacedParts) (k : ℕ) (found : List ℕ) → k < length ps →
-    under_trial ps (suc k) found ≡ under_trial ps k (found ++ k ∷ [])
-trial_same ps k found lt =
-    ap (λ (l : List PlacedParts). l ++ claims_at ps (reverse found)) (front_more ps k lt)
-    ∙ append_assoc (take k ps) (claim_at ps k ∷ []) (claims_at ps (reverse found))
-    ∙ ap (λ (l : List PlacedParts). take k ps ++ l) (sym (found_more ps k found))
+stands_in : (xs ys before : List PlacedParts) (p : PlacedParts) (behind : List PlacedParts) →
+    xs ++ ys ≡ before ++ p ∷ behind → StandsIn xs ys before p behind
+stands_in [] ys before p behind e = second before e refl
+stands_in (x ∷ xs) ys [] p behind e =
+    let same : x ≡ p = cc e in let rest : xs ++ ys ≡ behind = cc e in
+    first xs (λ i. same i ∷ xs) (sym rest)
+stands_in (x ∷ xs) ys (b ∷ before) p behind e =
+    let same : x ≡ b = cc e in
+    let rest : xs ++ ys ≡ before ++ p ∷ behind = cc e in
+    by (stands_in xs ys before p behind rest) same
+  where
+    by : StandsIn xs ys before p behind → x ≡ b → StandsIn (x ∷ xs) ys (b ∷ before) p behind
+    by (first more has is) same = first more (λ i. same i ∷ has i) is
+    by (second more has is) same = let back : b ≡ x = sym same in second more has (λ i. back i ∷ is i)
 
-module _ (name : List ℕ) (w : Verdict) (ps : List PlacedParts) where
-  pub all_enough : IsVerdict (Claimed ps name) w → Clashing name w (under_trial ps (length ps) [])
-  all_enough h =
-      subst (Clashing name w) (sym (append-nil (take (length ps) ps) ∙ take-length ps))
-      (tells_same name w ps h)
+module _ (name : List ℕ) (w : Verdict) (some : List PlacedParts) where
+  pub none_left : (ps : List PlacedParts) (ks : List ℕ) → ks ≡ [] →
+      Clashing name w (some ++ claims_at ps ks) → Clashing name w some
+  none_left ps ks none h =
+      subst (Clashing name w) (append-nil some)
+      (subst (λ (l : List ℕ). Clashing name w (some ++ claims_at ps l)) none h)
 
-  pub none_found : (m : ℕ) → m ≤ length ps → IsLeast name w ps m [] → FoundSoFar name w ps m []
-  none_found m le least = record {
-    room = le;
-    within = All-nil (λ k. k < length ps);
-    rising = tt;
-    least = least;
-    needed = λ before p behind e. never before p behind e;
+  -- no more is needed
+  pub none_least : (clash : List PlacedParts) → clash ≡ [] → Clashing name w some →
+      IsLeast name w some clash
+  none_least clash e h = record {
+    enough = subst (Clashing name w) (sym (append-nil some) ∙ ap (λ (l : List PlacedParts). some ++ l) (sym e)) h;
+    needed = λ before p behind is. never before p behind (sym e ∙ is);
   }
     where
       never : (before : List PlacedParts) (p : PlacedParts) (behind : List PlacedParts) →
-          [] ≡ before ++ p ∷ behind → Fitting name w (take m ps ++ (before ++ behind))
-      never [] p behind e = cc e
-      never (b ∷ before) p behind e = cc e
+          [] ≡ before ++ p ∷ behind → Fitting name w (some ++ (before ++ behind))
+      never [] p behind is = cc is
+      never (b ∷ before) p behind is = cc is
 
-  pub enough_again : (end k : ℕ) (found : List ℕ) → end ≡ suc k → FoundSoFar name w ps end found →
-      Clashing name w (under_trial ps k (found ++ k ∷ []))
-  enough_again end k found e h =
-      let room = h.room in
-      subst (Clashing name w)
-      (ap (λ n. under_trial ps n found) e ∙ trial_same ps k found (omega (arith, e, room))) h.least.0
-
-  pub within_again : (end k : ℕ) (found : List ℕ) → end ≡ suc k → FoundSoFar name w ps end found →
-      AreWithin ps (found ++ k ∷ [])
-  within_again end k found e h =
-      let room = h.room in within_more ps found k (omega (arith, e, room)) h.within
-
-  needed_again : (end k m : ℕ) (found : List ℕ) → end ≡ suc k → m ≤ k →
-      FoundSoFar name w ps end found → (before : List PlacedParts) (p : PlacedParts)
-      (behind : List PlacedParts) →
-      claim_at ps k ∷ claims_at ps (reverse found) ≡ before ++ p ∷ behind →
-      Fitting name w (take m ps ++ (before ++ behind))
-  needed_again end k m found e le h [] p behind is =
-      let rest : claims_at ps (reverse found) ≡ behind = cc is in
-      subst (λ (l : List PlacedParts). Fitting name w (take m ps ++ l)) rest
-      (fewer_fit name w (under_trial ps k found) (take m ps ++ claims_at ps (reverse found))
-      (both_among (take m ps) (take k ps) (claims_at ps (reverse found)) (claims_at ps (reverse found))
-      (in_more_front m k ps le) (itself (claims_at ps (reverse found))))
-      (h.least.1 k (e ∙ sym (add-one k))))
-  needed_again end k m found e le h (b ∷ before) p behind is =
-      let first : claim_at ps k ≡ b = cc is in
-      let rest : claims_at ps (reverse found) ≡ before ++ p ∷ behind = cc is in
-      let room = h.room in
-      let below : m ≤ end = omega (arith, e, le) in
-      let there : Contains (take end ps) b =
-      subst (λ n. Contains (take n ps) b) (sym e)
-      (subst (λ (l : List PlacedParts). Contains l b) (sym (front_more ps k (omega (arith, e, room))))
-      (Contains-append_right (take k ps) (claim_at ps k ∷ []) b (in_first (claim_at ps k) [] b first))) in
-      fewer_fit name w (take end ps ++ (before ++ behind)) (take m ps ++ (b ∷ (before ++ behind)))
-      (λ q mem. by below there q (Contains-append_cases (take m ps) (b ∷ (before ++ behind)) q mem))
-      (h.needed before p behind rest)
+  -- the one that is left is needed
+  one_least : (q : PlacedParts) → Clashing name w (some ++ q ∷ []) → Fitting name w some →
+      IsLeast name w some (q ∷ [])
+  one_least q h few = record { enough = h; needed = alone }
     where
-      by : m ≤ end → Contains (take end ps) b → (q : PlacedParts) →
-          Contains (take m ps) q ⊎ Contains (b ∷ (before ++ behind)) q →
-          Contains (take end ps ++ (before ++ behind)) q
-      by below there q (inl here) =
-          Contains-append_left (take end ps) (before ++ behind) q (in_more_front m end ps below q here)
-      by below there q (inr more) = elim (in_either b (before ++ behind) q more) [
-        | inl same ↦ Contains-append_left (take end ps) (before ++ behind) q
-            (subst (Contains (take end ps)) same there)
-        | inr others ↦ Contains-append_right (take end ps) (before ++ behind) q others
-      ]
+      alone : (before : List PlacedParts) (p : PlacedParts) (behind : List PlacedParts) →
+          q ∷ [] ≡ before ++ p ∷ behind → Fitting name w (some ++ (before ++ behind))
+      alone [] p behind is =
+          let none : [] ≡ behind = cc is in
+          subst (λ (l : List PlacedParts). Fitting name w (some ++ l)) none
+          (subst (Fitting name w) (sym (append-nil some)) few)
+      alone (b ∷ []) p behind is = let never : [] ≡ p ∷ behind = cc is in cc never
+      alone (b ∷ c ∷ before) p behind is =
+          let never : [] ≡ c ∷ (before ++ p ∷ behind) = cc is in cc never
 
-  pub found_again : (end k m : ℕ) (found : List ℕ) → end ≡ suc k → FoundSoFar name w ps end found →
-      m ≤ k → IsLeast name w ps m (found ++ k ∷ []) → FoundSoFar name w ps m (found ++ k ∷ [])
-  found_again end k m found e h le least =
-      let room = h.room in
-      record {
-        room = omega (arith, e, le, room);
-        within = within_again end k found e h;
-        rising = subst (RiseFrom m) (sym (reverse-append found (k ∷ [])))
-            (le, subst (λ n. RiseFrom n (reverse found)) (e ∙ sym (add-one k)) h.rising);
-        least = least;
-        needed = λ before p behind is. needed_again end k m found e le h before p behind
-            (sym (found_more ps k found) ∙ is);
-      }
+  pub lone_least : (ps : List PlacedParts) (ks : List ℕ) → length ks ≡ 1 →
+      Clashing name w (some ++ claims_at ps ks) → Fitting name w some → IsLeast name w some (claims_at ps ks)
+  lone_least ps [] one h few = cc one
+  lone_least ps (k ∷ []) one h few = one_least (slice_index_or ps k nowhere) h few
+  lone_least ps (k ∷ j ∷ ks) one h few = absurd (omega (arith, one))
+
+  module _ (front xs ys : List PlacedParts) (among : AreAmong xs front) where
+    -- those that were found behind, and then in front of them
+    both_least : IsLeast name w (some ++ front) ys → IsLeast name w (some ++ ys) xs →
+        IsLeast name w some (xs ++ ys)
+    both_least behind_first then_front = record {
+      enough = more_clash name w (some ++ (xs ++ ys)) ((some ++ ys) ++ xs)
+          (both_among (some ++ ys) xs (some ++ (xs ++ ys))
+          (both_among some ys (some ++ (xs ++ ys)) (left some (xs ++ ys))
+          (λ p m. right some (xs ++ ys) p (right xs ys p m)))
+          (λ p m. right some (xs ++ ys) p (left xs ys p m))) then_front.enough;
+      needed = λ before p behind is. by before p behind (stands_in xs ys before p behind is);
+    }
+      where
+        by : (before : List PlacedParts) (p : PlacedParts) (behind : List PlacedParts) →
+            StandsIn xs ys before p behind → Fitting name w (some ++ (before ++ behind))
+        by before p behind (first more has is) =
+            subst (λ (l : List PlacedParts). Fitting name w (some ++ (before ++ l))) (sym is)
+            (fewer_fit name w ((some ++ ys) ++ (before ++ more)) (some ++ (before ++ (more ++ ys)))
+            (both_among some (before ++ (more ++ ys)) ((some ++ ys) ++ (before ++ more))
+            (first_of some ys (before ++ more))
+            (both_among before (more ++ ys) ((some ++ ys) ++ (before ++ more))
+            (λ q m. right (some ++ ys) (before ++ more) q (left before more q m))
+            (both_among more ys ((some ++ ys) ++ (before ++ more))
+            (λ q m. right (some ++ ys) (before ++ more) q (right before more q m))
+            (second_of some ys (before ++ more)))))
+            (then_front.needed before p more has))
+        by before p behind (second more has is) =
+            subst (λ (l : List PlacedParts). Fitting name w (some ++ (l ++ behind))) (sym is)
+            (fewer_fit name w ((some ++ front) ++ (more ++ behind)) (some ++ ((xs ++ more) ++ behind))
+            (both_among some ((xs ++ more) ++ behind) ((some ++ front) ++ (more ++ behind))
+            (first_of some front (more ++ behind))
+            (both_among (xs ++ more) behind ((some ++ front) ++ (more ++ behind))
+            (both_among xs more ((some ++ front) ++ (more ++ behind))
+            (λ q m. second_of some front (more ++ behind) q (among q m))
+            (λ q m. right (some ++ front) (more ++ behind) q (left more behind q m)))
+            (λ q m. right (some ++ front) (more ++ behind) q (right more behind q m))))
+            (behind_first.needed more p behind has))
+
+  -- what is enough with all of the front is enough with the front behind it
+  clash_behind : (front ys : List PlacedParts) → Clashing name w ((some ++ front) ++ ys) →
+      Clashing name w ((some ++ ys) ++ front)
+  clash_behind front ys h =
+      more_clash name w ((some ++ ys) ++ front) ((some ++ front) ++ ys)
+      (both_among (some ++ front) ys ((some ++ ys) ++ front)
+      (both_among some front ((some ++ ys) ++ front) (first_of some ys front)
+      (right (some ++ ys) front)) (second_of some ys front)) h
+
+-- the same by indices, of claims that are divided in two
+pub least_of_both : (name : List ℕ) (w : Verdict) (ps some : List PlacedParts)
+    (ks front back all xs ys : List ℕ) → ks ≡ front ++ back → all ≡ xs ++ ys → ArePicked xs front →
+    (Clashing name w ((some ++ claims_at ps front) ++ claims_at ps back) →
+    IsLeast name w (some ++ claims_at ps front) (claims_at ps ys)) →
+    (Clashing name w ((some ++ claims_at ps ys) ++ claims_at ps front) →
+    IsLeast name w (some ++ claims_at ps ys) (claims_at ps xs)) →
+    Clashing name w (some ++ claims_at ps ks) → IsLeast name w some (claims_at ps all)
+least_of_both name w ps some ks front back all xs ys whole found picked behind then clash =
+    let last = behind (subst (Clashing name w) (ap (λ (l : List PlacedParts). some ++ l)
+    (parts_at ps ks front back whole) ∙ sym (append_assoc some (claims_at ps front) (claims_at ps back)))
+    clash) in
+    let first = then (clash_behind name w some (claims_at ps front) (claims_at ps ys) last.enough) in
+    subst (IsLeast name w some) (sym (parts_at ps all xs ys found))
+    (both_least name w some (claims_at ps front) (claims_at ps xs) (claims_at ps ys)
+    (claims_picked ps xs front picked) last first)
+
+-- ---- the indices
+
+pub all_enough : (name : List ℕ) (w : Verdict) (ps : List PlacedParts) →
+    IsVerdict (Claimed ps name) w → AreEnough name w ps (indices (length ps))
+all_enough name w ps h = record {
+  within = indices_within ps (length ps) (omega arith);
+  rising = indices_rise (length ps);
+  enough = subst (Clashing name w) (sym (all_at ps)) (tells_same name w ps h);
+}
+
+pub found_among : (name : List ℕ) (w : Verdict) (ps : List PlacedParts) (picked found : List ℕ) →
+    AreEnough name w ps picked → ArePicked found picked →
+    (Clashing name w (claims_at ps picked) → IsLeast name w [] (claims_at ps found)) →
+    AreFound name w ps found
+found_among name w ps picked found h some least = record {
+  within = some_within ps found picked (picked_there found picked some) h.within;
+  rising = picked_rise 0 found picked some h.rising;
+  least = least h.enough;
+}
 
 -- ---- the end
-
--- one with a lesser index stands before
-picked_before : (ps : List PlacedParts) → AreInOrder ps → (i j : ℕ) → i < j → j < length ps →
-    StandsBefore (claim_at ps i) (claim_at ps j)
-picked_before [] o i j lt le = absurd (omega (arith, le))
-picked_before (p ∷ ps) o i zero lt le = absurd (omega (arith, lt))
-picked_before (p ∷ ps) o zero (suc j) lt le =
-    first_before p ps (claim_at ps j) o (there_at ps j (omega (arith, le)))
-picked_before (p ∷ ps) o (suc i) (suc j) lt le =
-    picked_before ps (rest_in_order p ps o) i j (omega (arith, lt)) (omega (arith, le))
-
-picked_in_order : (ps : List PlacedParts) → AreInOrder ps → (n : ℕ) (ks : List ℕ) → RiseFrom n ks →
-    AllBelow (length ps) ks → AreInOrder (claims_at ps ks)
-unfolding AllBelow
-picked_in_order ps o n [] r h = tt
-picked_in_order ps o n (k ∷ []) r h = tt
-picked_in_order ps o n (k ∷ j ∷ ks) r h =
-    let less = r.1.0 in (
-      picked_before ps o k j (omega (arith, less)) h.1.0,
-      picked_in_order ps o (k + 1) (j ∷ ks) r.1 h.1,
-    )
-
-below_append : (n : ℕ) (xs ys : List ℕ) → AllBelow n xs → AllBelow n ys → AllBelow n (xs ++ ys)
-unfolding AllBelow
-below_append n [] ys h g = g
-below_append n (x ∷ xs) ys h g = (h.0, below_append n xs ys h.1 g)
-
-below_turned : (n : ℕ) (ks : List ℕ) → AllBelow n ks → AllBelow n (reverse ks)
-unfolding AllBelow
-below_turned n [] h = tt
-below_turned n (k ∷ ks) h =
-    subst (AllBelow n) (sym (reverse-append (k ∷ []) ks))
-    (below_append n (reverse ks) (k ∷ []) (below_turned n ks h.1) (h.0, tt))
 
 is_clash : (name : List ℕ) (w : Verdict) (clash : List PlacedParts) → w ≢ Possible →
     Clashing name w clash → AreNeeded name w [] clash → IsClash name w clash
@@ -343,14 +250,11 @@ is_clash name Possible clash some h needed = absurd (some refl)
 is_clash name Nothing clash some h needed = (h, needed)
 is_clash name Conflict clash some h needed = (h, needed)
 
-pub clash_found : (name : List ℕ) (w : Verdict) (ps : List PlacedParts) (found ks : List ℕ) →
-    AreInOrder ps → w ≢ Possible → ks ≡ reverse found → FoundSoFar name w ps 0 found →
-    IsPartThatClashes name w ps (claims_at ps ks)
-clash_found name w ps found ks o some e h =
-    subst (λ l. IsPartThatClashes name w ps (claims_at ps l)) (sym e)
-    (let below = below_turned (length ps) found (within_all ps found h.within) in
-    record {
-      among = picked_among ps (reverse found) below;
-      order = picked_in_order ps o 0 (reverse found) h.rising below;
-      clashes = is_clash name w (claims_at ps (reverse found)) some h.least.0 h.needed;
-    })
+pub clash_found : (name : List ℕ) (w : Verdict) (ps : List PlacedParts) (found : List ℕ) →
+    AreInOrder ps → w ≢ Possible → AreFound name w ps found →
+    IsPartThatClashes name w ps (claims_at ps found)
+clash_found name w ps found o some h = record {
+  among = at_among ps found h.within;
+  order = at_in_order ps o 0 found h.rising h.within;
+  clashes = is_clash name w (claims_at ps found) some h.least.enough h.least.needed;
+}

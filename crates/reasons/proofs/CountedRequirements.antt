@@ -1,54 +1,61 @@
 -- Whether requirements count, as the code finds it.
-use Rattle.std.proofs.Common.{◌≡◌, ◌≢◌, ◌∙◌, ℕ, Bool, true, false, List, Option, Some, None, refl, sym, subst}
-use Rattle.std.specs.Prelude.{IsTrue}
+use Rattle.std.proofs.Common.{◌≡◌, ◌∙◌, ℕ, true, false, List, Option, Some, None, sym, subst}
+use Rattle.std.specs.Prelude.{Contains}
 use Rattle.pep_marker.specs.Environment.{EnvironmentParts}
 use Rattle.pep_marker.specs.Name.{name_of}
 use Rattle.pep_require.proofs.LineLaws.{one_requirement, read_parts}
 use Rattle.pep_require.specs.Faults.{name_run}
 use Rattle.pep_require.specs.LineParts.{StartsLine}
 use Rattle.pep_require.specs.Reads.{Reads}
-use Rattle.pep_require.specs.Requirement.{MarkerSays, RequirementParts}
+use Rattle.pep_require.specs.Requirement.{Applies, MarkerSays, RequirementParts}
 use Rattle.pep_table.proofs.Taking.{marker_one}
 use Rattle.inputs.specs.Lists.{content, is_skipped}
-use Rattle.reasons.specs.ClaimSearch.{Counts, FindsCounted, FindsOnLine, IsCountedLine}
+use Rattle.reasons.specs.ClaimSearch.{FindsApplying, FindsCounted, FindsOnLine, IsCountedLine}
 
-pub counts_says : (e : EnvironmentParts) (name : List ℕ) (r : RequirementParts) (b : Bool) →
-    r.name ≡ name → MarkerSays e r.marker (Some b) →
-    (IsTrue b → Counts e name r) × (Counts e name r → IsTrue b)
-counts_says e name r true same says = ((λ t. (same, says)), λ c. refl)
-counts_says e name r false same says = (
-  λ t. let never : false ≡ true = t in cc never,
-  λ c. let never : Some true ≡ Some false = marker_one e r.marker (Some true) (Some false) c.1 says in
-      cc never,
-)
+pub not_applying : (e : EnvironmentParts) (r : RequirementParts) → MarkerSays e r.marker (Some false) →
+    Applies e r → ⊥
+not_applying e r says applies =
+    let never : Some true ≡ Some false = marker_one e r.marker (Some true) (Some false) applies says in
+    cc never
 
-pub line_found : (e : EnvironmentParts) (name line text now : List ℕ) (r : RequirementParts)
-    (found : Option RequirementParts) → text ≡ now → now ≡ content line →
-    is_skipped now ≡ false → Reads text r → FindsCounted e name r found →
-    FindsOnLine e name line found
-line_found e name line text now r (Some q) same is kept reads (own, counts) =
-    let found : Reads (content line) r = subst (λ (t : List ℕ). Reads t r) (same ∙ is) reads in
-    subst (IsCountedLine e name line) own (record {
-      kept = subst (λ t. is_skipped t ≡ false) is kept;
-      reads = found;
-      counts = counts;
-    })
-line_found e name line text now r None same is kept reads none = λ q h.
-    let found : Reads (content line) r = subst (λ (t : List ℕ). Reads t r) (same ∙ is) reads in
-    none (subst (Counts e name) (one_requirement (content line) q r h.reads found) h.counts)
+pub asked_applying : (e : EnvironmentParts) (names : List (List ℕ)) (r : RequirementParts)
+    (found : Option RequirementParts) → Contains names r.name → FindsApplying e r found →
+    FindsCounted e names r found
+asked_applying e names r (Some q) m (same, applies) =
+    (same, (m, applies))
+asked_applying e names r None m none = λ counts. none counts.1
 
-pub line_skipped : (e : EnvironmentParts) (name line now : List ℕ) → now ≡ content line →
-    is_skipped now ≡ true → FindsOnLine e name line None
-line_skipped e name line now is skipped = λ r h.
-    let never : true ≡ false = sym (subst (λ t. is_skipped t ≡ true) is skipped) ∙ h.kept in cc never
+module _ (e : EnvironmentParts) (names : List (List ℕ)) (line text now : List ℕ) where
+  -- the name of a requirement on a line is the one that the line begins with
+  begun_name : text ≡ now → now ≡ content line → (n rest : List ℕ) → StartsLine text n rest →
+      (r : RequirementParts) → Reads (content line) r → n ≡ r.name
+  begun_name same is n rest start r reads =
+      let parts = read_parts (content line) r reads in
+      let named : name_of (name_run (content line)) ≡ Some n =
+      subst (λ (t : List ℕ). name_of (name_run t) ≡ Some n) (same ∙ is) start.named in
+      let both : Some n ≡ Some r.name = sym named ∙ parts.name in
+      cc both
 
--- a line that begins with another name
-pub line_other : (e : EnvironmentParts) (name line text now n rest : List ℕ) → text ≡ now →
-    now ≡ content line → StartsLine text n rest → n ≢ name → FindsOnLine e name line None
-line_other e name line text now n rest same is start other = λ r h.
-    let parts = read_parts (content line) r h.reads in
-    let named : name_of (name_run (content line)) ≡ Some n =
-    subst (λ (t : List ℕ). name_of (name_run t) ≡ Some n) (same ∙ is) start.named in
-    let both : Some n ≡ Some r.name = sym named ∙ parts.name in
-    let own : n ≡ r.name = cc both in
-    other (own ∙ h.counts.0)
+  pub line_found : (n rest : List ℕ) (r : RequirementParts) (found : Option RequirementParts) →
+      text ≡ now → now ≡ content line → is_skipped now ≡ false → StartsLine text n rest →
+      Contains names n → Reads text r → FindsApplying e r found → FindsOnLine e names line found
+  line_found n rest r (Some q) same is kept start m reads (own, applies) =
+      let found : Reads (content line) r = subst (λ (t : List ℕ). Reads t r) (same ∙ is) reads in
+      subst (IsCountedLine e names line) own (record {
+        kept = subst (λ t. is_skipped t ≡ false) is kept;
+        reads = found;
+        counts = (subst (Contains names) (begun_name same is n rest start r found) m, applies);
+      })
+  line_found n rest r None same is kept start m reads none = λ q h.
+      let found : Reads (content line) r = subst (λ (t : List ℕ). Reads t r) (same ∙ is) reads in
+      none (subst (Applies e) (one_requirement (content line) q r h.reads found) h.counts.1)
+
+  pub line_skipped : now ≡ content line → is_skipped now ≡ true → FindsOnLine e names line None
+  line_skipped is skipped = λ r h.
+      let never : true ≡ false = sym (subst (λ t. is_skipped t ≡ true) is skipped) ∙ h.kept in cc never
+
+  -- a line that begins with another name
+  pub line_other : (n rest : List ℕ) → text ≡ now → now ≡ content line → StartsLine text n rest →
+      (Contains names n → ⊥) → FindsOnLine e names line None
+  line_other n rest same is start other = λ r h.
+      other (subst (Contains names) (sym (begun_name same is n rest start r h.reads)) h.counts.0)

@@ -1,189 +1,227 @@
--- The reasons of the packages whose verdict isn't open, entry by entry of the table.
-use Rattle.std.proofs.Common.{◌≡◌, ◌≢◌, ◌∙◌, ℕ, List, [], ◌∷◌, ◌++◌, ◌+◌, ◌<◌, append-nil, ap, drop}
-use Rattle.std.proofs.Common.{get_or, length, map, refl, sym, subst, take, inl, inr, ◌⊎◌}
-use Rattle.std.proofs.Common.{Option, Some, None}
-use Rattle.std.specs.Prelude.{◌↔◌, All, Contains}
-use Rattle.std.proofs.lemmas.List.{map-append, take-append-drop, take_more}
-use Rattle.std.proofs.lemmas.List.Elements.{All-append, All-cons, All-nil, Contains-append_cases}
-use Rattle.std.proofs.lemmas.List.Elements.{Contains-append_left, Contains-append_right}
+-- The reasons of the packages that are asked about.
+use Rattle.std.proofs.Common.{◌≡◌, ◌≢◌, ◌∙◌, ℕ, ◌<◌, List, [], ◌∷◌, ◌++◌, ap, arith, length, map, refl, sym, subst}
+use Rattle.std.specs.Prelude.{All, Contains}
+use Rattle.std.specs.List.{AllZip}
+use Rattle.std.proofs.lemmas.List.Elements.{All-cons, All-head, All-nil, All-tail}
 use Rattle.pep_marker.specs.Environment.{EnvironmentParts}
-use Rattle.pep_require.proofs.Ascending.{Contains-from_IsIn, first_below}
-use Rattle.pep_require.proofs.Members.{in_either, in_first, in_none}
 use Rattle.pep_require.specs.Requirement.{IsAscending}
-use Rattle.pep_table.proofs.AscendingItems.{behind_one}
-use Rattle.pep_table.proofs.NameDemands.{verdict_too}
-use Rattle.pep_table.specs.OneText.{name_there}
-use Rattle.demands.proofs.Verdicts.{verdict_one}
 use Rattle.demands.specs.declared.verdict.Verdict.{Verdict}
 use Rattle.demands.specs.declared.verdict.Verdict.TheVariants.{Possible}
-use Rattle.demands.specs.Demand.{Demand}
-use Rattle.demands.specs.Table.{EntryDemands, EntryParts, IsTable, TableDemands, TableParts, entry_at, names}
+use Rattle.demands.specs.Table.{IsTable, TableDemands, TableParts}
 use Rattle.demands.specs.Verdict.{IsVerdict}
 use Rattle.inputs.specs.declared.input.Input.{Input}
 use Rattle.inputs.specs.Gathered.{Gathered, IsAccepted}
-use Rattle.reasons.proofs.ClaimLines.{entry_behind}
-use Rattle.reasons.proofs.TableVerdicts.{absent_is_open, verdict_of_table}
-use Rattle.reasons.specs.Clash.{AreReasons, IsReasonOf, ReasonParts}
-use Rattle.reasons.specs.ReasonSearch.{FindsReason, found_reasons}
+use Rattle.reasons.proofs.ClaimedDemands.{verdict_of_claims}
+use Rattle.reasons.proofs.TableVerdicts.{table_has_verdict, verdict_of_table}
+use Rattle.reasons.specs.Asked.{AskedParts, Gains, asked_names, asked_parts, names_in}
+use Rattle.reasons.specs.View.{reason_parts}
+use Rattle.reasons.specs.declared.asked.Asked.{Asked}
+use Rattle.reasons.specs.declared.claims.Reason.{Reason}
+use Rattle.reasons.specs.Claims.{AreInOrder, Claimed, PlacedParts}
+use Rattle.reasons.specs.Clash.{AreReasons, IsPartThatClashes, IsReasonOf, ReasonParts}
+use Rattle.reasons.specs.Places.{AreClaims}
+use Rattle.reasons.specs.ReasonSearch.{AreClosed, Explains, TellsClash}
 
-abbrev pub reason_names : List ReasonParts → List (List ℕ)
+-- ---- from packages without claims to reasons
+
+module _ (e : EnvironmentParts) (inputs : List Input) (accepted : All (IsAccepted e) inputs) where
+  abbrev Bare : AskedParts → Type 0
+  Bare q = q.claims ≡ []
+
+  abbrev HasVerdict : AskedParts → Type 0
+  HasVerdict q = IsVerdict (Gathered e inputs q.name) q.verdict
+
+  -- where no claims were found before, all are
+  claims_are : (o n : AskedParts) → Bare o → Gains (AreClaims e inputs) o n →
+      AreClaims e inputs n.name n.claims
+  claims_are o n bare g =
+      let claims : n.claims ≡ g.own =
+      ap (λ (q : AskedParts). q.claims) g.whole ∙ ap (λ l. l ++ g.own) bare in
+      let name : n.name ≡ o.name = ap (λ (q : AskedParts). q.name) g.whole in
+      subst (λ (m : List ℕ). AreClaims e inputs m n.claims) (sym name)
+      (subst (AreClaims e inputs o.name) (sym claims) g.claims)
+
+  verdict_stays : (o n : AskedParts) → HasVerdict o → Gains (AreClaims e inputs) o n → HasVerdict n
+  verdict_stays o n says g =
+      subst (λ (m : List ℕ). IsVerdict (Gathered e inputs m) n.verdict)
+      (sym (ap (λ (q : AskedParts). q.name) g.whole))
+      (subst (IsVerdict (Gathered e inputs o.name))
+      (sym (ap (λ (q : AskedParts). q.verdict) g.whole)) says)
+
+  pub orders_gained : (os ns : List AskedParts) → All Bare os →
+      AllZip (Gains (AreClaims e inputs)) os ns → All (λ q. AreInOrder q.claims) ns
+  orders_gained [] [] bare h = All-nil (λ q. AreInOrder q.claims)
+  orders_gained [] (n ∷ ns) bare h = absurd h
+  orders_gained (o ∷ os) [] bare h = absurd h
+  orders_gained (o ∷ os) (n ∷ ns) bare (g, h) =
+      All-cons (λ q. AreInOrder q.claims) n ns
+      (claims_are o n (All-head Bare o os bare) g).order
+      (orders_gained os ns (All-tail Bare o os bare) h)
+
+  pub verdicts_gained : (os ns : List AskedParts) → All Bare os → All HasVerdict os →
+      AllZip (Gains (AreClaims e inputs)) os ns →
+      All (λ q. IsVerdict (Claimed q.claims q.name) q.verdict) ns
+  verdicts_gained [] [] bare say h = All-nil (λ q. IsVerdict (Claimed q.claims q.name) q.verdict)
+  verdicts_gained [] (n ∷ ns) bare say h = absurd h
+  verdicts_gained (o ∷ os) [] bare say h = absurd h
+  verdicts_gained (o ∷ os) (n ∷ ns) bare say (g, h) =
+      All-cons (λ q. IsVerdict (Claimed q.claims q.name) q.verdict) n ns
+      ((verdict_of_claims e inputs n.name n.claims n.verdict accepted
+      (claims_are o n (All-head Bare o os bare) g)).1
+      (verdict_stays o n (All-head HasVerdict o os say) g))
+      (verdicts_gained os ns (All-tail Bare o os bare) (All-tail HasVerdict o os say) h)
+
+  explains : (o n : AskedParts) (r : ReasonParts) → Bare o → HasVerdict o →
+      Gains (AreClaims e inputs) o n → TellsClash n r → Explains e inputs o r
+  explains o n r bare says g tells = record {
+    name_is = tells.name_is ∙ ap (λ (q : AskedParts). q.name) g.whole;
+    verdict_is = tells.verdict_is ∙ ap (λ (q : AskedParts). q.verdict) g.whole;
+    reason = record {
+      accepted = accepted;
+      verdict_is = turn (λ m w ps. IsVerdict (Gathered e inputs m) w) (verdict_stays o n says g);
+      claims = turn (λ m w ps. AreClaims e inputs m ps) (claims_are o n bare g);
+      part = turn (λ m w ps. IsPartThatClashes m w ps r.clash) tells.part;
+    };
+  }
+    where
+      turn : (P : List ℕ → Verdict → List PlacedParts → Type 0) → P n.name n.verdict n.claims →
+          P r.name r.verdict r.claims
+      turn P h =
+          subst (λ (m : List ℕ). P m r.verdict r.claims) (sym tells.name_is)
+          (subst (λ (w : Verdict). P n.name w r.claims) (sym tells.verdict_is)
+          (subst (P n.name n.verdict) (sym tells.claims_are) h))
+
+  pub all_explained : (os ns : List AskedParts) (rs : List ReasonParts) → All Bare os →
+      All HasVerdict os → AllZip (Gains (AreClaims e inputs)) os ns → AllZip TellsClash ns rs →
+      AllZip (Explains e inputs) os rs
+  all_explained [] [] [] bare say h k = tt
+  all_explained [] [] (r ∷ rs) bare say h k = absurd k
+  all_explained [] (n ∷ ns) rs bare say h k = absurd h
+  all_explained (o ∷ os) [] rs bare say h k = absurd h
+  all_explained (o ∷ os) (n ∷ ns) [] bare say h k = absurd k
+  all_explained (o ∷ os) (n ∷ ns) (r ∷ rs) bare say (g, h) (j, k) = (
+    explains o n r (All-head Bare o os bare) (All-head HasVerdict o os say) g j,
+    all_explained os ns rs (All-tail Bare o os bare) (All-tail HasVerdict o os say) h k,
+  )
+
+-- ---- the code's loop over packages
+
+-- what holds of all holds of each
+pub of_each : (P : AskedParts → Type 0) (xs done : List Asked) (x : Asked) (more : List Asked) →
+    done ++ x ∷ more ≡ xs → All P (map asked_parts xs) → P (asked_parts x)
+of_each P xs done x more whole all =
+    from done (subst (λ (l : List Asked). All P (map asked_parts l)) (sym whole) all)
+  where
+    from : (ys : List Asked) → All P (map asked_parts (ys ++ x ∷ more)) → P (asked_parts x)
+    from [] h = All-head P (asked_parts x) (map asked_parts more) h
+    from (y ∷ ys) h = from ys (All-tail P (asked_parts y) (map asked_parts (ys ++ x ∷ more)) h)
+
+pub tells_more : (xs : List Asked) (x : Asked) (rs new : List Reason) (r : Reason) →
+    AllZip TellsClash (map asked_parts xs) (map reason_parts rs) →
+    TellsClash (asked_parts x) (reason_parts r) → new ≡ rs ++ r ∷ [] →
+    AllZip TellsClash (map asked_parts (xs ++ x ∷ [])) (map reason_parts new)
+tells_more xs x rs new r h tells is =
+    subst (λ (l : List Reason). AllZip TellsClash (map asked_parts (xs ++ x ∷ [])) (map reason_parts l))
+    (sym is) (behind xs rs h)
+  where
+    behind : (ys : List Asked) (qs : List Reason) →
+        AllZip TellsClash (map asked_parts ys) (map reason_parts qs) →
+        AllZip TellsClash (map asked_parts (ys ++ x ∷ [])) (map reason_parts (qs ++ r ∷ []))
+    behind [] [] k = (tells, tt)
+    behind [] (q ∷ qs) k = absurd k
+    behind (y ∷ ys) [] k = absurd k
+    behind (y ∷ ys) (q ∷ qs) (own, k) = (own, behind ys qs k)
+
+-- ---- one package
+
+module _ (olds news : List Asked) (x : Asked) (none : olds ≡ []) (one : news ≡ olds ++ x ∷ []) where
+  alone : news ≡ x ∷ []
+  alone = one ∙ ap (λ (l : List Asked). l ++ x ∷ []) none
+
+  pub of_one : (P : AskedParts → Type 0) → P (asked_parts x) → All P (map asked_parts news)
+  of_one P h =
+      subst (λ (l : List Asked). All P (map asked_parts l)) (sym alone)
+      (All-cons P (asked_parts x) [] h (All-nil P))
+
+  pub one_ascends : IsAscending (names_in news)
+  one_ascends = subst (λ (l : List Asked). IsAscending (names_in l)) (sym alone) tt
+
+  pub one_explained : (e : EnvironmentParts) (inputs : List Input) (rs : List Reason) →
+      AllZip (Explains e inputs) (map asked_parts news) (map reason_parts rs) →
+      AllZip (Explains e inputs) (asked_parts x ∷ []) (map reason_parts rs)
+  one_explained e inputs rs h =
+      subst (λ (l : List Asked). AllZip (Explains e inputs) (map asked_parts l) (map reason_parts rs))
+      alone h
+
+-- there is one reason of it, which is the last
+pub only_reason : (e : EnvironmentParts) (inputs : List Input) (q : AskedParts) (rs : List Reason) →
+    AllZip (Explains e inputs) (q ∷ []) (map reason_parts rs) → (front : List Reason) (r : Reason) →
+    rs ≡ front ++ r ∷ [] → Explains e inputs q (reason_parts r)
+only_reason e inputs q rs h front r is =
+    by front (subst (λ (l : List Reason). AllZip (Explains e inputs) (q ∷ []) (map reason_parts l)) is h)
+  where
+    by : (ys : List Reason) →
+        AllZip (Explains e inputs) (q ∷ []) (map reason_parts (ys ++ r ∷ [])) →
+        Explains e inputs q (reason_parts r)
+    by [] k = k.0
+    by (y ∷ []) k = absurd k.1
+    by (y ∷ z ∷ ys) k = absurd k.1
+
+pub some_reason : (e : EnvironmentParts) (inputs : List Input) (q : AskedParts) (rs : List Reason) →
+    AllZip (Explains e inputs) (q ∷ []) (map reason_parts rs) → 0 < length rs
+some_reason e inputs q [] h = absurd h
+some_reason e inputs q (r ∷ rs) h = omega arith
+
+-- ---- all packages whose verdict isn't open
+
+abbrev reason_names : List ReasonParts → List (List ℕ)
 reason_names rs = map (λ r. r.name) rs
 
--- the reasons of the entries that are done
-pub record ReasonsSoFar (e : EnvironmentParts) (inputs : List Input) (done : TableParts)
-    (rs : List ReasonParts) : Type 0 where
-  pub order : IsAscending (reason_names rs)
-  pub further : (n : List ℕ) → IsAscending (names done ++ n ∷ []) →
-      IsAscending (reason_names rs ++ n ∷ [])
-  pub reasons : All (IsReasonOf e inputs) rs
-  pub closed : All (λ r. r.verdict ≢ Possible) rs
-  pub complete : (n : List ℕ) → Contains (names done) n → (w : Verdict) →
-      IsVerdict (Gathered e inputs n) w → w ≢ Possible → Contains (reason_names rs) n
+module _ (e : EnvironmentParts) (inputs : List Input) where
+  names_explained : (qs : List AskedParts) (rs : List ReasonParts) → AllZip (Explains e inputs) qs rs →
+      reason_names rs ≡ asked_names qs
+  names_explained [] [] h = refl
+  names_explained [] (r ∷ rs) h = absurd h
+  names_explained (q ∷ qs) [] h = absurd h
+  names_explained (q ∷ qs) (r ∷ rs) (x, h) =
+      let rest = names_explained qs rs h in λ i. x.name_is i ∷ rest i
 
-pub no_reasons : (e : EnvironmentParts) (inputs : List Input) → ReasonsSoFar e inputs [] []
-no_reasons e inputs = record {
-  order = tt;
-  further = λ n h. tt;
-  reasons = All-nil (IsReasonOf e inputs);
-  closed = All-nil (λ r. r.verdict ≢ Possible);
-  complete = λ n m w says some. absurd (in_none n m);
-}
+  are_reasons : (qs : List AskedParts) (rs : List ReasonParts) → AllZip (Explains e inputs) qs rs →
+      All (IsReasonOf e inputs) rs
+  are_reasons [] [] h = All-nil (IsReasonOf e inputs)
+  are_reasons [] (r ∷ rs) h = absurd h
+  are_reasons (q ∷ qs) [] h = absurd h
+  are_reasons (q ∷ qs) (r ∷ rs) (x, h) =
+      All-cons (IsReasonOf e inputs) r rs x.reason (are_reasons qs rs h)
 
--- ---- names in order
+  are_closed : (qs : List AskedParts) (rs : List ReasonParts) → All (λ q. q.verdict ≢ Possible) qs →
+      AllZip (Explains e inputs) qs rs → All (λ r. r.verdict ≢ Possible) rs
+  are_closed [] [] closed h = All-nil (λ r. r.verdict ≢ Possible)
+  are_closed [] (r ∷ rs) closed h = absurd h
+  are_closed (q ∷ qs) [] closed h = absurd h
+  are_closed (q ∷ qs) (r ∷ rs) closed (x, h) =
+      All-cons (λ r. r.verdict ≢ Possible) r rs
+      (λ same. All-head (λ p. p.verdict ≢ Possible) q qs closed (sym x.verdict_is ∙ same))
+      (are_closed qs rs (All-tail (λ p. p.verdict ≢ Possible) q qs closed) h)
 
-pub front_ascends : (xs ys : List (List ℕ)) → IsAscending (xs ++ ys) → IsAscending xs
-front_ascends [] ys h = tt
-front_ascends (x ∷ []) ys h = tt
-front_ascends (x ∷ y ∷ xs) ys h = (h.0, front_ascends (y ∷ xs) ys h.1)
+  module _ (t : TableParts) (qs : List AskedParts) (table : IsTable (Gathered e inputs) t)
+      (are : AreClosed t qs) where
+    verdicts_from : (ps : List AskedParts) →
+        All (λ q. IsVerdict (TableDemands t q.name) q.verdict) ps →
+        All (λ q. IsVerdict (Gathered e inputs q.name) q.verdict) ps
+    verdicts_from ps say = λ k d lt. verdict_of_table e inputs t _ _ table (say k d lt)
 
-without_last : (xs : List (List ℕ)) (a n : List ℕ) → IsAscending ((xs ++ a ∷ []) ++ n ∷ []) →
-    IsAscending (xs ++ n ∷ [])
-without_last [] a n h = tt
-without_last (x ∷ []) a n h = (first_below x (a ∷ n ∷ []) n h (inr (inl refl)), tt)
-without_last (x ∷ y ∷ xs) a n h = (h.0, without_last (y ∷ xs) a n h.1)
+    pub verdicts_gathered : All (λ q. IsVerdict (Gathered e inputs q.name) q.verdict) qs
+    verdicts_gathered = verdicts_from qs are.verdicts
 
--- ---- one entry more
-
-module _ (e : EnvironmentParts) (inputs : List Input) (done : TableParts)
-    (p : List ℕ × EntryParts) (up : IsAscending (names (done ++ p ∷ []))) where
-  split : names (done ++ p ∷ []) ≡ names done ++ p.0 ∷ []
-  split = map-append (λ (q : List ℕ × EntryParts). q.0) done (p ∷ [])
-
-  here : IsAscending (names done ++ p.0 ∷ [])
-  here = subst IsAscending split up
-
-  last : (n : List ℕ) → Contains (names (done ++ p ∷ [])) n →
-      Contains (names done) n ⊎ (p.0 ≡ n)
-  last n m = by (Contains-append_cases (names done) (p.0 ∷ []) n (subst (λ l. Contains l n) split m))
-    where
-      by : Contains (names done) n ⊎ Contains (p.0 ∷ []) n → Contains (names done) n ⊎ (p.0 ≡ n)
-      by (inl before) = inl before
-      by (inr one) = elim (in_either p.0 [] n one) [
-        | inl same ↦ inr same
-        | inr none ↦ absurd (in_none n none)
-      ]
-
-  pub reason_more : (rs new : List ReasonParts) (found : Option ReasonParts) →
-      ReasonsSoFar e inputs done rs → FindsReason e inputs p.0 found →
-      new ≡ rs ++ found_reasons found → ReasonsSoFar e inputs (done ++ p ∷ []) new
-  reason_more rs new None h free is =
-      subst (ReasonsSoFar e inputs (done ++ p ∷ [])) (sym (is ∙ append-nil rs)) (record {
-        order = h.order;
-        further = λ n u. h.further n (without_last (names done) p.0 n
-            (subst (λ l. IsAscending (l ++ n ∷ [])) split u));
-        reasons = h.reasons;
-        closed = h.closed;
-        complete = λ n m w says some. elim (last n m) [
-          | inl before ↦ h.complete n before w says some
-          | inr same ↦ absurd (some (verdict_one (Gathered e inputs n) w Possible says
-              (subst (λ (l : List ℕ). IsVerdict (Gathered e inputs l) Possible) same free)))
-        ];
-      })
-  reason_more rs new (Some r) h (own, closed, named) is =
-      subst (ReasonsSoFar e inputs (done ++ p ∷ [])) (sym is) (record {
-        order = subst IsAscending (sym behind) (h.further p.0 here);
-        further = λ n u. subst (λ l. IsAscending (l ++ n ∷ [])) (sym behind)
-            ((behind_one (reason_names rs) p.0 (h.further p.0 here) n).1
-            ((behind_one (names done) p.0 here n).0
-            (subst (λ l. IsAscending (l ++ n ∷ [])) split u)));
-        reasons = All-append (IsReasonOf e inputs) rs (r ∷ []) h.reasons
-            (All-cons (IsReasonOf e inputs) r [] own (All-nil (IsReasonOf e inputs)));
-        closed = All-append (λ q. q.verdict ≢ Possible) rs (r ∷ []) h.closed
-            (All-cons (λ q. q.verdict ≢ Possible) r [] closed (All-nil (λ q. q.verdict ≢ Possible)));
-        complete = λ n m w says some. subst (λ l. Contains l n) (sym behind) (elim (last n m) [
-          | inl before ↦ Contains-append_left (reason_names rs) (p.0 ∷ []) n
-              (h.complete n before w says some)
-          | inr same ↦ Contains-append_right (reason_names rs) (p.0 ∷ []) n (in_first p.0 [] n same)
-        ]);
-      })
-    where
-      behind : reason_names (rs ++ r ∷ []) ≡ reason_names rs ++ p.0 ∷ []
-      behind =
-          map-append (λ (q : ReasonParts). q.name) rs (r ∷ [])
-          ∙ (λ i. reason_names rs ++ named i ∷ [])
-
-pub reasons_next : (e : EnvironmentParts) (inputs : List Input) (entries : TableParts) (k : ℕ)
-    (p : List ℕ × EntryParts) (rs new : List ReasonParts) (found : Option ReasonParts) →
-    k < length entries → p ≡ get_or entries k p → IsAscending (names entries) →
-    ReasonsSoFar e inputs (take k entries) rs → FindsReason e inputs p.0 found →
-    new ≡ rs ++ found_reasons found → ReasonsSoFar e inputs (take (k + 1) entries) new
-reasons_next e inputs entries k p rs new found lt is up h finds made =
-    let more : take (k + 1) entries ≡ take k entries ++ p ∷ [] =
-    take_more entries k p lt ∙ ap (λ (q : List ℕ × EntryParts). take k entries ++ q ∷ []) (sym is) in
-    let parts : names entries ≡ names (take (k + 1) entries) ++ names (drop (k + 1) entries) =
-    ap names (sym (take-append-drop (k + 1) entries))
-    ∙ map-append (λ (q : List ℕ × EntryParts). q.0) (take (k + 1) entries) (drop (k + 1) entries) in
-    let front : IsAscending (names (take (k + 1) entries)) =
-    front_ascends (names (take (k + 1) entries)) (names (drop (k + 1) entries))
-    (subst IsAscending parts up) in
-    subst (λ (t : TableParts). ReasonsSoFar e inputs t new) (sym more)
-    (reason_more e inputs (take k entries) p
-    (subst (λ (t : TableParts). IsAscending (names t)) more front) rs new found h finds made)
-
--- ---- the verdict of an entry
-
-pub verdict_of_entry : (e : EnvironmentParts) (inputs : List Input) (t before behind : TableParts)
-    (name : List ℕ) (entry : EntryParts) (w : Verdict) → IsTable (Gathered e inputs) t →
-    t ≡ before ++ (name, entry) ∷ behind → IsVerdict (EntryDemands entry) w →
-    IsVerdict (Gathered e inputs name) w
-verdict_of_entry e inputs t before behind name entry w table is says =
-    verdict_of_table e inputs t name w table
-    (verdict_too (EntryDemands entry) (TableDemands t name) w both says)
-  where
-    at : entry_at t name ≡ Some entry
-    at =
-        (λ i. entry_at (is i) name) ∙ entry_behind before name entry behind
-        (subst (λ (s : TableParts). IsAscending (names s)) is table.valid.names.0)
-
-    back : (d : Demand) → TableDemands t name d → EntryDemands entry d
-    back d q =
-        let both : Some q.0 ≡ Some entry = sym q.1 ∙ at in
-        let own : q.0 ≡ entry = cc both in
-        subst (λ (f : EntryParts). EntryDemands f d) own q.2
-
-    both : (d : Demand) → EntryDemands entry d ↔ TableDemands t name d
-    both d = ((λ q. (entry, at, q)), back d)
-
--- ---- all entries
-
-pub all_reasons : (e : EnvironmentParts) (inputs : List Input) (t : TableParts)
-    (rs : List ReasonParts) → All (IsAccepted e) inputs → IsTable (Gathered e inputs) t →
-    ReasonsSoFar e inputs t rs → AreReasons e inputs rs
-all_reasons e inputs t rs accepted table h = record {
-  accepted = accepted;
-  order = h.order;
-  reasons = h.reasons;
-  closed = h.closed;
-  complete = λ n w says some. by n w says some (entry_at t n) refl;
-}
-  where
-    by : (n : List ℕ) (w : Verdict) → IsVerdict (Gathered e inputs n) w → w ≢ Possible →
-        (o : Option EntryParts) → entry_at t n ≡ o → Contains (reason_names rs) n
-    by n w says some (Some f) at =
-        h.complete n (Contains-from_IsIn (names t) n (name_there t n f at)) w says some
-    by n w says some None at =
-        absurd (some (verdict_one (Gathered e inputs n) w Possible says
-        (verdict_of_table e inputs t n Possible table (absent_is_open t n never))))
-      where
-        never : (f : EntryParts) → entry_at t n ≡ Some f → ⊥
-        never f is = let both : None ≡ Some f = sym at ∙ is in cc both
+    pub all_reasons : (rs : List ReasonParts) → All (IsAccepted e) inputs →
+        AllZip (Explains e inputs) qs rs → AreReasons e inputs rs
+    all_reasons rs accepted h =
+        let same = names_explained qs rs h in record {
+          accepted = accepted;
+          order = subst IsAscending (sym same) are.order;
+          reasons = are_reasons qs rs h;
+          closed = are_closed qs rs are.closed h;
+          complete = λ n w says some. subst (λ l. Contains l n) (sym same)
+              (are.complete n w (table_has_verdict e inputs t n w table says) some);
+        }

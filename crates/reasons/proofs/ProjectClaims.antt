@@ -17,43 +17,51 @@ use Rattle.pep_require.specs.declared.requirement.Requirement.{Requirement}
 use Rattle.inputs.specs.declared.input.Kind.TheVariants as kind
 use Rattle.reasons.proofs.FoundClaims.{FindsAt, no_claims, number_more, same_claims}
 use Rattle.reasons.proofs.OnePlace.{one_numbered}
-use Rattle.reasons.specs.Claims.{ClaimParts, PlacedParts, entered, name_of, required}
-use Rattle.reasons.specs.ClaimSearch.{AreClaimsBy, Counts, FindsCounted, UpTo, found_claims}
+use Rattle.reasons.specs.Claims.{ClaimParts, entered, name_of, required}
+use Rattle.reasons.proofs.AskedClaims.{gains_nothing, gains_same, names_stay}
+use Rattle.reasons.specs.Asked.{AskedParts, Gains, asked_names, with_found}
+use Rattle.reasons.specs.ClaimSearch.{AreClaimsBy, Counts, FindsCounted, UpTo}
 use Rattle.reasons.specs.Places.{IsOfText, StandsIn}
 
 -- ---- one requirement more
 
-counted_at : (e : EnvironmentParts) (name : List ℕ) (rs : List RequirementParts) (number : ℕ)
+counted_at : (e : EnvironmentParts) (names : List (List ℕ)) (rs : List RequirementParts) (number : ℕ)
     (r : RequirementParts) (found : Option RequirementParts) → IsNumbered rs number r →
-    FindsCounted e name r found → FindsAt e name (IsNumbered rs) number found
-counted_at e name rs number r (Some q) at (own, counts) =
-    (subst (IsNumbered rs number) own at, subst (Counts e name) own counts)
-counted_at e name rs number r None at none = λ q other counts.
-    none (subst (Counts e name) (one_numbered rs number q r other at) counts)
+    FindsCounted e names r found → FindsAt e names (IsNumbered rs) number found
+counted_at e names rs number r (Some q) at (own, counts) =
+    (subst (IsNumbered rs number) own at, subst (Counts e names) own counts)
+counted_at e names rs number r None at none = λ q other counts.
+    none (subst (Counts e names) (one_numbered rs number q r other at) counts)
 
-pub none_of_project : (e : EnvironmentParts) (name : List ℕ) (input : ℕ) (rs : List RequirementParts) →
-    AreClaimsBy (UpTo e (IsNumbered rs) 0) input name []
-none_of_project e name input rs = no_claims (UpTo e (IsNumbered rs) 0) input name none
+pub none_of_project : (e : EnvironmentParts) (input : ℕ) (rs : List RequirementParts)
+    (qs : List AskedParts) → AllZip (Gains (AreClaimsBy (UpTo e (IsNumbered rs) 0) input)) qs qs
+none_of_project e input rs qs =
+    gains_nothing (AreClaimsBy (UpTo e (IsNumbered rs) 0) input)
+    (λ name. no_claims (UpTo e (IsNumbered rs) 0) input name (none name)) qs
   where
-    none : (n : ℕ) (c : ClaimParts) → name_of c ≡ name → UpTo e (IsNumbered rs) 0 n c → ⊥
-    none n (required r) is u = let le = u.2 in let counted = u.0.counted in omega (arith, le, counted)
-    none n (entered m x) is u = u
+    none : (name : List ℕ) (n : ℕ) (c : ClaimParts) → name_of c ≡ name →
+        UpTo e (IsNumbered rs) 0 n c → ⊥
+    none name n (required r) is u = let le = u.2 in let counted = u.0.counted in omega (arith, le, counted)
+    none name n (entered m x) is u = u
 
-pub project_more : (e : EnvironmentParts) (name : List ℕ) (input number : ℕ)
-    (total done more : List Requirement) (p : Requirement) (ps new : List PlacedParts)
-    (found : Option RequirementParts) → done ++ p ∷ more ≡ total → number ≡ length done →
-    AreClaimsBy (UpTo e (IsNumbered (map requirement_parts total)) number) input name ps →
-    FindsCounted e name (requirement_parts p) found →
-    new ≡ ps ++ found_claims input (number + 1) found →
-    AreClaimsBy (UpTo e (IsNumbered (map requirement_parts total)) (number + 1)) input name new
-project_more e name input number total done more p ps new found whole counted h finds is =
+pub project_more : (e : EnvironmentParts) (input number : ℕ) (total done more : List Requirement)
+    (p : Requirement) (os ns new : List AskedParts) (found : Option RequirementParts) →
+    done ++ p ∷ more ≡ total → number ≡ length done →
+    AllZip (Gains (AreClaimsBy (UpTo e (IsNumbered (map requirement_parts total)) number) input)) os ns →
+    FindsCounted e (asked_names ns) (requirement_parts p) found →
+    new ≡ map (with_found input (number + 1) found) ns →
+    AllZip (Gains (AreClaimsBy (UpTo e (IsNumbered (map requirement_parts total)) (number + 1)) input))
+    os new
+project_more e input number total done more p os ns new found whole counted h finds is =
     let rs = map requirement_parts total in
     let at : IsNumbered total (number + 1) p =
     record { before = done; behind = more; whole = sym whole; counted = ap (λ n. n + 1) counted } in
-    subst (AreClaimsBy (UpTo e (IsNumbered rs) (number + 1)) input name) (sym is)
-    (number_more e name (IsNumbered rs) (one_numbered rs) input number ps found h
-    (counted_at e name rs (number + 1) (requirement_parts p) found
-    (numbered_mapped requirement_parts total (number + 1) p at) finds))
+    let stay = names_stay (AreClaimsBy (UpTo e (IsNumbered rs) number) input) os ns h in
+    subst (AllZip (Gains (AreClaimsBy (UpTo e (IsNumbered rs) (number + 1)) input)) os) (sym is)
+    (number_more e (IsNumbered rs) (one_numbered rs) input number os ns found
+    (counted_at e (asked_names os) rs (number + 1) (requirement_parts p) found
+    (numbered_mapped requirement_parts total (number + 1) p at)
+    (subst (λ names. FindsCounted e names (requirement_parts p) found) stay finds)) h)
 
 -- ---- requirements and their texts, at one number
 
@@ -152,14 +160,16 @@ of_number extra group bytes rs n r h at =
     })
 
 pub all_of_project : (e : EnvironmentParts) (extra : List ℕ) (group : Option (List ℕ))
-    (bytes name : List ℕ) (input number : ℕ) (total : List Requirement) (ps : List PlacedParts) →
+    (bytes : List ℕ) (input number : ℕ) (total : List Requirement) (os ns : List AskedParts) →
     extra ≡ extra_in e → IsProjectOf extra group bytes (map requirement_parts total) →
     number ≡ length total →
-    AreClaimsBy (UpTo e (IsNumbered (map requirement_parts total)) number) input name ps →
-    AreClaimsBy (StandsIn e kind.Project group bytes) input name ps
-all_of_project e extra group bytes name input number total ps is project counted h =
+    AllZip (Gains (AreClaimsBy (UpTo e (IsNumbered (map requirement_parts total)) number) input)) os ns →
+    AllZip (Gains (AreClaimsBy (StandsIn e kind.Project group bytes) input)) os ns
+all_of_project e extra group bytes input number total os ns is project counted h =
+    gains_same (AreClaimsBy (UpTo e (IsNumbered rs) number) input)
+    (AreClaimsBy (StandsIn e kind.Project group bytes) input) (λ name ps.
     same_claims (UpTo e (IsNumbered rs) number) (StandsIn e kind.Project group bytes) input name ps
-    same h
+    (same name)) os ns h
   where
     rs : List RequirementParts
     rs = map requirement_parts total
@@ -173,11 +183,11 @@ all_of_project e extra group bytes name input number total ps is project counted
         ∙ length-map total requirement_parts in
         let here = at.counted in omega (arith, count, here, counted)
 
-    same : (n : ℕ) (c : ClaimParts) → name_of c ≡ name →
+    same : (name : List ℕ) (n : ℕ) (c : ClaimParts) → name_of c ≡ name →
         UpTo e (IsNumbered rs) number n c ↔ StandsIn e kind.Project group bytes n c
-    same n (required r) named = (
+    same name n (required r) named = (
       λ u. (of_text (extra_in e) group bytes rs n r own u.0, u.1),
       λ at. let there = of_number (extra_in e) group bytes rs n r own at.0 in
           (there, at.1, fits n r there),
     )
-    same n (entered m x) named = ((λ u. absurd u), λ at. absurd at)
+    same name n (entered m x) named = ((λ u. absurd u), λ at. absurd at)

@@ -1,9 +1,9 @@
 -- What is taken of claims, one after the other, is the entry of what they demand of the name.
-use Rattle.std.proofs.Common.{◌≡◌, ℕ, List, [], ◌∷◌, ◌++◌, append_assoc, refl, sym, subst, inl, inr, ◌⊎◌}
+use Rattle.std.proofs.Common.{◌≡◌, ℕ, List, [], ◌∷◌, ◌++◌, refl, sym, subst, inl, inr, ◌⊎◌}
 use Rattle.std.specs.Prelude.{◌↔◌}
 use Rattle.std.proofs.lemmas.List.Elements.{Contains-append_cases, Contains-append_left}
 use Rattle.std.proofs.lemmas.List.Elements.{Contains-append_right}
-use Rattle.pep_require.proofs.Members.{in_either, in_first, in_none}
+use Rattle.pep_require.proofs.Members.{in_either, in_first, in_none, in_rest}
 use Rattle.demands.proofs.OwnEntry.{own_entry}
 use Rattle.demands.proofs.ValidEntries.{bare_valid, joined_valid, taken_valid}
 use Rattle.pep_table.proofs.JoinedDemands.{same_entry}
@@ -12,9 +12,11 @@ use Rattle.demands.specs.Demand.{Demand, RequirementDemands}
 use Rattle.demands.specs.Gathering.{bare_entry}
 use Rattle.demands.specs.Join.{JoinsEntries}
 use Rattle.demands.specs.Table.{EntryDemands, EntryParts, IsEntry, IsValidEntry}
-use Rattle.reasons.proofs.TakenEntries.{bare_is_entry, joined_entry, taken_entry, told_sets}
+use Rattle.pep_table.proofs.JoinedDemands.{joined_entry}
+use Rattle.pep_table.proofs.Taking.{bare_is_entry, taken_entry, told_sets}
 use Rattle.reasons.specs.Claims.{ClaimDemands, ClaimParts, Claimed, PlacedParts, entered, required}
-use Rattle.reasons.specs.ClashSearch.{TakesClaim, TakesClaims}
+use Rattle.reasons.proofs.WeighedDemands.{weighed_entry}
+use Rattle.reasons.specs.ClashSearch.{StandsFor, TakesClaim, TakesClaims, Weighed, without_extras}
 
 -- ---- one behind the other
 
@@ -82,50 +84,30 @@ claim_taken name Q old (entered n e) new h (inl t) = (
 claim_taken name Q old (entered n e) new h (inr t) =
     nothing_more Q (ClaimDemands (entered n e) name) old new (λ d w. t.0 (sym w.0)) t.1 h
 
-pub taken_from : (name : List ℕ) (done ps : List PlacedParts) (old new : EntryParts) →
-    HasTaken (Claimed done name) old → TakesClaims name old ps new →
-    HasTaken (Claimed (done ++ ps) name) new
-taken_from name done [] old new h t =
-    subst (HasTaken (Claimed (done ++ []) name)) t (
-      same_entry (Claimed done name) (Claimed (done ++ []) name) old (λ d. (
-        λ q. (q.0, Contains-append_left done [] q.0 q.1, q.2),
-        λ q. elim (Contains-append_cases done [] q.0 q.1) [
-          | inl m ↦ (q.0, m, q.2)
-          | inr m ↦ absurd (in_none q.0 m)
-        ],
-      )) h.0,
-      h.1,
+pub taken_from : (name : List ℕ) (Q : Demand → Type 0) (ps : List PlacedParts)
+    (old new : EntryParts) → HasTaken Q old → TakesClaims name old ps new →
+    HasTaken (λ d. Q d ⊎ Claimed ps name d) new
+taken_from name Q [] old new h t =
+    nothing_more Q (λ d. Claimed [] name d) old new (λ d q. in_none q.0 q.1) t h
+taken_from name Q (p ∷ ps) old new h (mid, t, more) =
+    let step = claim_taken name Q old p.claim mid h t in
+    let all = taken_from name (With Q name p.claim) ps mid new step more in (
+      same_entry (λ d. With Q name p.claim d ⊎ Claimed ps name d)
+          (λ d. Q d ⊎ Claimed (p ∷ ps) name d) new (λ d. (there d, back d)) all.0,
+      all.1,
     )
-taken_from name done (p ∷ ps) old new h (mid, t, more) =
-    let step = claim_taken name (Claimed done name) old p.claim mid h t in
-    let next : HasTaken (Claimed (done ++ p ∷ []) name) mid = (
-      same_entry (With (Claimed done name) name p.claim) (Claimed (done ++ p ∷ []) name) mid
-          (λ d. (there d, back d)) step.0,
-      step.1,
-    ) in
-    let all = taken_from name (done ++ p ∷ []) ps mid new next more in
-    subst (λ (l : List PlacedParts). HasTaken (Claimed l name) new)
-    (append_assoc done (p ∷ []) ps) all
   where
-    there : (d : Demand) → With (Claimed done name) name p.claim d → Claimed (done ++ p ∷ []) name d
-    there d (inl q) = (q.0, Contains-append_left done (p ∷ []) q.0 q.1, q.2)
-    there d (inr w) = (p, Contains-append_right done (p ∷ []) p (in_first p [] p refl), w)
+    there : (d : Demand) → With Q name p.claim d ⊎ Claimed ps name d → Q d ⊎ Claimed (p ∷ ps) name d
+    there d (inl (inl q)) = inl q
+    there d (inl (inr w)) = inr (p, in_first p ps p refl, w)
+    there d (inr q) = inr (q.0, in_rest p ps q.0 q.1, q.2)
 
-    back : (d : Demand) → Claimed (done ++ p ∷ []) name d → With (Claimed done name) name p.claim d
-    back d q = elim (Contains-append_cases done (p ∷ []) q.0 q.1) [
-      | inl m ↦ inl (q.0, m, q.2)
-      | inr m ↦ elim (in_either p [] q.0 m) [
-        | inl same ↦ inr (subst (λ (x : PlacedParts). ClaimDemands x.claim name d) (sym same) q.2)
-        | inr more ↦ absurd (in_none q.0 more)
-      ]
+    back : (d : Demand) → Q d ⊎ Claimed (p ∷ ps) name d → With Q name p.claim d ⊎ Claimed ps name d
+    back d (inl q) = inl (inl q)
+    back d (inr q) = elim (in_either p ps q.0 q.1) [
+      | inl same ↦ inl (inr (subst (λ (x : PlacedParts). ClaimDemands x.claim name d) (sym same) q.2))
+      | inr rest ↦ inr (q.0, rest, q.2)
     ]
-
--- from the beginning
-pub taken_is_entry : (name : List ℕ) (ps : List PlacedParts) (new : EntryParts) →
-    TakesClaims name bare_entry ps new → HasTaken (Claimed ps name) new
-taken_is_entry name ps new t =
-    taken_from name [] ps bare_entry new
-    (bare_is_entry (Claimed [] name) (λ d q. in_none q.0 q.1), bare_valid) t
 
 -- ---- validity alone
 
@@ -142,17 +124,16 @@ claims_valid name [] old new v t = subst IsValidEntry t v
 claims_valid name (p ∷ ps) old new v (mid, t, more) =
     claims_valid name ps mid new (claim_valid name old p.claim mid v t) more
 
--- what was demanded, taken to nothing
-pub begun_again : (Q : Demand → Type 0) (none copy old d : EntryParts) → none ≡ bare_entry →
-    copy ≡ old → HasTaken Q old → JoinsEntries none copy d → HasTaken Q d
-begun_again Q none copy old d bare same h j =
-    let joined : JoinsEntries bare_entry old d =
-    subst (λ (b : EntryParts). JoinsEntries b old d) bare
-    (subst (λ (x : EntryParts). JoinsEntries none x d) same j) in (
-      same_entry (λ x. ⊥ ⊎ Q x) Q d both
-          (joined_entry (λ x. ⊥) Q bare_entry old d (bare_is_entry (λ x. ⊥) (λ x q. q)) h.0 joined),
-      joined_valid bare_entry old d bare_valid h.1 joined,
-    )
+-- ---- more beside what an entry stands for
+
+-- what is demanded, taken to nothing
+begun_again : (Q : Demand → Type 0) (old d : EntryParts) → HasTaken Q old →
+    JoinsEntries bare_entry old d → HasTaken Q d
+begun_again Q old d h j = (
+  same_entry (λ x. ⊥ ⊎ Q x) Q d both
+      (joined_entry (λ x. ⊥) Q bare_entry old d (bare_is_entry (λ x. ⊥) (λ x q. q)) h.0 j),
+  joined_valid bare_entry old d bare_valid h.1 j,
+)
   where
     back : (x : Demand) → ⊥ ⊎ Q x → Q x
     back x (inl never) = absurd never
@@ -160,3 +141,34 @@ begun_again Q none copy old d bare same h j =
 
     both : (x : Demand) → (⊥ ⊎ Q x) ↔ Q x
     both x = (back x, λ q. inr q)
+
+pub valid_with : (name : List ℕ) (more : List PlacedParts) (e d new : EntryParts) →
+    IsValidEntry e → JoinsEntries bare_entry e d → TakesClaims name d more new → IsValidEntry new
+valid_with name more e d new valid j t =
+    claims_valid name more d new (joined_valid bare_entry e d bare_valid valid j) t
+
+pub stands_with : (name : List ℕ) (some more : List PlacedParts) (e d new : EntryParts) →
+    IsValidEntry (without_extras e) → JoinsEntries bare_entry (without_extras e) d →
+    TakesClaims name d more new → StandsFor name some e → StandsFor name (some ++ more) new
+stands_with name some more e d new valid j t h =
+    let begun = begun_again (Weighed (Claimed some name)) (without_extras e) d (h, valid) j in
+    let all = taken_from name (Weighed (Claimed some name)) more d new begun t in
+    same_entry (Weighed Both) (Weighed (Claimed (some ++ more) name)) (without_extras new)
+    (λ x. (there x, back x)) (weighed_entry Both new all.0)
+  where
+    Both : Demand → Type 0
+    Both x = Weighed (Claimed some name) x ⊎ Claimed more name x
+
+    there : (x : Demand) → Weighed Both x → Weighed (Claimed (some ++ more) name) x
+    there x (inl q, is) = ((q.0.0, Contains-append_left some more q.0.0 q.0.1, q.0.2), is)
+    there x (inr q, is) = ((q.0, Contains-append_right some more q.0 q.1, q.2), is)
+
+    back : (x : Demand) → Weighed (Claimed (some ++ more) name) x → Weighed Both x
+    back x (q, is) = elim (Contains-append_cases some more q.0 q.1) [
+      | inl m ↦ (inl ((q.0, m, q.2), is), is)
+      | inr m ↦ (inr (q.0, m, q.2), is)
+    ]
+
+pub nothing_stands : (name : List ℕ) → StandsFor name [] bare_entry
+nothing_stands name =
+    bare_is_entry (Weighed (Claimed [] name)) (λ d q. in_none q.0.0 q.0.1)

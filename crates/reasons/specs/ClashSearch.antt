@@ -1,11 +1,12 @@
 -- How claims that clash are found: the code's way.
-use Rattle.std.specs.Prelude.{◌≡◌, ◌≢◌, ℕ, ◌+◌, ◌⊎◌, ◌<◌, ◌≤◌, ⊤, Bool, true, false, List, [], ◌∷◌, ◌++◌}
-use Rattle.std.specs.Prelude.{All, length, reverse, take}
+use Rattle.std.specs.Prelude.{◌≡◌, ◌≢◌, ℕ, zero, suc, ◌+◌, ◌⊎◌, ◌<◌, ◌≤◌, ⊤, Bool, true, false, List, [], ◌∷◌, ◌++◌}
+use Rattle.std.specs.Prelude.{All, length}
 use Rattle.demands.specs.declared.verdict.Verdict.{Verdict}
 use Rattle.demands.specs.declared.verdict.Verdict.TheVariants.{Possible, Nothing, Conflict}
+use Rattle.demands.specs.Demand.{Demand, extra}
 use Rattle.demands.specs.Gathering.{HasValidParts, TakesEntry}
 use Rattle.demands.specs.Join.{JoinsEntries}
-use Rattle.demands.specs.Table.{EntryParts, IsValidEntry}
+use Rattle.demands.specs.Table.{EntryParts, IsEntry, IsValidEntry}
 use Rattle.demands.specs.Verdict.{HasConflict}
 use Rattle.reasons.specs.Claims.{ClaimParts, Claimed, PlacedParts, entered, required}
 use Rattle.reasons.specs.Clash.{AdmitNothing, AdmitVersion}
@@ -26,6 +27,22 @@ TakesClaims name old [] new = old ≡ new
 TakesClaims name old (p ∷ ps) new =
     (mid : EntryParts) × TakesClaim name old p.claim mid × TakesClaims name mid ps new
 
+-- no verdict goes by extras
+abbrev pub without_extras : EntryParts → EntryParts
+without_extras e = record e { extras = [] }
+
+abbrev pub IsWeighed : Demand → Type 0
+IsWeighed (extra x) = ⊥
+IsWeighed d = ⊤
+
+-- those demands by which a verdict goes
+abbrev pub Weighed : (Demand → Type 0) → Demand → Type 0
+Weighed Q d = Q d × IsWeighed d
+
+-- the entry is what the claims demand of the name, whatever its extras are
+abbrev pub StandsFor : List ℕ → List PlacedParts → EntryParts → Type 0
+StandsFor name ps e = IsEntry (Weighed (Claimed ps name)) (without_extras e)
+
 -- ---- what is sought of claims, by the verdict on all of them
 
 -- the claims are enough for the verdict ..
@@ -44,36 +61,50 @@ abbrev pub IsTold : List ℕ → Verdict → List PlacedParts → Bool → Type 
 IsTold name w ps true = Clashing name w ps
 IsTold name w ps false = Fitting name w ps
 
--- the first so many claims, and behind them those that were found to be needed, the last one first
-abbrev pub under_trial : List PlacedParts → ℕ → List ℕ → List PlacedParts
-under_trial ps end found = take end ps ++ claims_at ps (reverse found)
+-- ---- claims by their indices
 
 -- each index is one of the list
 abbrev pub AreWithin : List PlacedParts → List ℕ → Type 0
 AreWithin ps ks = All (λ k. k < length ps) ks
 
--- no fewer of the first claims are enough
-abbrev pub IsLeast : List ℕ → Verdict → List PlacedParts → ℕ → List ℕ → Type 0
-IsLeast name w ps end found =
-    Clashing name w (under_trial ps end found)
-    × ((k : ℕ) → end ≡ k + 1 → Fitting name w (under_trial ps k found))
-
--- each of those that were found is needed beside these
-abbrev pub AreNeeded : List ℕ → Verdict → List PlacedParts → List PlacedParts → Type 0
-AreNeeded name w front found = (before : List PlacedParts) (p : PlacedParts)
-    (behind : List PlacedParts) → found ≡ before ++ p ∷ behind
-    → Fitting name w (front ++ (before ++ behind))
+-- the first are some of the second, in the same order
+abbrev pub ArePicked : List ℕ → List ℕ → Type 0
+ArePicked ks [] = ks ≡ []
+ArePicked ks (j ∷ js) = ArePicked ks js ⊎ ((rest : List ℕ) × (ks ≡ j ∷ rest) × ArePicked rest js)
 
 -- numbers rise, from this one on
 abbrev pub RiseFrom : ℕ → List ℕ → Type 0
 RiseFrom n [] = ⊤
 RiseFrom n (k ∷ ks) = (n ≤ k) × RiseFrom (k + 1) ks
 
--- the search, where so many claims in front of those that were found are left
-pub record FoundSoFar (name : List ℕ) (w : Verdict) (ps : List PlacedParts) (end : ℕ)
-    (found : List ℕ) : Type 0 where
-  pub room : end ≤ length ps
+-- the first so many indices
+abbrev pub indices : ℕ → List ℕ
+indices zero = []
+indices (suc n) = indices n ++ n ∷ []
+
+-- ---- the search
+
+-- each of the claims is needed beside these
+abbrev pub AreNeeded : List ℕ → Verdict → List PlacedParts → List PlacedParts → Type 0
+AreNeeded name w some found = (before : List PlacedParts) (p : PlacedParts)
+    (behind : List PlacedParts) → found ≡ before ++ p ∷ behind
+    → Fitting name w (some ++ (before ++ behind))
+
+-- beside some claims, those that were found are enough, and each of them is needed
+pub record IsLeast (name : List ℕ) (w : Verdict) (some found : List PlacedParts) : Type 0 where
+  pub enough : Clashing name w (some ++ found)
+  pub needed : AreNeeded name w some found
+
+-- the claims at rising indices are enough ..
+pub record AreEnough (name : List ℕ) (w : Verdict) (ps : List PlacedParts) (picked : List ℕ) :
+    Type 0 where
+  pub within : AreWithin ps picked
+  pub rising : RiseFrom 0 picked
+  pub enough : Clashing name w (claims_at ps picked)
+
+-- .. and each of them is needed
+pub record AreFound (name : List ℕ) (w : Verdict) (ps : List PlacedParts) (found : List ℕ) :
+    Type 0 where
   pub within : AreWithin ps found
-  pub rising : RiseFrom end (reverse found)
-  pub least : IsLeast name w ps end found
-  pub needed : AreNeeded name w (take end ps) (claims_at ps (reverse found))
+  pub rising : RiseFrom 0 found
+  pub least : IsLeast name w [] (claims_at ps found)

@@ -2,6 +2,7 @@ pub mod Claims
 pub mod Places
 pub mod Clash
 pub mod View
+pub mod Asked
 pub mod ClaimSearch
 pub mod ClashSearch
 pub mod ReasonText

@@ -1,30 +1,43 @@
 //! Which claims on a package clash: as many as the verdict needs, and none that it doesn't need.
 //!
-//! The fewest first claims that are enough for the verdict are found by halving. The last of them is
-//! needed. With it in hand, the fewest first claims are found that are enough beside it, and so on,
-//! until those in hand are enough. Each step takes the claims once or twice again: a clash of `k` of
-//! `n` claims costs `k` times `n`.
+//! The search divides. What the claims in hand demand is an entry, and each half of the others is
+//! searched beside it: first the second half beside all of the first one, and then the first half
+//! beside those that were found in the second. What isn't needed falls away with its half. So each
+//! claim is taken once at most for each time that the list is halved. No two entries of as many halvings
+//! admit the same version, since what one of them admits is left out by claims that the other one has. So
+//! the ranges of all copies together have about the size of the list, however many claims clash. URLs and
+//! demanded texts are copied with each entry. An entry of each size is kept at a time.
+//!
+//! Two claims that clash by the bounds of their versions are tried first, if these bounds are places.
 
-ghost use Rattle.std.specs.Prelude.{◌≡◌, ◌≤◌, ℕ, IfErr, IfOk, List, length, map};
-ghost use Rattle.demands.specs.Table.{IsEntry, IsValidEntry};
+ghost use Rattle.std.specs.Prelude.{◌≡◌, ◌++◌, IfErr, IfOk, List, [], map};
+ghost use Rattle.demands.specs.Gathering.{bare_entry};
+ghost use Rattle.demands.specs.Join.{JoinsEntries};
+ghost use Rattle.demands.specs.Table.{IsValidEntry};
 ghost use Rattle.demands.specs.Verdict.{IsVerdict};
 ghost use Rattle.faults.specs.NoMemory.{no_memory};
 ghost use Rattle.reasons.specs.Claims.{AreAmong, AreInOrder, Claimed, PlacedParts};
 ghost use Rattle.reasons.specs.Clash.{IsPartThatClashes};
 ghost use Rattle.reasons.specs.ClashSearch.{
+  AreEnough,
+  AreFound,
+  ArePicked,
   AreWithin,
   Clashing,
-  FoundSoFar,
   IsLeast,
   IsTold,
+  RiseFrom,
+  StandsFor,
   TakesClaim,
   TakesClaims,
-  under_trial,
+  indices,
+  without_extras,
 };
 ghost use Rattle.reasons.specs.View.{claim_parts, claims_at, placed_parts};
 
 use crate::claims::{Claim, PlacedClaim};
-use demands::{Entry, PackageDemands, TableFault, Verdict};
+use crate::likely::narrowest;
+use demands::{Entry, PackageDemands, Sorted, TableFault, Verdict};
 use faults::Fault;
 use pep_marker::Name;
 use std::alloc::Global;
@@ -49,22 +62,6 @@ fn take_claim(
     Ok(demands)
 }
 
-// What is demanded so far of the name, and by these claims.
-fn take_claims(
-    alloc: Global,
-    demands: PackageDemands,
-    claims: &[PlacedClaim],
-    name: &Name,
-) -> Result<PackageDemands, TableFault>
-    ensures { IfOk result (TakesClaims name.now demands (map placed_parts claims.now)) }
-{
-    let mut demands = demands;
-    for placed in claims {
-        demands = take_claim(alloc, demands, &placed.claim, name)?;
-    }
-    Ok(demands)
-}
-
 // What is demanded so far of the name, and by the claims at these indices.
 fn take_found(
     alloc: Global,
@@ -84,6 +81,40 @@ fn take_found(
     Ok(demands)
 }
 
+// A copy of the entry without its extras, by which no verdict goes.
+fn copy_without_extras(alloc: Global, entry: &Entry) -> Result<Entry, TableFault>
+    ensures same { IfOk result (λ e. e ≡ without_extras entry.now) }
+    ensures valid { IsValidEntry (without_extras entry.now) }
+{
+    let urls = entry.urls().copied(alloc)?;
+    let texts = entry.texts().copied(alloc)?;
+    match entry.versions().copied(alloc) {
+        Ok(versions) => Ok(Entry::of(Sorted::new(alloc), urls, texts, versions)),
+        Err(_) => Err(TableFault::NoMemory),
+    }
+}
+
+// What the entry demands without its extras, to take more to it.
+fn begun(alloc: Global, entry: &Entry) -> Result<PackageDemands, TableFault>
+    ensures joined { IfOk result (JoinsEntries bare_entry (without_extras entry.now)) }
+    ensures valid { IsValidEntry (without_extras entry.now) }
+{
+    let mut demands = PackageDemands::bare();
+    demands.join(alloc, copy_without_extras(alloc, entry)?)?;
+    Ok(demands)
+}
+
+// All indices below the number.
+fn indices_below(alloc: Global, count: usize) -> Result<Vec<usize>, TableFault>
+    ensures { IfOk result (λ all. all.items ≡ indices count) }
+{
+    let mut all = Vec::new(alloc);
+    for index in 0..count {
+        all.push(index)?;
+    }
+    Ok(all)
+}
+
 // Claims on a name, of which some are sought that clash.
 #[derive(Drop)]
 struct Trial<'a> {
@@ -95,51 +126,26 @@ struct Trial<'a> {
 }
 
 impl Trial<'_> {
-    // What the first so many claims demand, and those at the indices that were found.
-    fn demanded(&self, end: usize, found: &[usize]) -> Result<Entry, TableFault>
-        requires end { end ≤ length self.now.claims.now }
-        requires within { AreWithin (map placed_parts self.now.claims.now) found.now }
-        ensures { IfOk result (λ entry. IsEntry (Claimed
-            (under_trial (map placed_parts self.now.claims.now) end found.now) self.now.name.now)
-            entry × IsValidEntry entry) }
+    // What is demanded by claims for which the entry stands, and by those at these indices.
+    fn with_more(&self, entry: &Entry, more: &[usize]) -> Result<Entry, TableFault>
+        requires within { AreWithin (map placed_parts self.now.claims.now) more.now }
+        ensures { IfOk result (λ both. (some : List PlacedParts)
+            → StandsFor self.now.name.now some entry.now
+            → StandsFor self.now.name.now
+            (some ++ claims_at (map placed_parts self.now.claims.now) more.now) both) }
     {
-        let alloc = self.alloc;
-        let front = take_claims(
-            alloc,
-            PackageDemands::bare(),
-            &self.claims[..end],
-            self.name,
-        )?;
-        let all = take_found(alloc, front, self.claims, found, self.name)?;
-        all.entry(alloc)
+        let demands = begun(self.alloc, entry)?;
+        let all = take_found(self.alloc, demands, self.claims, more, self.name)?;
+        all.entry(self.alloc)
     }
 
-    // What is demanded by those that demand the entry, the first so many among them, and by the claims
-    // from there up to this number.
-    fn with_more(&self, entry: &Entry, low: usize, end: usize) -> Result<Entry, TableFault>
-        requires order { low ≤ end }
-        requires end { end ≤ length self.now.claims.now }
-        ensures { IfOk result (λ more. (found : List ℕ) → IsEntry (Claimed
-            (under_trial (map placed_parts self.now.claims.now) low found) self.now.name.now) entry.now
-            → IsEntry (Claimed (under_trial (map placed_parts self.now.claims.now) end found)
-            self.now.name.now) more) }
-    {
-        let alloc = self.alloc;
-        // Its clause tells that the entry is valid.
-        let _ = entry.versions();
-        let mut demands = PackageDemands::bare();
-        demands.join(alloc, entry.copied(alloc)?)?;
-        let all = take_claims(alloc, demands, &self.claims[low..end], self.name)?;
-        all.entry(alloc)
-    }
-
-    // Whether claims that demand the entry are enough for the verdict.
+    // Whether claims for which the entry stands are enough for the verdict.
     fn is_enough(&self, entry: &Entry) -> Result<bool, TableFault>
         requires verdict { IsVerdict (Claimed (map placed_parts self.now.claims.now)
             self.now.name.now) self.now.verdict }
         ensures { IfOk result (λ b. (some : List PlacedParts)
             → AreAmong some (map placed_parts self.now.claims.now)
-            → IsEntry (Claimed some self.now.name.now) entry.now
+            → StandsFor self.now.name.now some entry.now
             → IsTold self.now.name.now self.now.verdict some b) }
     {
         // Its clause tells that the entry is valid.
@@ -148,51 +154,79 @@ impl Trial<'_> {
         Ok(verdict == self.verdict)
     }
 
-    // The fewest first claims that are enough with those that were found, of so many that are. What the
-    // claims below demand that aren't enough is kept, so each claim is taken a few times in all.
-    fn least_end(&self, end: usize, found: &[usize]) -> Result<usize, TableFault>
-        requires end { end ≤ length self.now.claims.now }
-        requires within { AreWithin (map placed_parts self.now.claims.now) found.now }
+    // Those of the claims at these indices that are needed beside claims for which the entry stands.
+    fn needed(&self, entry: &Entry, picked: &[usize]) -> Result<Vec<usize>, TableFault>
+        requires within { AreWithin (map placed_parts self.now.claims.now) picked.now }
         requires verdict { IsVerdict (Claimed (map placed_parts self.now.claims.now)
             self.now.name.now) self.now.verdict }
-        requires enough { Clashing self.now.name.now self.now.verdict
-            (under_trial (map placed_parts self.now.claims.now) end found.now) }
-        ensures within { IfOk result (λ least. least ≤ end) }
-        ensures least { IfOk result (λ least. IsLeast self.now.name.now self.now.verdict
-            (map placed_parts self.now.claims.now) least found.now) }
+        ensures picked { IfOk result (λ found. ArePicked found.items picked.now) }
+        ensures least { IfOk result (λ found. (some : List PlacedParts)
+            → AreAmong some (map placed_parts self.now.claims.now)
+            → StandsFor self.now.name.now some entry.now
+            → Clashing self.now.name.now self.now.verdict
+            (some ++ claims_at (map placed_parts self.now.claims.now) picked.now)
+            → IsLeast self.now.name.now self.now.verdict some
+            (claims_at (map placed_parts self.now.claims.now) found.items)) }
     {
-        let mut below = self.demanded(0, found)?;
-        if self.is_enough(&below)? {
-            return Ok(0);
+        if picked.is_empty() || self.is_enough(entry)? {
+            return Ok(Vec::new(self.alloc));
         }
-        let mut low = 0;
-        let mut high = end;
-        while low + 1 < high {
-            let middle = low + (high - low) / 2;
-            let more = self.with_more(&below, low, middle)?;
-            if self.is_enough(&more)? {
-                high = middle;
-            } else {
-                low = middle;
-                below = more;
-            }
+        if picked.len() == 1 {
+            return Ok(Vec::from_slice(self.alloc, picked)?);
         }
-        Ok(high)
+        let (front, back) = picked.split_at(picked.len() / 2);
+        let with_front = self.with_more(entry, front)?;
+        let behind = self.needed(&with_front, back)?;
+        let with_behind = self.with_more(entry, behind.as_slice())?;
+        let mut found = self.needed(&with_behind, front)?;
+        found.extend_from_slice(behind.as_slice())?;
+        Ok(found)
     }
 
-    // The indices of claims that clash, from the last one to the first.
+    // The indices of a few claims that may be enough. No clause says that they are.
+    fn likely(&self) -> Result<Vec<usize>, TableFault>
+        ensures within { IfOk result (λ few.
+            AreWithin (map placed_parts self.now.claims.now) few.items) }
+        ensures rising { IfOk result (λ few. RiseFrom 0 few.items) }
+    {
+        let mut few = Vec::new(self.alloc);
+        if self.claims.is_empty() {
+            return Ok(few);
+        }
+        let (first, last) = narrowest(self.claims);
+        few.push(first.min(last))?;
+        if first != last {
+            few.push(first.max(last))?;
+        }
+        Ok(few)
+    }
+
+    // The indices of claims that are enough: a few, or all. The entry stands for no claim.
+    fn enough(&self, nothing: &Entry) -> Result<Vec<usize>, TableFault>
+        requires nothing { StandsFor self.now.name.now [] nothing.now }
+        requires verdict { IsVerdict (Claimed (map placed_parts self.now.claims.now)
+            self.now.name.now) self.now.verdict }
+        ensures { IfOk result (λ picked. AreEnough self.now.name.now self.now.verdict
+            (map placed_parts self.now.claims.now) picked.items) }
+    {
+        let few = self.likely()?;
+        let demanded = self.with_more(nothing, few.as_slice())?;
+        if self.is_enough(&demanded)? {
+            return Ok(few);
+        }
+        indices_below(self.alloc, self.claims.len())
+    }
+
+    // The indices of claims that clash.
     fn found(&self) -> Result<Vec<usize>, TableFault>
         requires verdict { IsVerdict (Claimed (map placed_parts self.now.claims.now)
             self.now.name.now) self.now.verdict }
-        ensures { IfOk result (λ found. FoundSoFar self.now.name.now self.now.verdict
-            (map placed_parts self.now.claims.now) 0 found.items) }
+        ensures { IfOk result (λ found. AreFound self.now.name.now self.now.verdict
+            (map placed_parts self.now.claims.now) found.items) }
     {
-        let mut found = Vec::new(self.alloc);
-        let mut end = self.least_end(self.claims.len(), found.as_slice())?;
-        while end > 0 {
-            found.push(end - 1)?;
-            end = self.least_end(end - 1, found.as_slice())?;
-        }
+        let nothing = PackageDemands::bare().entry(self.alloc)?;
+        let picked = self.enough(&nothing)?;
+        let found = self.needed(&nothing, picked.as_slice())?;
         Ok(found)
     }
 }
@@ -221,10 +255,7 @@ pub(crate) fn clash_of(
         verdict,
     };
     match trial.found() {
-        Ok(mut found) => {
-            found.reverse();
-            Ok(found)
-        }
+        Ok(found) => Ok(found),
         Err(_) => Err(Fault::no_memory()),
     }
 }

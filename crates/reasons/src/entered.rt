@@ -1,90 +1,126 @@
 //! Claims of printed tables: their entries.
 
-ghost use Rattle.std.specs.Prelude.{◌≡◌, ◌+◌, None, IfErr, IfOk, map, string_bytes};
-ghost use Rattle.demands.specs.declared.verdict.Verdict.{Verdict};
-ghost use Rattle.pep_table.specs.EntryReading.{head_line};
-ghost use Rattle.pep_table.specs.TableText.{Shows};
-ghost use Rattle.inputs.specs.Lists.{lines_of};
+ghost use Rattle.std.specs.Prelude.{◌≡◌, ◌+◌, ◌≤◌, None, IfErr, IfOk, map};
+ghost use Rattle.pep_require.specs.Requirement.{IsAscending};
+ghost use Rattle.pep_table.specs.Refused.{feeds};
 ghost use Rattle.inputs.specs.Refusal.{no_memory};
+ghost use Rattle.inputs.specs.TableFiles.{IsTableFile};
 ghost use Rattle.inputs.specs.declared.input.Kind.TheVariants as kind;
-ghost use Rattle.reasons.specs.ClaimSearch.{AreClaimsBy, entry_claim, first_with};
+ghost use Rattle.reasons.specs.Asked.{AllGain, asked_parts, names_in, with_claim};
+ghost use Rattle.reasons.specs.Claims.{entered};
+ghost use Rattle.reasons.specs.ClaimSearch.{AreClaimsBy, entry_lines};
 ghost use Rattle.reasons.specs.Places.{StandsIn};
-ghost use Rattle.reasons.specs.View.{placed_parts};
+ghost use Rattle.texts.specs.Limits.{input_limit};
 
+use crate::asked::{Asked, is_asked, with_claim};
 use crate::claims::{Claim, PlacedClaim};
-use demands::{Entry, TableFault};
+use demands::Entry;
 use faults::Fault;
 use pep_marker::{Environment, Name};
 use pep_table::Table;
 use std::alloc::Global;
-use texts::{INPUT_LIMIT, first_part};
+use texts::INPUT_LIMIT;
 
-// The first line of the entry of a name, without its line feed.
-fn first_line(alloc: Global, name: &Name, entry: &Entry) -> Result<String, TableFault>
-    ensures line { IfOk result (λ line. (verdict : Verdict) × Shows entry.now verdict
-        × (string_bytes line ≡ head_line name.now verdict)) }
-    ensures faults { IfErr result (λ e. e ≡ TableFault.NoMemory) }
+// How many lines the bytes have that end.
+fn feeds(bytes: &[u8]) -> usize
+    ensures { result ≡ feeds bytes.now }
 {
-    let verdict = entry.verdict(alloc)?;
-    let mut line = String::from_str(alloc, name.text())?;
-    line.push_str(" ")?;
-    line.push_str(verdict.word())?;
-    Ok(line)
+    bytes.iter().filter(|byte| **byte == b'\n').count()
 }
 
-// The number of the first line that is this one, counted from 1; behind all where there is none.
-fn number_of(bytes: &[u8], wanted: &[u8]) -> u64
-    ensures { result ≡ first_with wanted.now (lines_of bytes.now) + 1 }
+// How many lines the entry has in the text of a table.
+fn entry_lines(entry: &Entry) -> usize
+    requires { entry_lines entry.now ≤ input_limit + 1 }
+    ensures { result ≡ entry_lines entry.now }
 {
-    let mut number: u64 = 1;
-    let mut left = Some(bytes);
-    while let Some(text) = left {
-        let (line, after) = first_part(text, b'\n');
-        if line == wanted {
-            return number;
-        }
-        number += 1;
-        left = after;
+    let extras = entry.extras().items().len();
+    let urls = entry.urls().items().len();
+    let texts = entry.texts().items().len();
+    let ranges = entry.versions().ranges().len();
+    1 + extras + urls + texts + ranges
+}
+
+// The packages with the entry of a name, which begins on this line.
+fn with_entry(
+    alloc: Global,
+    asked: Vec<Asked>,
+    input: u64,
+    number: usize,
+    name: &Name,
+    entry: &Entry,
+) -> Result<Vec<Asked>, Fault>
+    requires { IsAscending (names_in asked.items) }
+    ensures claims { IfOk result (λ new. map asked_parts new.items
+        ≡ map (with_claim (record {
+          input = input;
+          number = number;
+          claim = entered name.now entry.now;
+        })) (map asked_parts asked.items)) }
+    ensures faults { IfErr result (λ fault. fault ≡ no_memory) }
+{
+    if !is_asked(asked.as_slice(), name) {
+        return Ok(asked);
     }
-    number
+    let Ok(name) = name.copied(alloc) else {
+        return Err(Fault::no_memory());
+    };
+    let Ok(entry) = entry.copied(alloc) else {
+        return Err(Fault::no_memory());
+    };
+    let claim = Claim::Entered(name, entry);
+    let number = number as u64;
+    with_claim(
+        asked,
+        PlacedClaim {
+            input,
+            number,
+            claim,
+        },
+    )
 }
 
-// The claim that the entry of a name is, of a table file, which is the input with this number.
-fn entry_claim(
+// The packages with the entries of a table file, from the last one to the first: the lines behind are
+// counted, since a header may stand in front.
+fn with_entries(
     alloc: Global,
     bytes: &[u8],
     input: u64,
-    name: &Name,
-    entry: &Entry,
-) -> Result<PlacedClaim, TableFault>
-    ensures claim { IfOk result (λ claim. (verdict : Verdict) × Shows entry.now verdict
-        × (placed_parts claim ≡ entry_claim bytes.now input name.now entry.now verdict)) }
-    ensures faults { IfErr result (λ e. e ≡ TableFault.NoMemory) }
+    environment: &Environment,
+    entries: &[(Name, Entry)],
+    asked: Vec<Asked>,
+) -> Result<Vec<Asked>, Fault>
+    requires order { IsAscending (names_in asked.items) }
+    requires file { IsTableFile environment.now bytes.now entries.now }
+    ensures claims { IfOk result (λ new. AllGain
+        (AreClaimsBy (StandsIn environment.now kind.Table None bytes.now) input)
+        asked.items new.items) }
+    ensures faults { IfErr result (λ fault. fault ≡ no_memory) }
 {
-    let line = first_line(alloc, name, entry)?;
-    let Ok(own) = name.copied(alloc) else {
-        return Err(TableFault::NoMemory);
-    };
-    let entry = entry.copied(alloc)?;
-    Ok(PlacedClaim {
-        input,
-        number: number_of(bytes, line.as_bytes()),
-        claim: Claim::Entered(own, entry),
-    })
+    let mut asked = asked;
+    let mut number = feeds(bytes) + 1;
+    let mut left = entries.len();
+    while left > 0 {
+        left -= 1;
+        let (name, entry) = &entries[left];
+        number -= entry_lines(entry);
+        asked = with_entry(alloc, asked, input, number, name, entry)?;
+    }
+    Ok(asked)
 }
 
-/// The claims on a name of an accepted table file, which is the input with this number: at most one.
-/// Since the table was read before, nothing but memory can be wanting.
+/// The packages with the claims of an accepted table file, which is the input with this number. Since
+/// the table was read before, nothing but memory can be wanting.
 pub(crate) fn table_claims(
     alloc: Global,
     bytes: &[u8],
     input: u64,
     environment: &Environment,
-    name: &Name,
-) -> Result<Vec<PlacedClaim>, Fault>
-    ensures claims { IfOk result (λ claims.
-        AreClaimsBy (StandsIn environment.now kind.Table None bytes.now) input name.now
-        (map placed_parts claims.items)) }
+    asked: Vec<Asked>,
+) -> Result<Vec<Asked>, Fault>
+    requires { IsAscending (names_in asked.items) }
+    ensures claims { IfOk result (λ new. AllGain
+        (AreClaimsBy (StandsIn environment.now kind.Table None bytes.now) input)
+        asked.items new.items) }
     ensures faults { IfErr result (λ fault. fault ≡ no_memory) }
 {
     if bytes.len() > INPUT_LIMIT {
@@ -93,18 +129,8 @@ pub(crate) fn table_claims(
     let Ok(text) = std::str::from_utf8(bytes) else {
         return Err(Fault::no_memory());
     };
-    // Its clause tells that the texts make an environment.
-    let _ = environment.header_in(alloc, text);
-    let Ok(table) = Table::read_named(alloc, text, environment, name) else {
+    let Ok(table) = Table::read(alloc, text, environment) else {
         return Err(Fault::no_memory());
     };
-    let mut claims = Vec::new(alloc);
-    if let Some(entry) = table.get(name) {
-        let Ok(claim) = entry_claim(alloc, bytes, input, name, entry) else {
-            return Err(Fault::no_memory());
-        };
-        claims.push(claim)?;
-        return Ok(claims);
-    }
-    Ok(claims)
+    with_entries(alloc, bytes, input, environment, table.entries(), asked)
 }

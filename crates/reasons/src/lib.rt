@@ -1,10 +1,12 @@
 //! Why packages have their verdicts: who demands what, and which of these demands clash.
 #![tactic(auto)]
 
+mod asked;
 mod claims;
 mod clash;
 mod entered;
 pub mod laws;
+mod likely;
 mod listed;
 mod telling;
 mod text;

@@ -1,14 +1,16 @@
 //! Claims of lists and of project files: their requirements.
 
-ghost use Rattle.std.specs.Prelude.{◌≡◌, ◌↔◌, ◌++◌, None, IfErr, IfOk, IsTrue, map, option_map, option_copied};
+ghost use Rattle.std.specs.Prelude.{◌≡◌, None, IfErr, IfOk, map, option_map, option_copied};
+ghost use Rattle.pep_require.specs.Requirement.{IsAscending};
 ghost use Rattle.pep_require.specs.View.{requirement_parts};
 ghost use Rattle.inputs.specs.Refusal.{no_memory};
 ghost use Rattle.inputs.specs.declared.input.Kind.TheVariants as kind;
 ghost use Rattle.inputs.specs.Lists.{content, is_skipped};
-ghost use Rattle.reasons.specs.ClaimSearch.{AreClaimsBy, Counts, FindsCounted, FindsOnLine, found_claims};
+ghost use Rattle.reasons.specs.Asked.{AllGain, asked_parts, names_in, with_found};
+ghost use Rattle.reasons.specs.ClaimSearch.{AreClaimsBy, FindsApplying, FindsCounted, FindsOnLine};
 ghost use Rattle.reasons.specs.Places.{StandsIn};
-ghost use Rattle.reasons.specs.View.{placed_parts};
 
+use crate::asked::{Asked, is_asked, with_claim};
 use crate::claims::{Claim, PlacedClaim};
 use documents::project_requirements;
 use faults::Fault;
@@ -17,39 +19,37 @@ use pep_require::Requirement;
 use std::alloc::Global;
 use texts::{first_part, without_outer_blanks};
 
-// Whether the requirement is on the name and applies.
-fn counts(
+// The requirement, if it applies.
+fn applying(
     alloc: Global,
-    requirement: &Requirement,
+    requirement: Requirement,
     environment: &Environment,
-    name: &Name,
-) -> Result<bool, Fault>
-    ensures counts { IfOk result (λ b. IsTrue b
-        ↔ Counts environment.now name.now (requirement_parts requirement.now)) }
+) -> Result<Option<Requirement>, Fault>
+    ensures applying { IfOk result (λ found. FindsApplying environment.now
+        (requirement_parts requirement) (option_map requirement_parts found)) }
     ensures faults { IfErr result (λ fault. fault ≡ no_memory) }
 {
-    if *requirement.name() != *name {
-        return Ok(false);
-    }
     match requirement.applies(alloc, environment) {
-        Ok(applies) => Ok(applies),
+        Ok(true) => Ok(Some(requirement)),
+        Ok(false) => Ok(None),
         Err(_) => Err(Fault::no_memory()),
     }
 }
 
-// The requirement, if it counts.
+// The requirement, if its package is asked about and it applies.
 fn counted(
     alloc: Global,
     requirement: Requirement,
     environment: &Environment,
-    name: &Name,
+    asked: &[Asked],
 ) -> Result<Option<Requirement>, Fault>
-    ensures counted { IfOk result (λ found. FindsCounted environment.now name.now
+    requires { IsAscending (names_in asked.now) }
+    ensures counted { IfOk result (λ found. FindsCounted environment.now (names_in asked.now)
         (requirement_parts requirement) (option_map requirement_parts found)) }
     ensures faults { IfErr result (λ fault. fault ≡ no_memory) }
 {
-    if counts(alloc, &requirement, environment, name)? {
-        Ok(Some(requirement))
+    if is_asked(asked, requirement.name()) {
+        applying(alloc, requirement, environment)
     } else {
         Ok(None)
     }
@@ -74,15 +74,16 @@ fn is_skipped(content: &[u8]) -> bool
 }
 
 // The requirement on a line of a list that is accepted, if it counts: the name is read first, and the
-// rest where it is the wanted one. Since the list was read before, nothing but memory can be wanting.
+// rest where its package is asked about. Since the list was read before, nothing but memory can be wanting.
 fn requirement_on(
     alloc: Global,
     line: &[u8],
     environment: &Environment,
-    name: &Name,
+    asked: &[Asked],
 ) -> Result<Option<Requirement>, Fault>
-    ensures found { IfOk result (λ found.
-        FindsOnLine environment.now name.now line.now (option_map requirement_parts found)) }
+    requires { IsAscending (names_in asked.now) }
+    ensures found { IfOk result (λ found. FindsOnLine environment.now (names_in asked.now) line.now
+        (option_map requirement_parts found)) }
     ensures faults { IfErr result (λ fault. fault ≡ no_memory) }
 {
     let content = content(line);
@@ -95,88 +96,94 @@ fn requirement_on(
     let Ok(start) = Requirement::start(alloc, text) else {
         return Err(Fault::no_memory());
     };
-    if start.name != *name {
+    if !is_asked(asked, &start.name) {
         return Ok(None);
     }
     let Ok(requirement) = Requirement::read(alloc, text) else {
         return Err(Fault::no_memory());
     };
-    counted(alloc, requirement, environment, name)
+    applying(alloc, requirement, environment)
 }
 
-// The claims with the requirement that was found at this place, if there is one.
+// The packages with the requirement that was found at this place, if there is one.
 fn with_found(
-    claims: Vec<PlacedClaim>,
+    asked: Vec<Asked>,
     input: u64,
     number: u64,
     found: Option<Requirement>,
-) -> Result<Vec<PlacedClaim>, Fault>
-    ensures claims { IfOk result (λ new. map placed_parts new.items
-        ≡ map placed_parts claims.items
-        ++ found_claims input number (option_map requirement_parts found)) }
+) -> Result<Vec<Asked>, Fault>
+    requires { IsAscending (names_in asked.items) }
+    ensures claims { IfOk result (λ new. map asked_parts new.items
+        ≡ map (with_found input number (option_map requirement_parts found))
+        (map asked_parts asked.items)) }
     ensures faults { IfErr result (λ fault. fault ≡ no_memory) }
 {
-    let mut claims = claims;
-    if let Some(requirement) = found {
-        claims.push(PlacedClaim {
+    let Some(requirement) = found else {
+        return Ok(asked);
+    };
+    let claim = Claim::Required(requirement);
+    with_claim(
+        asked,
+        PlacedClaim {
             input,
             number,
-            claim: Claim::Required(requirement),
-        })?;
-    }
-    Ok(claims)
+            claim,
+        },
+    )
 }
 
-/// The claims on a name of an accepted list, which is the input with this number.
+/// The packages with the claims of an accepted list, which is the input with this number.
 pub(crate) fn list_claims(
     alloc: Global,
     bytes: &[u8],
     input: u64,
     environment: &Environment,
-    name: &Name,
-) -> Result<Vec<PlacedClaim>, Fault>
-    ensures claims { IfOk result (λ claims.
-        AreClaimsBy (StandsIn environment.now kind.List None bytes.now) input name.now
-        (map placed_parts claims.items)) }
+    asked: Vec<Asked>,
+) -> Result<Vec<Asked>, Fault>
+    requires { IsAscending (names_in asked.items) }
+    ensures claims { IfOk result (λ new. AllGain
+        (AreClaimsBy (StandsIn environment.now kind.List None bytes.now) input)
+        asked.items new.items) }
     ensures faults { IfErr result (λ fault. fault ≡ no_memory) }
 {
-    let mut claims = Vec::new(alloc);
+    let mut asked = asked;
     let mut number: u64 = 0;
     let mut left = Some(bytes);
     while let Some(text) = left {
         let (line, after) = first_part(text, b'\n');
         number += 1;
-        let found = requirement_on(alloc, line, environment, name)?;
-        claims = with_found(claims, input, number, found)?;
+        let found = requirement_on(alloc, line, environment, asked.as_slice())?;
+        asked = with_found(asked, input, number, found)?;
         left = after;
     }
-    Ok(claims)
+    Ok(asked)
 }
 
-/// The claims on a name of an accepted project file, which is the input with this number.
+/// The packages with the claims of an accepted project file, which is the input with this number.
 pub(crate) fn project_claims(
     alloc: Global,
     bytes: &[u8],
     group: Option<&Name>,
     input: u64,
     environment: &Environment,
-    name: &Name,
-) -> Result<Vec<PlacedClaim>, Fault>
-    ensures claims { IfOk result (λ claims. AreClaimsBy
-        (StandsIn environment.now kind.Project (option_copied group.entry) bytes.now) input name.now
-        (map placed_parts claims.items)) }
+    asked: Vec<Asked>,
+) -> Result<Vec<Asked>, Fault>
+    requires { IsAscending (names_in asked.items) }
+    ensures claims { IfOk result (λ new. AllGain (AreClaimsBy
+        (StandsIn environment.now kind.Project (option_copied group.entry) bytes.now) input)
+        asked.items new.items) }
     ensures faults { IfErr result (λ fault. fault ≡ no_memory) }
 {
     let extra = environment.value("extra").unwrap_or("");
     let Ok(requirements) = project_requirements(alloc, bytes, extra, group) else {
         return Err(Fault::no_memory());
     };
-    let mut claims = Vec::new(alloc);
+    let mut asked = asked;
     let mut number: u64 = 0;
     for requirement in requirements {
         number += 1;
-        let found = counted(alloc, requirement, environment, name)?;
-        claims = with_found(claims, input, number, found)?;
+        let found = counted(alloc, requirement, environment, asked.as_slice())?;
+        asked = with_found(asked, input, number, found)?;
     }
-    Ok(claims)
+    Ok(asked)
 }

@@ -1,18 +1,23 @@
 //! Why packages have their verdicts.
 
-ghost use Rattle.std.specs.Prelude.{◌≡◌, ◌++◌, All, IfErr, IfOk, map, option_map};
+ghost use Rattle.std.specs.Prelude.{◌≡◌, ◌++◌, [], All, IfErr, IfOk, map, option_map};
+ghost use Rattle.std.specs.List.{AllZip};
+ghost use Rattle.std.specs.Option.{option_to_list};
+ghost use Rattle.pep_require.specs.Requirement.{IsAscending};
 ghost use Rattle.demands.specs.Table.{EntryDemands, IsTable, TableDemands};
-ghost use Rattle.demands.specs.declared.verdict.Verdict.{Verdict};
 ghost use Rattle.demands.specs.Verdict.{IsVerdict};
 ghost use Rattle.inputs.specs.Gathered.{Gathered, IsAccepted};
 ghost use Rattle.inputs.specs.Refusal.{RefusesInputs, no_memory};
+ghost use Rattle.reasons.specs.Asked.{AllGain, asked_parts, names_in};
+ghost use Rattle.reasons.specs.Claims.{AreInOrder, Claimed};
 ghost use Rattle.reasons.specs.ClaimSearch.{AreClaimsBy};
 ghost use Rattle.reasons.specs.Clash.{AreReasons, IsReasonOf};
-ghost use Rattle.reasons.specs.ReasonSearch.{FindsReason, found_reasons};
+ghost use Rattle.reasons.specs.ReasonSearch.{AreClosed, Explains, FindsClosed, TellsClash};
 ghost use Rattle.reasons.specs.Places.{AreClaims, ClaimsAt};
 ghost use Rattle.reasons.specs.View.{placed_parts, reason_parts};
 
-use crate::claims::{PlacedClaim, Reason};
+use crate::asked::Asked;
+use crate::claims::Reason;
 use crate::clash::clash_of;
 use crate::entered::table_claims;
 use crate::listed::{list_claims, project_claims};
@@ -46,50 +51,110 @@ fn verdict_on(alloc: Global, table: &Table, name: &Name) -> Result<Verdict, Faul
     }
 }
 
-// The claims on a name of an accepted input with this number.
+// The packages with the claims of an accepted input with this number.
 fn claims_in(
     alloc: Global,
     input: &Input,
     number: u64,
     environment: &Environment,
-    name: &Name,
-) -> Result<Vec<PlacedClaim>, Fault>
-    ensures claims { IfOk result (λ claims. AreClaimsBy (ClaimsAt environment.now input.now) number
-        name.now (map placed_parts claims.items)) }
+    asked: Vec<Asked>,
+) -> Result<Vec<Asked>, Fault>
+    requires { IsAscending (names_in asked.items) }
+    ensures claims { IfOk result (λ new. AllGain
+        (AreClaimsBy (ClaimsAt environment.now input.now) number) asked.items new.items) }
     ensures faults { IfErr result (λ fault. fault ≡ no_memory) }
 {
     let bytes = input.bytes.as_slice();
     match input.kind {
-        Kind::List => list_claims(alloc, bytes, number, environment, name),
+        Kind::List => list_claims(alloc, bytes, number, environment, asked),
         Kind::Project => {
             let group = input.group.as_ref();
-            project_claims(alloc, bytes, group, number, environment, name)
+            project_claims(alloc, bytes, group, number, environment, asked)
         }
-        Kind::Table => table_claims(alloc, bytes, number, environment, name),
+        Kind::Table => table_claims(alloc, bytes, number, environment, asked),
     }
 }
 
-// The claims on a name of inputs that are accepted: the second pass, in which nothing but memory
-// can be wanting.
+// The packages with the claims of inputs that are accepted: the second pass, in which nothing but
+// memory can be wanting.
 fn claims_on(
     alloc: Global,
     inputs: &[Input],
     environment: &Environment,
-    name: &Name,
-) -> Result<Vec<PlacedClaim>, Fault>
-    requires accepted { All (IsAccepted environment.now) inputs.now }
-    ensures claims { IfOk result (λ claims. AreClaims environment.now inputs.now name.now
-        (map placed_parts claims.items)) }
+    asked: Vec<Asked>,
+) -> Result<Vec<Asked>, Fault>
+    requires { IsAscending (names_in asked.items) }
+    ensures claims { IfOk result (λ new. AllGain (AreClaims environment.now inputs.now)
+        asked.items new.items) }
     ensures faults { IfErr result (λ fault. fault ≡ no_memory) }
 {
-    let mut claims = Vec::new(alloc);
+    let mut asked = asked;
     let mut number: u64 = 0;
     for input in inputs {
         number += 1;
-        let mut own = claims_in(alloc, input, number, environment, name)?;
-        claims.append(&mut own)?;
+        asked = claims_in(alloc, input, number, environment, asked)?;
     }
-    Ok(claims)
+    Ok(asked)
+}
+
+// The reason of a package, all claims on which are found.
+fn reason_of(alloc: Global, asked: Asked) -> Result<Reason, Fault>
+    requires order { AreInOrder (map placed_parts asked.claims.items) }
+    requires verdict { IsVerdict (Claimed (map placed_parts asked.claims.items) asked.name)
+        asked.verdict }
+    ensures reason { IfOk result (λ reason.
+        TellsClash (asked_parts asked) (reason_parts reason)) }
+    ensures faults { IfErr result (λ fault. fault ≡ no_memory) }
+{
+    let Asked {
+        name,
+        verdict,
+        claims,
+    } = asked;
+    let clash = clash_of(alloc, claims.as_slice(), &name, verdict)?;
+    Ok(Reason {
+        name,
+        verdict,
+        claims,
+        clash,
+    })
+}
+
+// The reasons of packages, all claims on which are found.
+fn reasons_of(alloc: Global, asked: Vec<Asked>) -> Result<Vec<Reason>, Fault>
+    requires order { All (λ q. AreInOrder q.claims) (map asked_parts asked.items) }
+    requires verdicts { All (λ q. IsVerdict (Claimed q.claims q.name) q.verdict)
+        (map asked_parts asked.items) }
+    ensures reasons { IfOk result (λ reasons. AllZip TellsClash (map asked_parts asked.items)
+        (map reason_parts reasons.items)) }
+    ensures faults { IfErr result (λ fault. fault ≡ no_memory) }
+{
+    let mut reasons = Vec::new(alloc);
+    for each in asked {
+        let reason = reason_of(alloc, each)?;
+        reasons.push(reason)?;
+    }
+    Ok(reasons)
+}
+
+// Why packages, no claims on which are found yet, have their verdicts on what all inputs demand.
+fn explained(
+    alloc: Global,
+    inputs: &[Input],
+    environment: &Environment,
+    asked: Vec<Asked>,
+) -> Result<Vec<Reason>, Fault>
+    requires accepted { All (IsAccepted environment.now) inputs.now }
+    requires order { IsAscending (names_in asked.items) }
+    requires bare { All (λ q. q.claims ≡ []) (map asked_parts asked.items) }
+    requires verdicts { All (λ q. IsVerdict (Gathered environment.now inputs.now q.name) q.verdict)
+        (map asked_parts asked.items) }
+    ensures reasons { IfOk result (λ reasons. AllZip (Explains environment.now inputs.now)
+        (map asked_parts asked.items) (map reason_parts reasons.items)) }
+    ensures faults { IfErr result (λ fault. fault ≡ no_memory) }
+{
+    let asked = claims_on(alloc, inputs, environment, asked)?;
+    reasons_of(alloc, asked)
 }
 
 // Why the package with this name has this verdict, which is that on what all inputs demand.
@@ -105,17 +170,20 @@ fn reason_on(
     ensures reason { IfOk result (λ reason.
         IsReasonOf environment.now inputs.now (reason_parts reason)) }
     ensures name { IfOk result (λ reason. reason.name ≡ name) }
-    ensures same { IfOk result (λ reason. reason.verdict ≡ verdict) }
     ensures faults { IfErr result (λ fault. fault ≡ no_memory) }
 {
-    let claims = claims_on(alloc, inputs, environment, &name)?;
-    let clash = clash_of(alloc, claims.as_slice(), &name, verdict)?;
-    Ok(Reason {
+    let claims = Vec::new(alloc);
+    let mut asked = Vec::new(alloc);
+    asked.push(Asked {
         name,
         verdict,
         claims,
-        clash,
-    })
+    })?;
+    let mut reasons = explained(alloc, inputs, environment, asked)?;
+    let Some(reason) = reasons.pop() else {
+        unreachable!()
+    };
+    Ok(reason)
 }
 
 /// Why the package with this name has its verdict on what all inputs demand in the environment. A
@@ -141,19 +209,10 @@ pub fn why(
     }
 }
 
-// Why the package with this name and entry has its verdict, if that isn't open.
-fn closed_reason(
-    alloc: Global,
-    inputs: &[Input],
-    environment: &Environment,
-    name: &Name,
-    entry: &Entry,
-) -> Result<Option<Reason>, Fault>
-    requires accepted { All (IsAccepted environment.now) inputs.now }
-    requires verdict { (w : Verdict) → IsVerdict (EntryDemands entry.now) w
-        → IsVerdict (Gathered environment.now inputs.now name.now) w }
-    ensures found { IfOk result (λ found. FindsReason environment.now inputs.now name.now
-        (option_map reason_parts found)) }
+// The package with this name and entry, if its verdict isn't open.
+fn closed_package(alloc: Global, name: &Name, entry: &Entry) -> Result<Option<Asked>, Fault>
+    ensures found { IfOk result (λ found.
+        FindsClosed (EntryDemands entry.now) name.now (option_map asked_parts found)) }
     ensures faults { IfErr result (λ fault. fault ≡ no_memory) }
 {
     let Ok(verdict) = entry.verdict(alloc) else {
@@ -162,28 +221,46 @@ fn closed_reason(
     if verdict == Verdict::Possible {
         return Ok(None);
     }
-    let Ok(own) = name.copied(alloc) else {
+    let Ok(name) = name.copied(alloc) else {
         return Err(Fault::no_memory());
     };
-    let reason = reason_on(alloc, inputs, environment, own, verdict)?;
-    Ok(Some(reason))
+    let claims = Vec::new(alloc);
+    Ok(Some(Asked {
+        name,
+        verdict,
+        claims,
+    }))
 }
 
-// The reasons with the one that was found, if there is one.
-fn with_reason(reasons: Vec<Reason>, found: Option<Reason>) -> Result<Vec<Reason>, Fault>
-    ensures reasons { IfOk result (λ new. map reason_parts new.items
-        ≡ map reason_parts reasons.items ++ found_reasons (option_map reason_parts found)) }
+// The packages with the one that was found, if there is one.
+fn with_package(asked: Vec<Asked>, found: Option<Asked>) -> Result<Vec<Asked>, Fault>
+    ensures asked { IfOk result (λ new. map asked_parts new.items
+        ≡ map asked_parts asked.items ++ option_to_list (option_map asked_parts found)) }
     ensures faults { IfErr result (λ fault. fault ≡ no_memory) }
 {
-    let mut reasons = reasons;
-    if let Some(reason) = found {
-        reasons.push(reason)?;
+    let mut asked = asked;
+    if let Some(closed) = found {
+        asked.push(closed)?;
     }
-    Ok(reasons)
+    Ok(asked)
 }
 
-// The reasons of those entries of a table whose verdict isn't open.
-fn reasons_of(
+// The packages of a table whose verdict isn't open.
+fn closed_packages(alloc: Global, table: &Table) -> Result<Vec<Asked>, Fault>
+    ensures closed { IfOk result (λ asked. AreClosed table.now (map asked_parts asked.items)) }
+    ensures faults { IfErr result (λ fault. fault ≡ no_memory) }
+{
+    let entries = table.entries();
+    let mut asked = Vec::new(alloc);
+    for entry in entries {
+        let found = closed_package(alloc, &entry.0, &entry.1)?;
+        asked = with_package(asked, found)?;
+    }
+    Ok(asked)
+}
+
+// The reasons of those packages of the table of all inputs whose verdict isn't open.
+fn closed_reasons(
     alloc: Global,
     inputs: &[Input],
     environment: &Environment,
@@ -195,17 +272,12 @@ fn reasons_of(
         AreReasons environment.now inputs.now (map reason_parts reasons.items)) }
     ensures faults { IfErr result (λ fault. fault ≡ no_memory) }
 {
-    let entries = table.entries();
-    let mut reasons = Vec::new(alloc);
-    for entry in entries {
-        let found = closed_reason(alloc, inputs, environment, &entry.0, &entry.1)?;
-        reasons = with_reason(reasons, found)?;
-    }
-    Ok(reasons)
+    let asked = closed_packages(alloc, table)?;
+    explained(alloc, inputs, environment, asked)
 }
 
 /// The same of each package whose verdict isn't open, in the byte order of their names. The inputs
-/// are read once, and once more for each of these packages.
+/// are read twice, however many these packages are.
 pub fn clashes(
     alloc: Global,
     inputs: &[Input],
@@ -217,7 +289,7 @@ pub fn clashes(
 {
     let gathering = gather(alloc, inputs, environment)?;
     let table = finished(alloc, gathering)?;
-    match reasons_of(alloc, inputs, environment, &table) {
+    match closed_reasons(alloc, inputs, environment, &table) {
         Ok(reasons) => Ok(reasons),
         Err(fault) => Err(fault),
     }

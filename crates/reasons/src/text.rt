@@ -8,6 +8,7 @@ ghost use Rattle.reasons.specs.View.{claim_parts, claims_at, nowhere, placed_par
 use crate::claims::{Claim, PlacedClaim, Reason};
 use faults::Fault;
 use itoa::Buffer;
+use pep_table::entry_text;
 use std::alloc::{AllocError, Global};
 
 // Appends a number and a space.
@@ -126,6 +127,32 @@ fn written_reason(alloc: Global, reason: &Reason) -> Result<String, AllocError>
     let mut text = String::new(alloc);
     push_reason(alloc, &mut text, reason)?;
     Ok(text)
+}
+
+impl Claim {
+    ghost use Rattle.std.specs.Prelude.{◌≡◌, IfErr, IfOk, string_bytes};
+    ghost use Rattle.faults.specs.NoMemory.{no_memory};
+    ghost use Rattle.reasons.specs.Claims.{IsClaimText};
+    ghost use Rattle.reasons.specs.View.{claim_parts};
+
+    /// The normal text of the claim: of a requirement its line, without a line feed (see
+    /// [`Requirement::text`](pep_require::Requirement::text)); of a table's entry its lines, each with its line feed (see
+    /// [`entry_text`]). The only fault is want of memory, 60.
+    pub fn text(&self, alloc: Global) -> Result<String, Fault>
+        ensures text { IfOk result (λ text. IsClaimText (claim_parts self.now) (string_bytes text)) }
+        ensures faults { IfErr result (λ fault. fault ≡ no_memory) }
+    {
+        match self {
+            Claim::Required(requirement) => match requirement.text(alloc) {
+                Ok(text) => Ok(text),
+                Err(_) => Err(Fault::no_memory()),
+            },
+            Claim::Entered(name, entry) => match entry_text(alloc, name, entry) {
+                Ok(text) => Ok(text),
+                Err(_) => Err(Fault::no_memory()),
+            },
+        }
+    }
 }
 
 impl Reason {

@@ -2,4 +2,5 @@
 
 mod lines;
 mod shown;
+mod split;
 mod worked;

@@ -3,7 +3,7 @@
 use faults::Fault;
 use inputs::{Input, Kind};
 use pep_marker::{Environment, Name};
-use reasons::{Claim, PlacedClaim, Reason, clashes, why};
+use reasons::{PlacedClaim, Reason, clashes, why};
 use std::alloc::{AllocError, Global};
 use tests_kit::MACHINE;
 
@@ -29,20 +29,9 @@ fn inputs_of(alloc: Global, parts: &[Part]) -> Result<Vec<Input>, AllocError> {
     Ok(inputs)
 }
 
-// The normal text of a requirement, or the name of an entry.
-fn claim_text(alloc: Global, claim: &Claim) -> Result<String, Fault> {
-    match claim {
-        Claim::Required(requirement) => match requirement.text(alloc) {
-            Ok(text) => Ok(text),
-            Err(_) => Err(Fault::no_memory()),
-        },
-        Claim::Entered(name, _) => Ok(format!(in alloc; "entry {}", name.text())?),
-    }
-}
-
-// Its place and its text.
+// The place of a claim and its text.
 fn placed_text(alloc: Global, placed: &PlacedClaim) -> Result<String, Fault> {
-    let text = claim_text(alloc, &placed.claim)?;
+    let text = placed.claim.text(alloc)?;
     let input = placed.input;
     let number = placed.number;
     Ok(format!(in alloc; " | {input}:{number} {text}")?)

@@ -78,19 +78,20 @@ const ROWS: [(&str, &[Part], &str, &str); 20] = [
         "an entry against a list",
         &[TABLE, (Kind::List, "flask<1\n")],
         "flask",
-        "none | 1:17 entry flask * | 2:1 flask<1 *",
+        "none | 1:17 flask open\n  range before 2 to end\n * | 2:1 flask<1 *",
     ),
     (
         "an entry with two URLs",
         &[(Kind::List, "flask\n"), LINES],
         "flask",
-        "conflict | 1:1 flask | 2:3 entry flask *",
+        "conflict | 1:1 flask | 2:3 flask conflict\n  url https://a.example/\n  \
+         url https://b.example/\n  range before 0.dev0 to end\n *",
     ),
     (
         "an entry named as a line of a header begins",
         &[LINES],
         "env",
-        "open | 1:1 entry env",
+        "open | 1:1 env open\n  range before 1 to end\n",
     ),
     (
         "a marker that doesn't hold",
@@ -163,7 +164,7 @@ fn worked(rt: HostRuntime) -> Result<(), Fail> {
 }
 
 // The inputs, and the lines of the packages that aren't open.
-const ALL: [(&str, &[Part], &str); 3] = [
+const ALL: [(&str, &[Part], &str); 4] = [
     ("all open", &[(Kind::List, "flask>=2\ndjango\n"), TABLE], ""),
     (
         "two of four",
@@ -172,6 +173,27 @@ const ALL: [(&str, &[Part], &str); 3] = [
             (Kind::List, "zope>1\ndjango\n"),
         ],
         "flask none | 1:1 flask>=2 * | 1:4 flask<1 *\nzope none | 1:2 zope<1 * | 2:1 zope>1 *\n",
+    ),
+    (
+        "four of six, over a list, a project file and tables",
+        &[
+            (
+                Kind::List,
+                "# comment\nflask<1\nzope>=2 ; os_name == 'nt'\nattrs<1\r\nzope>=2\n\ndjango\nenv<1\nb\n",
+            ),
+            (
+                Kind::Project,
+                "project.dependencies = ['zope<1', 'attrs', 'flask<3', 'zope!=3']",
+            ),
+            TABLE,
+            LINES,
+        ],
+        "attrs none | 1:4 attrs<1 * | 2:2 attrs | 3:14 attrs open\n  extra flask\n  range before 1 to end\n *\n\
+         env none | 1:8 env<1 * | 4:1 env open\n  range before 1 to end\n *\n\
+         flask conflict | 1:2 flask<1 | 2:3 flask<3 | 3:17 flask open\n  range before 2 to end\n \
+         | 4:3 flask conflict\n  url https://a.example/\n  url https://b.example/\n  \
+         range before 0.dev0 to end\n *\n\
+         zope none | 1:5 zope>=2 * | 2:1 zope<1 * | 2:4 zope!=3\n",
     ),
     (
         "a table and a faulty line",

@@ -6,5 +6,4 @@ use Rattle.reasons.proofs.clash.clash_of.Goals as goal
 pub returns-in-Ok-clause-clash : goal.returns-in-Ok-clause-clash
 returns-in-Ok-clause-clash c =
     clash_found c.args.name.now c.args.verdict (map placed_parts c.args.claims.now)
-    c.in-Ok.found.items c.reverse.new.self.items c.requires.order (search rules)
-    c.reverse.ensures.items c.in-Ok.ensures
+    c.in-Ok.found.items c.requires.order (search rules) c.in-Ok.ensures

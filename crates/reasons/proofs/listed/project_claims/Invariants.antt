@@ -2,11 +2,11 @@ use Rattle.std.proofs.Common.{◌≡◌, ◌+◌, ◌<◌, ◌^◌, ◌++◌, le
 use Rattle.std.specs.Vec.Iter.{into_iter_items, into_iter_len}
 use Rattle.documents.specs.RefusedProject.{IsNumbered}
 use Rattle.pep_require.specs.View.{requirement_parts}
+use Rattle.reasons.specs.Asked.{AllGain}
 use Rattle.reasons.specs.ClaimSearch.{AreClaimsBy, UpTo}
-use Rattle.reasons.specs.View.{placed_parts}
 use Rattle.reasons.proofs.listed.project_claims.Given as goal
 
--- the claims of the requirements before those that are left are found
+-- the claims of the requirements before those that are left were added
 abbrev pub invariant-loop-requirement : goal.invariant-loop-requirement
 invariant-loop-requirement l = record {
   whole : l.yielded ++ into_iter_items l.requirement-iterator
@@ -14,7 +14,7 @@ invariant-loop-requirement l = record {
   left : into_iter_len l.requirement-iterator ≡ length (into_iter_items l.requirement-iterator);
   number : l.number ≡ length l.yielded;
   room : l.number + into_iter_len l.requirement-iterator < 2 ^ 63;
-  claims : AreClaimsBy (UpTo l.environment (IsNumbered (map requirement_parts
-      (into_iter_items l.initial.requirement-iterator))) l.number) l.input l.name
-      (map placed_parts l.claims.items);
+  claims : AllGain (AreClaimsBy (UpTo l.environment (IsNumbered (map requirement_parts
+      (into_iter_items l.initial.requirement-iterator))) l.number) l.input)
+      l.fn.asked.items l.asked.items;
 }

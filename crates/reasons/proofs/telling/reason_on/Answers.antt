@@ -1,31 +1,53 @@
-use Rattle.std.proofs.Common.{List, map, subst, sym}
+use Rattle.std.proofs.Common.{◌≡◌, [], ap, arith, false, map, true}
 use Rattle.demands.specs.Verdict.{IsVerdict}
-use Rattle.reasons.specs.Claims.{Claimed}
-use Rattle.reasons.specs.Clash.{IsPartThatClashes}
-use Rattle.reasons.specs.View.{claims_at, placed_parts}
-use Rattle.reasons.specs.declared.claims.PlacedClaim.{PlacedClaim}
-use Rattle.reasons.proofs.ClaimedDemands.{verdict_of_claims}
+use Rattle.inputs.specs.Gathered.{Gathered}
+use Rattle.reasons.specs.View.{placed_parts}
+use Rattle.reasons.proofs.FoundReasons.{of_one, one_ascends, one_explained, only_reason, some_reason}
 use Rattle.reasons.proofs.telling.reason_on.Goals as goal
 
-pub clash_of-requires-clause-verdict : goal.clash_of-requires-clause-verdict
-clash_of-requires-clause-verdict c =
-    let n = c.args.name in
-    let w = c.args.verdict in
-    let claims = map placed_parts c.in_ok-claims.claims.items in
-    let told = (verdict_of_claims c.args.environment.now c.args.inputs.now n claims w c.requires.accepted
-    c.in_ok-claims.ensures.claims).1 c.requires.verdict in
-    subst (λ (xs : List PlacedClaim). IsVerdict (Claimed (map placed_parts xs) n) w)
-    (sym c.as_slice.ensures.value) told
+pub explained-requires-clause-order : goal.explained-requires-clause-order
+explained-requires-clause-order c =
+    one_ascends c.new-asked.result.items c.push.new.self.items _ c.new-asked.ensures.items
+    c.in_ok-push.ensures.items
+
+pub explained-requires-clause-bare : goal.explained-requires-clause-bare
+explained-requires-clause-bare c =
+    of_one c.new-asked.result.items c.push.new.self.items _ c.new-asked.ensures.items
+    c.in_ok-push.ensures.items (λ q. q.claims ≡ []) (ap (map placed_parts) c.new-claims.ensures.items)
+
+pub explained-requires-clause-verdicts : goal.explained-requires-clause-verdicts
+explained-requires-clause-verdicts c =
+    of_one c.new-asked.result.items c.push.new.self.items _ c.new-asked.ensures.items
+    c.in_ok-push.ensures.items
+    (λ q. IsVerdict (Gathered c.args.environment.now c.args.inputs.now q.name) q.verdict)
+    c.requires.verdict
+
+pub unreachable-requires : goal.unreachable-requires
+unreachable-requires c =
+    let e = c.args.environment.now in
+    let inputs = c.args.inputs.now in
+    let reasons = c.in_ok-reasons.reasons in
+    let some = some_reason e inputs _ reasons.items (one_explained c.new-asked.result.items
+    c.push.new.self.items _ c.new-asked.ensures.items c.in_ok-push.ensures.items e inputs
+    reasons.items c.in_ok-reasons.ensures.reasons) in
+    let count = reasons.ok.0 in
+    let never : false ≡ true = c.in_default.ensures.variant.1 (omega (arith, some, count)) in cc never
 
 pub returns-clause-reason : goal.returns-clause-reason
 returns-clause-reason c =
-    let n = c.args.name in
-    let w = c.args.verdict in
-    record {
-      accepted = c.requires.accepted;
-      verdict_is = c.requires.verdict;
-      claims = c.in_ok-claims.ensures.claims;
-      part = subst (λ (xs : List PlacedClaim). IsPartThatClashes n w (map placed_parts xs)
-          (claims_at (map placed_parts xs) c.in_ok-clash.clash.items)) c.as_slice.ensures.value
-          c.in_ok-clash.ensures.clash;
-    }
+    let e = c.args.environment.now in
+    let inputs = c.args.inputs.now in
+    let reasons = c.in_ok-reasons.reasons.items in
+    (only_reason e inputs _ reasons (one_explained c.new-asked.result.items c.push.new.self.items _
+    c.new-asked.ensures.items c.in_ok-push.ensures.items e inputs reasons
+    c.in_ok-reasons.ensures.reasons) c.pop.new.self.items c.in-Some.reason c.in-Some.ensures.items).reason
+
+pub returns-clause-name : goal.returns-clause-name
+returns-clause-name c =
+    let e = c.args.environment.now in
+    let inputs = c.args.inputs.now in
+    let reasons = c.in_ok-reasons.reasons.items in
+    (only_reason e inputs _ reasons (one_explained c.new-asked.result.items c.push.new.self.items _
+    c.new-asked.ensures.items c.in_ok-push.ensures.items e inputs reasons
+    c.in_ok-reasons.ensures.reasons) c.pop.new.self.items c.in-Some.reason
+    c.in-Some.ensures.items).name_is

@@ -1,32 +1,33 @@
-use Rattle.std.proofs.Common.{◌≡◌, ◌-◌, ◌∙◌, [], List, ℕ, arith, length, map, subst, suc, sym}
-use Rattle.std.proofs.lemmas.List.{length-map}
-use Rattle.reasons.specs.ClashSearch.{Clashing, FoundSoFar, IsLeast, under_trial}
-use Rattle.reasons.specs.View.{placed_parts}
-use Rattle.reasons.proofs.ClashSteps.{all_enough, found_again}
+use Rattle.std.proofs.Common.{◌∙◌, [], List, ℕ, map, subst, sym}
+use Rattle.reasons.specs.ClashSearch.{ArePicked, AreWithin, Clashing, StandsFor}
+use Rattle.reasons.specs.View.{claims_at, placed_parts}
+use Rattle.reasons.proofs.ClashSteps.{found_among, none_among}
+use Rattle.reasons.proofs.TakenClaims.{nothing_stands}
 use Rattle.reasons.proofs.clash.Trial.found.Goals as goal
+use Rattle.reasons.proofs.clash.Trial.found.Goals.{In_ok-nothing}
 
-pub least_end-requires-clause-enough : goal.least_end-requires-clause-enough
-least_end-requires-clause-enough c =
-    let claims = c.args.self.now.claims.now in
-    let name = c.args.self.now.name.now in
-    let w = c.args.self.now.verdict in
-    let ps = map placed_parts claims in
-    subst (λ (ks : List ℕ). Clashing name w (under_trial ps (length claims) ks))
-    (sym (c.as_slice.ensures.value ∙ c.new-found.ensures.items))
-    (subst (λ k. Clashing name w (under_trial ps k [])) (length-map claims placed_parts)
-    (all_enough name w ps c.requires.verdict))
+nothing_yet : (c : In_ok-nothing) → StandsFor c.args.self.now.name.now [] c.in_ok-nothing.nothing
+nothing_yet c =
+    subst (StandsFor c.args.self.now.name.now []) (sym (c.in_ok-nothing.ensures.same ∙ c.bare.ensures))
+    (nothing_stands c.args.self.now.name.now)
 
-pub loop-end-preserved : goal.loop-end-preserved
-loop-end-preserved c =
+pub enough-requires-clause-nothing : goal.enough-requires-clause-nothing
+enough-requires-clause-nothing c = nothing_yet (goal.at.enough-requires-clause-nothing c).In_ok-nothing
+
+pub needed-requires-clause-within : goal.needed-requires-clause-within
+needed-requires-clause-within c =
+    subst (AreWithin (map placed_parts c.args.self.now.claims.now)) (sym c.as_slice.ensures.value)
+    c.in_ok-picked.ensures.within
+
+pub returns : goal.returns
+returns c =
     let name = c.args.self.now.name.now in
     let w = c.args.self.now.verdict in
     let ps = map placed_parts c.args.self.now.claims.now in
-    let end = c.loop-end.end in
-    let found = c.loop-end.found.items in
-    let one : end ≡ suc (end - 1) = omega arith in
-    subst (λ (ks : List ℕ). FoundSoFar name w ps c.in_ok-end-2.end ks)
-    (sym c.in_ok-push.ensures.items)
-    (found_again name w ps end (end - 1) c.in_ok-end-2.end found one c.loop-end.invariant
-    c.in_ok-end-2.ensures.within
-    (subst (λ (ks : List ℕ). IsLeast name w ps c.in_ok-end-2.end ks)
-    (c.as_slice-in-loop-end.ensures.value ∙ c.in_ok-push.ensures.items) c.in_ok-end-2.ensures.least))
+    let picked = c.in_ok-picked.picked.items in
+    let found = c.in_ok-found.found.items in
+    found_among name w ps picked found c.in_ok-picked.ensures
+    (subst (ArePicked found) c.as_slice.ensures.value c.in_ok-found.ensures.picked)
+    (λ clash. c.in_ok-found.ensures.least [] (none_among ps)
+    (nothing_yet (goal.at.returns c).In_ok-nothing)
+    (subst (λ (ks : List ℕ). Clashing name w (claims_at ps ks)) (sym c.as_slice.ensures.value) clash))

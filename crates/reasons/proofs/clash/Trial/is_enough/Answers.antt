@@ -1,14 +1,14 @@
 use Rattle.std.proofs.Common.{map, rules}
-use Rattle.demands.proofs.Verdicts.{verdict_of_demands}
 use Rattle.reasons.specs.Claims.{Claimed}
 use Rattle.reasons.specs.View.{placed_parts}
 use Rattle.reasons.proofs.ClashSteps.{told_by}
+use Rattle.reasons.proofs.WeighedDemands.{weighed_verdict}
 use Rattle.reasons.proofs.clash.Trial.is_enough.Goals as goal
 
 pub returns : goal.returns
 returns c = λ qs among h.
     told_by c.args.self.now.name.now c.args.self.now.verdict c.in_ok-verdict.verdict
     (map placed_parts c.args.self.now.claims.now) qs c.eq.result among c.requires.verdict
-    (verdict_of_demands (Claimed qs c.args.self.now.name.now) c.args.entry.now c.in_ok-verdict.verdict
+    (weighed_verdict (Claimed qs c.args.self.now.name.now) c.args.entry.now c.in_ok-verdict.verdict
     c.versions.ensures.valid h c.in_ok-verdict.ensures.entry)
     (λ same. search rules) (λ same. search rules)
