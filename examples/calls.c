@@ -22,7 +22,7 @@ static const char ENVIRONMENT[] =
 /* The bytes of a text, and how many they are, as two arguments of a call. */
 #define BYTES(text) (const uint8_t *)(text), strlen(text)
 
-/* The rooms below have room for what goes out. A caller that doesn't know that compares the size first, as merge does here. */
+/* Each room below is large enough for what goes out. A caller that doesn't know that compares the size first, as merge and too_little_room do. */
 static void show(const char *call, tubrambutan_reply reply, const uint8_t *room)
 {
     if (reply.status == TUBRAMBUTAN_MISCUT) {
@@ -47,6 +47,19 @@ static void show_bytes(const char *call, tubrambutan_reply reply, const uint8_t 
     printf("%s:", call);
     for (size_t at = 0; at < reply.size; at++) {
         printf(" %02x", room[at]);
+    }
+    printf("\n");
+}
+
+static void show_numbers(const char *call, tubrambutan_reply reply, const uint64_t *numbers, const uint8_t *room)
+{
+    if (reply.status != 0) {
+        show(call, reply, room);
+        return;
+    }
+    printf("%s:", call);
+    for (size_t at = 0; at < reply.size; at++) {
+        printf(" %llu", (unsigned long long)numbers[at]);
     }
     printf("\n");
 }
@@ -145,7 +158,6 @@ static void parts_and_keys(void)
 {
     uint8_t room[256] = {0};
     uint64_t numbers[16] = {0};
-    tubrambutan_reply reply;
 
     show("requirement parts", tubrambutan_requirement_parts(BYTES("Flask[B,a] >=2.0, <3 ; os_name=='nt'"), room, sizeof room), room);
     show("requirement parts", tubrambutan_requirement_parts(BYTES("a @ https://x.test/1"), room, sizeof room), room);
@@ -159,20 +171,26 @@ static void parts_and_keys(void)
     show_bytes("key", tubrambutan_key(BYTES("1.0a2"), room, sizeof room), room);
     show("key", tubrambutan_key(BYTES("x"), room, sizeof room), room);
     show_bytes("keys", tubrambutan_keys(TEXTS("1+x\0" "y"), room, sizeof room), room);
-    reply = tubrambutan_version_numbers(BYTES("1!2.0rc3.post4.dev5+x"), numbers, 16, room, sizeof room);
-    if (reply.status != 0) {
-        show("version numbers", reply, room);
-        reply.size = 0;
-    } else {
-        printf("version numbers:");
-    }
-    for (size_t at = 0; at < reply.size; at++) {
-        printf(" %llu", (unsigned long long)numbers[at]);
-    }
-    if (reply.status == 0) {
-        printf("\n");
-    }
+    show_numbers("version numbers", tubrambutan_version_numbers(BYTES("1!2.0rc3.post4.dev5+x"), numbers, 16, room, sizeof room), numbers, room);
     show("version numbers", tubrambutan_version_numbers(BYTES("1.x"), numbers, 16, room, sizeof room), room);
+}
+
+/* Ranges of clauses, markers, and the shards of a list. */
+static void ranges_markers_and_shards(void)
+{
+    uint8_t room[128] = {0};
+    uint64_t numbers[4] = {0};
+
+    show("ranges", tubrambutan_ranges(BYTES(">=1,!=1.5.*,<2"), room, sizeof room), room);
+    show("ranges", tubrambutan_ranges(BYTES("<1,>2"), room, sizeof room), room);
+    show("ranges", tubrambutan_ranges(BYTES("2"), room, sizeof room), room);
+    show("judge", tubrambutan_judge(BYTES(ENVIRONMENT), BYTES("python_version < '3.10'"), room, sizeof room), room);
+    show("judge", tubrambutan_judge(BYTES(ENVIRONMENT), BYTES("os_name == 'nt'"), room, sizeof room), room);
+    show("judge", tubrambutan_judge(BYTES(ENVIRONMENT), BYTES("os_name"), room, sizeof room), room);
+    show("judge", tubrambutan_judge(BYTES(ENVIRONMENT), BYTES("os_name ~= 'a'"), room, sizeof room), room);
+    show("judge", tubrambutan_judge(BYTES("x"), BYTES("os_name == 'nt'"), room, sizeof room), room);
+    show_numbers("split", tubrambutan_split(BYTES("Flask>=2\n# why\nflask ; os_name=='nt'\nb"), 4, numbers, 4, room, sizeof room), numbers, room);
+    show("split", tubrambutan_split(BYTES("flask\n>=1"), 2, numbers, 4, room, sizeof room), room);
 }
 
 /* As docs/CALLS.md has it. */
@@ -200,6 +218,7 @@ int main(void)
     reasons();
     versions_and_clauses();
     parts_and_keys();
+    ranges_markers_and_shards();
     read_me();
     too_little_room();
     return EXIT_SUCCESS;

@@ -93,7 +93,7 @@ tubrambutan_reply tubrambutan_why(const uint8_t *environment, size_t environment
                                   size_t part_count, const uint8_t *bytes, size_t byte_count, const uint8_t *name, size_t name_size,
                                   uint8_t *room, size_t room_size);
 
-/* The same lines for each package whose verdict isn't open, in the byte order of the names. The inputs are read again for each. */
+/* The same lines for each package whose verdict isn't open, in the byte order of the names. */
 tubrambutan_reply tubrambutan_clashes(const uint8_t *environment, size_t environment_size, const tubrambutan_part *parts,
                                       size_t part_count, const uint8_t *bytes, size_t byte_count, uint8_t *room, size_t room_size);
 
@@ -142,6 +142,22 @@ tubrambutan_reply tubrambutan_clauses(const uint8_t *clauses, size_t clauses_siz
  * it; 1 where all do and it is no pre-release; 3 where all do and it is one; 2 where the text is no version. */
 tubrambutan_reply tubrambutan_admits_each(const uint8_t *clauses, size_t clauses_size, const uint8_t *versions,
                                           size_t versions_size, uint8_t *room, size_t room_size);
+
+/* The versions that such clauses other than those with "===" admit, as sorted ranges between cuts, each on a line of its own, as "before 1 to
+ * before 2.dev0" (docs/INPUTS.md, "What is printed"). There is no line exactly if these clauses admit no version. A refusal is as of
+ * tubrambutan_clauses. */
+tubrambutan_reply tubrambutan_ranges(const uint8_t *clauses, size_t clauses_size, uint8_t *room, size_t room_size);
+
+/* Whether a marker holds in the environment of a file with these bytes (PEP 508, "Environment Markers"): 1 for yes, 0 for no. A refusal of
+ * the marker names it as line 1 of input 1. */
+tubrambutan_reply tubrambutan_judge(const uint8_t *environment, size_t environment_size, const uint8_t *marker, size_t marker_size,
+                                    uint8_t *room, size_t room_size);
+
+/* The shard of each line of a list, among so many shards: a number from 0, the same for all lines with one name, on each machine, whether or
+ * not their markers hold. An empty line or a comment has the count itself. A count of 0 stands for 1. What stands behind a name isn't read. The size of the reply counts the numbers,
+ * one more than there are line feeds, and they go out if there is room for as many. The line of a refusal goes into the other room. */
+tubrambutan_reply tubrambutan_split(const uint8_t *bytes, size_t byte_count, uint64_t count, uint64_t *numbers, size_t number_count,
+                                    uint8_t *room, size_t room_size);
 
 #ifdef __cplusplus
 }

@@ -2,6 +2,7 @@
 use Rattle.std.proofs.Common.{◌≡◌, ℕ, suc, ◌++◌, List, [], ◌∷◌, Option, Some, None, append_assoc, append-nil, length, refl, subst, sym, ◌∙◌}
 use Rattle.std.specs.Borrow.{Bor}
 use Rattle.std.specs.List.{AllZip}
+use Rattle.shards.proofs.SplitLines.{zip-push}
 
 -- how much is left of a text that is taken part by part
 abbrev pub left_len : Option (Bor (List ℕ)) → ℕ
@@ -14,13 +15,6 @@ pub record Answered (R : List ℕ → ℕ → Type 0) (texts ahead : List (List 
     pub taken : List (List ℕ)
     pub whole : taken ++ ahead ≡ texts
     pub each : AllZip R taken answers
-
-zip-push : (R : List ℕ → ℕ → Type 0) (xs : List (List ℕ)) (ys : List ℕ) (x : List ℕ) (y : ℕ) →
-    AllZip R xs ys → R x y → AllZip R (xs ++ x ∷ []) (ys ++ y ∷ [])
-zip-push R [] [] x y z r = (r, tt)
-zip-push R [] (b ∷ ys) x y z r = absurd z
-zip-push R (a ∷ xs) [] x y z r = absurd z
-zip-push R (a ∷ xs) (b ∷ ys) x y z r = (z.0, zip-push R xs ys x y z.1 r)
 
 pub none_answered : (R : List ℕ → ℕ → Type 0) (texts : List (List ℕ)) (answers : List ℕ) →
     answers ≡ [] → Answered R texts texts answers

@@ -2,11 +2,14 @@ pub mod ClauseLists
 pub mod Fields
 pub mod FirstLine
 pub mod Inputs
+pub mod Judging
 pub mod Keys
 pub mod Names
 pub mod Parts
 pub mod Questions
+pub mod Ranges
 pub mod Requirements
 pub mod Room
+pub mod Split
 pub mod Versions
 pub mod Why

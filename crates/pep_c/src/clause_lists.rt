@@ -45,8 +45,8 @@ fn push_clause(alloc: Global, clauses: &mut Vec<Clause>, piece: &[u8]) -> Result
     Ok(())
 }
 
-// The clauses that the bytes write.
-fn clauses_of(alloc: Global, bytes: &[u8]) -> Result<Vec<Clause>, Fault>
+/// The clauses that the bytes write.
+pub(crate) fn clauses_of(alloc: Global, bytes: &[u8]) -> Result<Vec<Clause>, Fault>
     ensures clauses { IfOk result (λ clauses. AreClauses bytes.now clauses.items) }
     ensures refused { IfErr result
         (λ fault. (fault ≡ no_memory) ⊎ RefusesClauses bytes.now fault) }

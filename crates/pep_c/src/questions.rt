@@ -123,8 +123,8 @@ fn answers_each(
 /// What such inputs say of versions of packages: they are read once, and asked for each question
 /// between zero bytes, which is a name, a space, and a version. Each has one byte: 0 where a demand isn't
 /// met; 1 where all are and the version is no pre-release, 3 where all are and it is one; 4 where two
-/// different URLs are demanded; and 2 where the question has no name or no version. See
-/// [`Table::admits`](pep_table::Table::admits).
+/// different URLs are demanded; and 2 where the question has no name or no version. So no bytes are one
+/// question that has neither. See [`Table::admits`](pep_table::Table::admits).
 ///
 /// It is `MISCUT`, and refused, as [`tubrambutan_merge`](crate::tubrambutan_merge) is.
 #[unsafe(no_mangle)]

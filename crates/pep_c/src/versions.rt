@@ -99,8 +99,8 @@ pub(crate) fn read_clause(alloc: Global, bytes: &[u8]) -> Result<Clause, Fault>
     }
 }
 
-// A truth as a number.
-fn truth_number(truth: bool) -> i32
+/// A truth as a number.
+pub(crate) fn truth_number(truth: bool) -> i32
     ensures { result ≡ truth_number truth }
 {
     if truth { 1 } else { 0 }

@@ -1,0 +1,30 @@
+-- Why edits are refused: at one input, what the turned body gives is not what the clause says.
+use Rattle.std.proofs.Common.{◌≡◌, ◌∙◌, [], ◌∷◌, None, ap, codes, inl, inr, lit<}
+use Rattle.texts.specs.Bytes.{is_letter_or_digit}
+use Rattle.pep_version.specs.Text.{public_version}
+use Rattle.pep_version.specs.Version.{IsVersion, Version}
+use Rattle.specifiers.specs.Clause.{less_than}
+use Rattle.pep_clause.specs.VersionSet.{all_versions}
+use Rattle.shards.specs.Shards.{AreShards, shard_of}
+use Rattle.pep_c.specs.Ranges.{IsSetOfClauses}
+
+abbrev zero : Version
+zero = public_version (0 ∷ []) None None None
+
+fits : IsVersion zero
+fits = record {
+  release = lit< tt;
+  label = tt;
+  numbers = record { epoch = lit< tt; release = (lit< tt, tt); pre = tt; post = tt; dev = tt; label = tt };
+}
+
+-- `<0`, and 0
+pub tubrambutan_ranges-all_versions : ¬ IsSetOfClauses (less_than zero ∷ []) all_versions
+tubrambutan_ranges-all_versions h = cc (h.versions zero fits)
+
+-- the line `b` alone, among four shards
+pub tubrambutan_split-one_shard : ¬ AreShards 4 (codes "b") (0 ∷ [])
+unfolding is_letter_or_digit
+tubrambutan_split-one_shard (inl (e, n), t) = cc e
+tubrambutan_split-one_shard (inr (e, (name, rest, start, is)), t) =
+    let same : codes "b" ≡ name = cc start.named in cc (ap (shard_of 4) same ∙ is)
