@@ -24,6 +24,8 @@ Name: tubrambutan
 Version: {version}
 Summary: Reads Python requirements and merges them into one table, by a library that is proved to do so (this package is tested).
 Requires-Python: >=3.9
+Provides-Extra: dask
+Requires-Dist: distributed ; extra == 'dask'
 """
 # All times are the same, so that the bytes are.
 EPOCH = 315532800

@@ -1,9 +1,10 @@
-"""The examples of the package's docstrings, of README.md and of docs/PYTHON.md."""
+"""The examples of the package's docstrings and of pages. Those of docs/MIRRORS.md are run where dask is."""
 
 from __future__ import annotations
 
 import doctest
 import importlib
+import importlib.util
 import os
 import pkgutil
 import re
@@ -25,9 +26,11 @@ def of_page(page: str) -> unittest.TestCase:
 
 
 def load_tests(loader: unittest.TestLoader, tests: unittest.TestSuite, pattern: Optional[str]) -> unittest.TestSuite:
-    names = [it.name for it in pkgutil.iter_modules(tubrambutan.__path__) if it.name != "libtubrambutan"]
+    has_engine = all(importlib.util.find_spec(it) for it in ("dask", "distributed"))
+    left_out = {"libtubrambutan", *(() if has_engine else ("dask",))}
+    names = [it.name for it in pkgutil.iter_modules(tubrambutan.__path__) if it.name not in left_out]
     for module in [tubrambutan, *(importlib.import_module(f"tubrambutan.{name}") for name in names)]:
         # (a module without an example has no test)
         tests.addTests(doctest.DocTestSuite(module))
-    tests.addTests(map(of_page, ("README.md", "docs/PYTHON.md")))
+    tests.addTests(map(of_page, ("README.md", "docs/PYTHON.md", *(("docs/MIRRORS.md",) if has_engine else ()))))
     return tests

@@ -2,11 +2,12 @@
 
 import contextlib
 import io
+import itertools
 import json
 import pathlib
 import tempfile
 import unittest
-from typing import Iterator, Union
+from typing import Iterator, Optional, Union
 from unittest import mock
 
 import tubrambutan
@@ -112,9 +113,14 @@ class Audits(unittest.TestCase):
         self.assertFalse(audit([]))
 
 
-def run(*words: str, given: bytes = b"") -> "tuple[int, str, str]":
+class Terminal(io.StringIO):
+    def isatty(self) -> bool:
+        return True
+
+
+def run(*words: str, given: bytes = b"", told: "Optional[io.StringIO]" = None) -> "tuple[int, str, str]":
     """Returns the status of the command, and what it prints."""
-    out, told = io.StringIO(), io.StringIO()
+    out, told = io.StringIO(), told or io.StringIO()
     with contextlib.redirect_stdout(out), contextlib.redirect_stderr(told), mock.patch("sys.stdin", io.TextIOWrapper(io.BytesIO(given))):
         try:
             status = main(words)
@@ -145,11 +151,30 @@ class Commands(unittest.TestCase):
                 with self.subTest(words):
                     self.assertEqual((run(*words)[0], run(*words)[1][-len(end) :], run(*words)[2]), (status, end, ""))
             self.assertEqual(json.loads(run("merge", "--json", listed)[1])["flask"]["ranges"], ["before 2 to end"])
+            self.assertEqual([(it["path"], it["line"], it["text"]) for it in json.loads(run("lines", "--json", listed)[1])][:1], [(listed, 1, "flask>=2")])
+            self.assertEqual(run("lines", "-", given=b"# c\n\n \tA ; os_name=='x' \t\r\n")[:2], (0, 'input 1, line 3: a ; os_name == "x"\n'))
             self.assertEqual(run("check", "a", "1", "-", given=b"a>1")[:2], (1, "no\n"))
             merge(listed).save(folder / "old.table")
             merge(file).save(folder / "new.table")
             self.assertEqual(run("diff", str(folder / "old.table"), str(folder / "new.table"))[:2], (1, "removed django\nwidened flask\n"))
             self.assertEqual(run("diff", str(folder / "old.table"), str(folder / "old.table"))[:2], (0, ""))
+            self.assertEqual(run("lines", str(folder / "old.table"))[2], f"tubrambutan: {folder / 'old.table'}: a table file has no requirements for `lines` (code 64)\n")
+            (folder / "faulty.txt").write_text("a\n\nb>", encoding="utf-8")
+            self.assertEqual(run("lines", listed, str(folder / "faulty.txt"))[2].partition(":")[2].partition(":")[0], f" {folder / 'faulty.txt'}, line 3")
+
+    def test_a_bar(self) -> None:
+        project = '[project]\nname = "demo"\ndependencies = ["flask>=1"]\noptional-dependencies = {a = ["x"], b = ["y"]}\n'
+        files = {"one.txt": "flask>=2\ndjango<1\n", "two.txt": "flask<3\nattrs ; extra == 'a'\n", "pyproject.toml": project}
+        ticks = itertools.count(0.0, 5.0)
+        with folder_of(files) as folder, mock.patch("tubrambutan._steps._FEW", 10), mock.patch("tubrambutan._steps._SHARD", 10), mock.patch("time.monotonic", ticks.__next__):
+            paths = [str(folder / name) for name in files]
+            for words in (("merge", *paths), ("merge", "--extra", "a", *paths), ("merge", "--extra", "a", "--extra", "b", *paths)):
+                status, printed, told = run(*words, told=Terminal())
+                self.assertEqual((status, printed), run(*words)[:2])
+                self.assertRegex(told, r"\A\r\[#+ +\] \d+%, \d+ s left(\r[^\n]+)+\r +\r\Z")
+            (folder / "two.txt").write_text("flask\n\nb>", encoding="utf-8")
+            status, _, told = run("merge", *paths, told=Terminal())
+            self.assertEqual((status, told.rpartition("\r")[2].partition(": w")[0]), (2, f"tubrambutan: {paths[1]}, line 3"))
 
     def test_refusals(self) -> None:
         self.assertEqual(run("merge", "-", given=b"a\nb>"), (2, "", "tubrambutan: input 1, line 2: what follows the operator is no version, or behind `===` no text (code 57 33 12)\n"))

@@ -171,6 +171,8 @@ class Types(unittest.TestCase):
         # (programs set a marker, and take the text then)
         it.marker, it.extras = Marker("extra == 'x'"), {"z", "y"}
         self.assertEqual((str(it), pickle.loads(pickle.dumps(it))), ('a[y,z] @ HTTPS://x.test/1 ; extra == "x"', it))
+        it.specifier.prereleases = True
+        self.assertIs(pickle.loads(pickle.dumps(it)).specifier.prereleases, True)
         for wrong in ("", "a>", "a[", "a;b", "-e ."):
             with self.subTest(wrong), self.assertRaises(InvalidRequirement):
                 Requirement(wrong)

@@ -23,6 +23,7 @@ from ._merge import merge
 from ._names import canonicalize_name
 from ._refused import InvalidMarker, InvalidName, InvalidRequirement, InvalidSpecifier, InvalidVersion, Refused, UndefinedComparison
 from ._requirement import Marker, Requirement, admits, requirement_text
+from ._shards import split
 from ._specifiers import Specifier, SpecifierSet
 from ._table import Difference, Package, Table
 from ._version import Version
@@ -63,6 +64,7 @@ __all__ = [
     "requirement_text",
     "requirements_file",
     "requirements_of",
+    "split",
     "why",
 ]
 __version__ = "0.1.0"

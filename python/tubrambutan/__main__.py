@@ -8,6 +8,7 @@ from __future__ import annotations
 
 import argparse
 import json
+import os
 import pathlib
 import sys
 from typing import Any, Callable, Iterable, NamedTuple, Optional, Sequence
@@ -15,7 +16,12 @@ from typing import Any, Callable, Iterable, NamedTuple, Optional, Sequence
 from . import __version__
 from ._audit import Audit, Finding, audit
 from ._environment import default_environment, file_of
+from ._inputs import environment_file, given_inputs
+from ._listing import listed
 from ._merge import merge
+from ._parts import Judged
+from ._refused import Refused
+from ._steps import Bar, are_many, merged_in_steps
 from ._table import Table
 from ._why import why
 
@@ -48,8 +54,22 @@ def _merged(given: argparse.Namespace) -> Table:
     return merge(*_paths(given), lists=_standard_input(given), environment=_environment(given), group=given.group, extras=given.extra)
 
 
+def _merged_before_a_person(given: argparse.Namespace) -> Table:
+    """Returns the same table. Where a person looks at standard error and more than a second of work may remain, a bar there tells how much is done."""
+    if not sys.stderr.isatty() or "-" in given.files or not are_many(given.files):
+        return _merged(given)
+    bar = Bar(sys.stderr)
+    try:
+        return merged_in_steps(given.files, Judged.of(_environment(given), given.group, given.extra), bar.tell)
+    except Refused:
+        # (which tells the place)
+        return _merged(given)
+    finally:
+        bar.end()
+
+
 def _merge(given: argparse.Namespace) -> _Answer:
-    table = _merged(given)
+    table = _merged_before_a_person(given)
     packages = {
         name: {"verdict": it.verdict, "extras": it.extras, "urls": it.urls, "texts": it.texts, "ranges": [str(versions) for versions in it.ranges]}
         for name, it in (table.items() if given.json else ())
@@ -69,9 +89,23 @@ def _why(given: argparse.Namespace) -> _Answer:
     return _Answer(f"{reason}\n", data, 0 if reason.verdict == "open" else 1)
 
 
+def _lines(given: argparse.Namespace) -> _Answer:
+    inputs = given_inputs(_paths(given), _standard_input(given), (), ())
+    found = list(listed(inputs, environment_file(_environment(given)), given.group))
+    return _Answer("".join(f"{it}\n" for it in found), [it._asdict() for it in found])
+
+
+def _table_in(path: str, environment: Optional[pathlib.Path]) -> Table:
+    """Returns the printed table in a file."""
+    try:
+        return merge(tables=[pathlib.Path(path).read_bytes()], environment=environment)
+    except Refused as refused:
+        raise Refused(refused.text, path) from None
+
+
 def _diff(given: argparse.Namespace) -> _Answer:
     # (of tables of other environments the lines alone can be compared)
-    old, new = (merge(tables=[pathlib.Path(it).read_bytes()], environment=_environment(given)) for it in (given.old, given.new))
+    old, new = (_table_in(it, _environment(given)) for it in (given.old, given.new))
     found = old.diff(new)._asdict()
     words = "".join(f"{kind} {name}\n" for kind, names in found.items() for name in names)
     return _Answer(words, found, 1 if words else 0)
@@ -124,6 +158,8 @@ def _parser() -> argparse.ArgumentParser:
     reason = command("why", _why, "Say who demands what of a package, and which of these demands clash.")
     reason.add_argument("name", metavar="NAME")
     with_files(reason, has_extras=False)
+    lines = command("lines", _lines, "Print the requirements of lists, and those of project files that apply, each with its place.")
+    with_files(lines, has_extras=False)
     diff = command("diff", _diff, "Say which packages two printed tables demand differently.")
     diff.add_argument("--env", metavar="FILE", help="the environment file of both tables, in place of the running interpreter's environment")
     diff.add_argument("old", metavar="OLD")
@@ -145,6 +181,11 @@ def main(words: Optional[Sequence[str]] = None) -> int:
     try:
         answer: _Answer = given.run(given)
         sys.stdout.writelines(_told(answer, given.json))
+        sys.stdout.flush()
+    except BrokenPipeError:
+        # (nobody reads on, and the interpreter would tell it once more at its end)
+        os.dup2(os.open(os.devnull, os.O_WRONLY), sys.stdout.fileno())
+        return 2
     except (ValueError, OSError) as fault:
         print(f"tubrambutan: {fault}", file=sys.stderr)
         return 2

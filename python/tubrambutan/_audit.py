@@ -2,10 +2,13 @@
 
 from __future__ import annotations
 
+import errno
 import importlib.metadata
-from typing import Iterable, Iterator, Mapping, NamedTuple, Optional
+import os
+from typing import Iterable, Iterator, Mapping, NamedTuple, Optional, Union
 
 from ._environment import default_environment
+from ._inputs import Path
 from ._lines import Line, Lines
 from ._merge import merge
 from ._names import canonicalize_name
@@ -73,10 +76,19 @@ class _Installed(NamedTuple):
         return f"{self.name} {self.version}"
 
 
-def _distributions(path: Optional[Iterable[str]]) -> Iterator[_Installed]:
+def _folders(path: Union[Path, Iterable[Path]]) -> list[str]:
+    """Returns the folders that are named, which are there."""
+    folders = [os.fspath(it) for it in ([path] if isinstance(path, (str, os.PathLike)) else path)]
+    for it in folders:
+        if not os.path.isdir(it):
+            raise NotADirectoryError(errno.ENOTDIR, os.strerror(errno.ENOTDIR), it)
+    return folders
+
+
+def _distributions(path: Union[None, Path, Iterable[Path]]) -> Iterator[_Installed]:
     """Returns the distributions that the interpreter finds, or those in folders; of two with one name the first, which is imported. One whose metadata has no
     name is passed over, as pip does."""
-    found = importlib.metadata.distributions() if path is None else importlib.metadata.distributions(path=list(path))
+    found = importlib.metadata.distributions() if path is None else importlib.metadata.distributions(path=_folders(path))
     seen = set()
     for it in found:
         about = it.metadata
@@ -135,8 +147,8 @@ def _of_python(installed: Iterable[_Installed], version: str) -> Iterator[Line]:
             yield Line(f"python {it.requires_python}", str(it), 1)
 
 
-def audit(path: Optional[Iterable[str]] = None) -> Audit:
-    """Returns what is wrong with the distributions that are installed for the running interpreter, or in folders.
+def audit(path: Union[None, Path, Iterable[Path]] = None) -> Audit:
+    """Returns what is wrong with the distributions that are installed for the running interpreter, or in a folder or several.
 
     Their requirements that apply in the interpreter's environment, without an extra, are merged. Pre-releases that are installed count as versions.
     Two distributions with one name count once, as the one that is imported.
@@ -144,6 +156,9 @@ def audit(path: Optional[Iterable[str]] = None) -> Audit:
     >>> import tubrambutan
     >>> tubrambutan.audit([])
     Audit(distributions=0, missing=(), refused=(), clashes=(), unread=())
+
+    Raises:
+        NotADirectoryError: a folder isn't there.
     """
     installed = {it.name: it for it in _distributions(path)}
     every = [line for it in installed.values() for line in it.requires]

@@ -37,14 +37,23 @@ def _of_path(path: object) -> tuple[int, bytes, str]:
     return _kind_of(name), _file(name), name
 
 
-def _of_text(text: object, argument: str) -> bytes:
-    """Returns the bytes of a text or of bytes, which this argument of `merge` has."""
+# How the file with a name is read where a text is wanted, by the argument.
+_READS = {"environment": "environment=pathlib.Path({!r})", "split": "pathlib.Path({!r}).read_text()"}
+# Where a list stands in an object that isn't one.
+_LISTS_IN = {"RequirementsFile": "requirements", "Metadata": "requires"}
+
+
+def text_bytes(text: object, argument: str) -> bytes:
+    """Returns the bytes of a text or of bytes, which this argument has."""
     if isinstance(text, bytes):
         return text
     if not isinstance(text, str):
-        raise TypeError(f"{argument} takes texts and bytes, and not {type(text).__name__}: files are positional arguments of merge")
+        kind = type(text).__name__
+        hint = f": hand in its `{_LISTS_IN[kind]}`" if kind in _LISTS_IN else "" if argument in _READS else ": files are positional arguments of merge"
+        raise TypeError(f"{argument} takes texts and bytes, and not {kind}{hint}")
     if "\n" not in text and os.path.isfile(text):
-        raise ValueError(f"{argument} takes texts, and {text!r} is the name of a file: write merge({text!r}) to read the file, or end the text with a line feed")
+        how = _READS.get(argument, "merge({!r})").format(text)
+        raise ValueError(f"{argument} takes texts, and {text!r} is the name of a file: write {how} to read the file, or end the text with a line feed")
     return encoded(text)
 
 
@@ -57,7 +66,7 @@ def _texts(texts: object, argument: str) -> Iterator[tuple[bytes, Union[None, st
         if isinstance(text, Lines) and argument == "lists":
             yield encoded(text.text), text
         else:
-            yield _of_text(text, argument), None
+            yield text_bytes(text, argument), None
 
 
 def environment_file(environment: object, extras: Sequence[str] = ()) -> bytes:
@@ -71,7 +80,7 @@ def environment_file(environment: object, extras: Sequence[str] = ()) -> bytes:
     if isinstance(environment, os.PathLike):
         return _file(environment)
     if isinstance(environment, (str, bytes)):
-        return _of_text(environment, "environment")
+        return text_bytes(environment, "environment")
     raise TypeError(f"environment takes a mapping, a text, bytes or an os.PathLike, and not {type(environment).__name__}")
 
 

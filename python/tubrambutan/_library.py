@@ -11,7 +11,7 @@ import ctypes
 import mmap
 import pathlib
 import struct
-from typing import Any, Callable, Sequence
+from typing import Any, Callable, Iterable, Sequence
 
 from ._refused import Refused
 from ._texts import between_zero_bytes
@@ -69,9 +69,12 @@ _name = _export("tubrambutan_name", *_BYTES)
 _admits = _export("tubrambutan_admits", *_BYTES, *_BYTES)
 _clauses = _export("tubrambutan_clauses", *_BYTES)
 _admits_each = _export("tubrambutan_admits_each", *_BYTES, *_BYTES)
+_ranges = _export("tubrambutan_ranges", *_BYTES)
+_judge = _export("tubrambutan_judge", *_BYTES, *_BYTES)
 _key = _export("tubrambutan_key", *_BYTES)
 _keys = _export("tubrambutan_keys", *_BYTES)
 _version_numbers = _export("tubrambutan_version_numbers", *_BYTES, ctypes.c_void_p, ctypes.c_size_t)
+_split = _export("tubrambutan_split", *_BYTES, ctypes.c_uint64, ctypes.c_void_p, ctypes.c_size_t)
 
 
 def _refused(reply: Any, room: Any) -> Exception:
@@ -191,6 +194,16 @@ def admits_each(clauses: bytes, versions: Sequence[str]) -> bytes:
     return _given(_admits_each, max(len(versions), _SIZE), clauses, len(clauses), joined, len(joined)) if versions else b""
 
 
+def range_texts(clauses: bytes) -> list[str]:
+    """Returns the ranges of the versions that all clauses between commas admit but those with `===`, as `before 1 to end`."""
+    return _text(_ranges, _SIZE, clauses, len(clauses)).split("\n")[:-1]
+
+
+def marker_holds(environment: bytes, marker: bytes) -> bool:
+    """Returns whether a marker holds in the environment of a file."""
+    return _answer(_judge, environment, len(environment), marker, len(marker)) == 1
+
+
 def version_key(version: bytes) -> bytes:
     """Returns the key of a version: the order of keys as bytes is that of versions."""
     room = _Room()
@@ -224,3 +237,15 @@ def version_numbers(version: bytes) -> tuple[int, ...]:
         if reply.size <= count:
             return tuple(numbers[: reply.size])
         count = reply.size
+
+
+def line_shards(lines: bytes, count: int) -> Iterable[int]:
+    """Returns the shard of each line of a list, which is that of the name on it: a number from 0 to below the count. It is the count itself for a line that is
+    blank or a comment."""
+    size = lines.count(b"\n") + 1
+    numbers, room = (ctypes.c_uint64 * size)(), _Room()
+    reply = _split(lines, len(lines), count, numbers, size, room, _SIZE)
+    if reply.status != _ANSWERED:
+        raise _refused(reply, room)
+    # (their memory is read as it stands, without a list of them)
+    return memoryview(numbers).cast("B").cast("Q")

@@ -11,7 +11,7 @@ from ._refused import Refused
 from ._table import Table, lines_of
 
 
-def _extras_of(extras: object) -> tuple[str, ...]:
+def extras_of(extras: object) -> tuple[str, ...]:
     """Returns the normalized names of extras, each once, in order; a text alone in their place would be taken letter by letter."""
     if isinstance(extras, (str, bytes)) or not isinstance(extras, Iterable):
         raise TypeError(f"extras takes a list of names, one alone too, and not {type(extras).__name__}")
@@ -81,7 +81,7 @@ def merge(
         TypeError: an argument has another type.
     """
     inputs = given_inputs(paths, lists, projects, tables)
-    asked, names = group_of(group), _extras_of(extras)
+    asked, names = group_of(group), extras_of(extras)
     file = environment_file(environment, names)
     if len(names) > 1:
         return Table(_merged_extras(file, inputs, asked, names), file, names)

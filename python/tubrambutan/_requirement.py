@@ -6,10 +6,8 @@ from typing import Mapping, Optional, Union
 
 from . import _library
 from ._environment import default_environment, file_of
-from ._library import LIST, Inputs
 from ._refused import InvalidMarker, InvalidRequirement, InvalidSpecifier, InvalidVersion, Refused, UndefinedComparison, of_text
 from ._specifiers import SpecifierSet
-from ._table import lines_of
 from ._texts import encoded, text_in
 from ._version import Version, text_of
 
@@ -33,7 +31,7 @@ class Marker:
 
     def __init__(self, marker: str) -> None:
         try:
-            parts = _library.requirement_parts(b"x;" + encoded(text_in(marker, "marker")))
+            parts = _library.requirement_parts(b"x;" + encoded(text_in(marker, "marker").strip()))
         except Refused as refused:
             raise of_text(InvalidMarker, refused, marker) from None
         self._text = parts[-1].partition(" ")[2]
@@ -54,7 +52,7 @@ class Marker:
         """
         file = file_of({**default_environment(), **(environment or {})})
         try:
-            return bool(lines_of(Inputs(file, [(LIST, f"x;{self}".encode())]).merged()))
+            return _library.marker_holds(file, encoded(self._text))
         except Refused as refused:
             if refused.codes == (57, 28):
                 raise of_text(UndefinedComparison, refused, str(self)) from None
@@ -110,7 +108,7 @@ class Requirement:
 
     def __init__(self, requirement: str) -> None:
         try:
-            parts = _library.requirement_parts(encoded(text_in(requirement, "requirement")))
+            parts = _library.requirement_parts(encoded(text_in(requirement, "requirement").strip()))
         except Refused as refused:
             raise of_text(InvalidRequirement, refused, requirement) from None
         found: dict[str, list[str]] = {"name": [], "extra": [], "clause": [], "url": [], "marker": []}
@@ -131,8 +129,11 @@ class Requirement:
     def __repr__(self) -> str:
         return f"<Requirement({str(self)!r})>"
 
-    def __reduce__(self) -> tuple[type[Requirement], tuple[str]]:
-        return type(self), (str(self),)
+    def __reduce__(self) -> tuple[type[Requirement], tuple[str], Optional[bool]]:
+        return type(self), (str(self),), self.specifier._prereleases
+
+    def __setstate__(self, prereleases: bool) -> None:
+        self.specifier.prereleases = prereleases
 
     def __eq__(self, other: object) -> bool:
         if not isinstance(other, Requirement):

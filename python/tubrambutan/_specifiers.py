@@ -5,28 +5,25 @@ from __future__ import annotations
 from typing import Iterable, Iterator, Optional, Union
 
 from . import _library
-from ._library import LIST, Inputs
-from ._environment import file_of
+from ._cuts import Range, range_of
 from ._refused import InvalidSpecifier, InvalidVersion, Refused, of_text
-from ._cuts import Range
-from ._table import AnyVersion, Table
+from ._table import AnyVersion
 from ._texts import encoded, text_in
 from ._version import Version, text_of
 
 _OPERATORS = ("===", "~=", "==", "!=", "<=", ">=", "<", ">")
 # What the library answers of a version: whether all clauses admit it, and then whether it is a pre-release.
 _FINAL, _NO_VERSION, _PRE_RELEASE = 1, 2, 3
-# Which versions clauses admit depends on no variable.
-_VARIABLES = (
-    "os_name sys_platform platform_machine platform_python_implementation platform_release platform_system platform_version "
-    "python_version python_full_version implementation_name implementation_version"
-)
-_ENVIRONMENT = file_of({name: "" for name in _VARIABLES.split()})
 
 
 def _in_order(clauses: Iterable[str]) -> tuple[str, ...]:
     """Returns clauses in their normal form, each once, in one order."""
     return tuple(sorted(set(clauses)))
+
+
+def _ranges_of(clauses: Iterable[str]) -> tuple[Range, ...]:
+    """Returns the ranges of the versions that all clauses but those with `===` admit."""
+    return tuple(map(range_of, _library.range_texts(encoded(",".join(clauses)))))
 
 
 class SpecifierSet:
@@ -48,13 +45,13 @@ class SpecifierSet:
         TypeError: the specifiers are no text.
     """
 
-    # (what the clauses say of pre-releases, what they are compared by, and the table, stand there once they were asked for)
-    __slots__ = ("_clauses", "_prereleases", "_named", "_compared", "_table", "__weakref__")
+    # (what the clauses say of pre-releases, what they are compared by, and the ranges, stand there once they were asked for)
+    __slots__ = ("_clauses", "_prereleases", "_named", "_compared", "_ranges", "__weakref__")
     _clauses: tuple[str, ...]
     _prereleases: Optional[bool]
     _named: bool
     _compared: frozenset[object]
-    _table: Table
+    _ranges: tuple[Range, ...]
 
     def __init__(self, specifiers: str = "", prereleases: Optional[bool] = None) -> None:
         try:
@@ -165,24 +162,27 @@ class SpecifierSet:
             self._compared = frozenset(it._canonical() for it in self)
             return self._compared
 
-    def _merged(self) -> Table:
-        """Returns the table of one package of which the clauses are demanded."""
-        try:
-            return self._table
-        except AttributeError:
-            # (each on a line of its own, since a line has a limit)
-            text = "\n".join(f"package{clause}" for clause in self._clauses or ("",)).encode()
-            self._table = Table(Inputs(_ENVIRONMENT, [(LIST, text)]).merged(), _ENVIRONMENT)
-            return self._table
-
     @property
     def ranges(self) -> tuple[Range, ...]:
         """The versions that every clause but `===` admits, pre-releases too, as sorted ranges."""
-        return self._merged()["package"].ranges
+        try:
+            return self._ranges
+        except AttributeError:
+            self._ranges = _ranges_of(self._clauses)
+            return self._ranges
+
+    def _demanded(self) -> Optional[str]:
+        """Returns the text of a clause with `===`, if there is one: no version is admitted but the one with this normal text."""
+        return next((it.version for it in self if it.operator == "==="), None)
 
     def is_empty(self) -> bool:
-        """Returns whether no version whatever is admitted, pre-releases too. This is proved of the library."""
-        return self._merged()["package"].verdict == "none"
+        """Returns whether no version whatever is admitted, pre-releases too."""
+        text = self._demanded()
+        return not self.ranges if text is None else not self._admits_text(text)
+
+    def _admits_text(self, text: str) -> bool:
+        """Returns whether a text is a version that all clauses admit."""
+        return _library.admits_each(encoded(str(self)), [text])[0] in (_FINAL, _PRE_RELEASE)
 
     def __le__(self, other: SpecifierSet) -> bool:
         """Returns whether the other set admits every version that this one admits, pre-releases too."""
@@ -190,13 +190,11 @@ class SpecifierSet:
             return NotImplemented
         if self.is_empty():
             return True
-        texts = self._merged()["package"].texts
-        if texts:
-            # (the set isn't empty, so the one text is the normal text of the one version that it admits)
-            return other.contains(texts[0], prereleases=True)
+        text = self._demanded()
+        if text is not None:
+            return other._admits_text(text)
         # (a range that isn't empty has more versions than one)
-        both = (SpecifierSet(str(self)) & SpecifierSet(str(other)))._merged()["package"]
-        return not both.texts and both.ranges == self.ranges
+        return other._demanded() is None and _ranges_of((*self._clauses, *other._clauses)) == self.ranges
 
     def __ge__(self, other: SpecifierSet) -> bool:
         return other <= self if isinstance(other, SpecifierSet) else NotImplemented

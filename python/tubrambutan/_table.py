@@ -15,6 +15,7 @@ from ._cuts import range_of
 from ._library import TABLE, Inputs
 from ._names import canonicalize_name
 from ._refused import InvalidName
+from ._shards import count_of, shards_of_names
 from ._texts import encoded, text_in
 from ._version import Version, text_of
 
@@ -264,6 +265,51 @@ class Table(Mapping[str, Package]):
                 kind = "added" if ours is None else "removed" if theirs is None else "narrowed" if whole == theirs else "widened"
                 kinds["changed" if ours and theirs and whole not in (ours, theirs) else kind].append(name)
         return Difference(*(tuple(kinds[kind]) for kind in Difference._fields))
+
+    def _of_entries(self, entries: Iterable[str]) -> Table:
+        """Returns the table of some of the entries, which are in order."""
+        header = self._printed[: len(self._printed) - len(self.lines)]
+        return Table(header + "".join(entries), self._environment, self.extras)
+
+    def cut(self, most: int) -> Iterator[Table]:
+        """Returns tables whose texts have no more bytes than that, if those of one name haven't. They have the names of this one among them, in order. (Public
+        for the package alone.)"""
+        whole = len(encoded(self._printed))
+        if whole <= most:
+            yield self
+            return
+        head = whole - len(encoded(self.lines))
+        found: list[str] = []
+        size = head
+        for entry in self._entries.values():
+            more = len(encoded(entry))
+            if found and size + more > most:
+                yield self._of_entries(found)
+                found, size = [], head
+            found.append(entry)
+            size += more
+        yield self._of_entries(found)
+
+    def shards(self, count: int) -> tuple[Table, ...]:
+        """Returns tables that have the names of this one among them: each name is in one. Joined they are this table.
+
+        Which shard a name is in depends on the name and the count alone, as in `split`.
+
+        >>> import tubrambutan
+        >>> table = tubrambutan.merge(lists=["attrs\\nflask>=2\\ndjango<5"])
+        >>> one, other, third = table.shards(3)
+        >>> one | other | third == table, len(one) + len(other) + len(third)
+        (True, 3)
+
+        Raises:
+            ValueError: the count is below 1.
+            TypeError: the count is no int.
+            Refused: a name has more than 65,536 bytes, which no line may have.
+        """
+        found: list[list[str]] = [[] for _ in range(count_of(count))]
+        for number, entry in zip(shards_of_names(list(self._entries), count), self._entries.values()):
+            found[number].append(entry)
+        return tuple(map(self._of_entries, found))
 
     def save(self, path: Union[str, os.PathLike[str]]) -> None:
         """Writes the printed table to a file: beside it first, and then in its place, so that no part of a table remains where writing fails.

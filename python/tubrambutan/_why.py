@@ -139,7 +139,7 @@ def clashes(
     environment: Environment = None,
     group: Optional[str] = None,
 ) -> tuple[Reason, ...]:
-    """Returns why each package whose verdict isn't open has it, in the order of their names. The inputs are read again for each of these packages.
+    """Returns why each package whose verdict isn't open has it, in the order of their names. The inputs are read twice.
 
     >>> import tubrambutan
     >>> [(it.name, [claim.text for claim in it.clash]) for it in tubrambutan.clashes(lists=["a>=1\\na<1\\nb", "a!=2\\nc @ https://x.test/1", "c @ https://x.test/2"])]
