@@ -82,9 +82,9 @@ fn range_lines(alloc: Global, bytes: &[u8]) -> Result<String, Fault>
     }
 }
 
-/// The versions that the clauses other than those with `===` admit, as sorted ranges between cuts, each on a line of its
-/// own, as `before 1 to before 2.dev0` (see [`Cut::text`](pep_clause::Cut::text)). There is no line exactly if these
-/// clauses admit no version. The clauses and the refusals are those of
+/// The versions that the clauses other than those with `===` admit, as sorted ranges between cuts, each on a line of
+/// its own, as `before 1 to before 2.dev0` (see [`Cut::text`](pep_clause::Cut::text)). There is no line exactly if
+/// these clauses admit no version. The clauses and the refusals are those of
 /// [`tubrambutan_clauses`](crate::tubrambutan_clauses).
 #[unsafe(no_mangle)]
 pub extern "C" fn tubrambutan_ranges(alloc: Global, bytes: &[u8], room: &mut [u8]) -> Reply

@@ -136,8 +136,8 @@ impl Claim {
     ghost use Rattle.reasons.specs.View.{claim_parts};
 
     /// The normal text of the claim: of a requirement its line, without a line feed (see
-    /// [`Requirement::text`](pep_require::Requirement::text)); of a table's entry its lines, each with its line feed (see
-    /// [`entry_text`]). The only fault is want of memory, 60.
+    /// [`Requirement::text`](pep_require::Requirement::text)); of a table's entry its lines, each with its line feed
+    /// (see [`entry_text`]). The only fault is want of memory, 60.
     pub fn text(&self, alloc: Global) -> Result<String, Fault>
         ensures text { IfOk result (λ text. IsClaimText (claim_parts self.now) (string_bytes text)) }
         ensures faults { IfErr result (λ fault. fault ≡ no_memory) }

@@ -1,5 +1,6 @@
 -- Which versions a clause admits ("Version specifiers"). A candidate's local version label counts
--- only where the clause has a label itself ("Version matching").
+-- where the clause has a label itself ("Version matching") and with `===`, which compares texts
+-- ("Arbitrary equality").
 use Rattle.std.specs.Prelude.{◌≡◌, ℕ, ◌==◌, ◌-◌, ◌&&◌, ◌||◌, Bool, true, not, List, [], ◌∷◌, length}
 use Rattle.std.specs.Prelude.{take, IsTrue, is_some, nat_eq, if◌then◌else◌, Option, Some, None}
 use Rattle.std.specs.Prelude.{Result, Ok, Err}

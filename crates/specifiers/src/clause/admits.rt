@@ -187,8 +187,9 @@ impl Clause {
     ghost use Rattle.specifiers.specs.Operator.{operator};
 
     /// Whether the clause admits the version (PEP 440, "Version specifiers"). The version's local
-    /// version label counts only where the clause has a label itself ("Version matching"). The only
-    /// fault is `NoMemory`, for a clause with `===`: the others ask for no memory.
+    /// version label counts where the clause has a label itself ("Version matching") and with `===`,
+    /// which compares texts ("Arbitrary equality"). The only fault is `NoMemory`, for a clause with
+    /// `===`: the others ask for no memory.
     pub fn admits(&self, alloc: Global, version: &Version) -> Result<bool, ClauseFault>
         ensures admits { IfOk result (λ b. b ≡ admits self.now version.now) }
         ensures no_fault { demanded_text self.now ≡ None → IsOk result }
