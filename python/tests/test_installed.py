@@ -85,6 +85,8 @@ class Places(unittest.TestCase):
                     requirements_file(folder / name)
             with self.assertRaises(OSError):
                 requirements_file(folder / "none.txt")
+            with self.assertRaisesRegex(ValueError, r"write merge\('pyproject.toml'\)"):
+                requirements_file("pyproject.toml")
 
     def test_lines(self) -> None:
         lines = Lines([Line("a>=1", "x", 1), Line("b\n<2", "y", 9)])
@@ -152,8 +154,12 @@ class Commands(unittest.TestCase):
                     self.assertEqual((run(*words)[0], run(*words)[1][-len(end) :], run(*words)[2]), (status, end, ""))
             self.assertEqual(json.loads(run("merge", "--json", listed)[1])["flask"]["ranges"], ["before 2 to end"])
             self.assertEqual([(it["path"], it["line"], it["text"]) for it in json.loads(run("lines", "--json", listed)[1])][:1], [(listed, 1, "flask>=2")])
-            self.assertEqual(run("lines", "-", given=b"# c\n\n \tA ; os_name=='x' \t\r\n")[:2], (0, 'input 1, line 3: a ; os_name == "x"\n'))
+            self.assertEqual(run("lines", "-", given=b"# c\n\n \tA ; os_name=='x' \t\r\n")[:2], (0, 'standard input, line 3: a ; os_name == "x"\n'))
             self.assertEqual(run("check", "a", "1", "-", given=b"a>1")[:2], (1, "no\n"))
+            self.assertEqual(run("check", "a", "1", "-", given=b"a @ x:1\na @ x:2")[:2], (1, "conflict\n"))
+            self.assertEqual(run("lines", file), (0, f"{file}, text 1: flask\n", ""))
+            self.assertEqual(json.loads(run("check", "--json", "flask", "2.1", listed)[1]), "yes")
+            self.assertEqual(run("merge", "-", listed, given=b"a<")[2].partition(": w")[0], "tubrambutan: standard input, line 1")
             merge(listed).save(folder / "old.table")
             merge(file).save(folder / "new.table")
             self.assertEqual(run("diff", str(folder / "old.table"), str(folder / "new.table"))[:2], (1, "removed django\nwidened flask\n"))
@@ -177,7 +183,7 @@ class Commands(unittest.TestCase):
             self.assertEqual((status, told.rpartition("\r")[2].partition(": w")[0]), (2, f"tubrambutan: {paths[1]}, line 3"))
 
     def test_refusals(self) -> None:
-        self.assertEqual(run("merge", "-", given=b"a\nb>"), (2, "", "tubrambutan: input 1, line 2: what follows the operator is no version, or behind `===` no text (code 57 33 12)\n"))
+        self.assertEqual(run("merge", "-", given=b"a\nb>"), (2, "", "tubrambutan: standard input, line 2: what follows the operator is no version, or behind `===` no text (code 57 33 12)\n"))
         self.assertEqual((run("merge", "none.txt")[0], run("none")[0], run()[0], run("--help")[0]), (2, 2, 2, 0))
 
 

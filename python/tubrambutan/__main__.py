@@ -16,14 +16,15 @@ from typing import Any, Callable, Iterable, NamedTuple, Optional, Sequence
 from . import __version__
 from ._audit import Audit, Finding, audit
 from ._environment import default_environment, file_of
-from ._inputs import environment_file, given_inputs
+from ._inputs import Given, environment_file, numbered, of_path
+from ._library import LIST
 from ._listing import listed
-from ._merge import merge
+from ._merge import merge, table_of
 from ._parts import Judged
 from ._refused import Refused
 from ._steps import Bar, are_many, merged_in_steps
 from ._table import Table
-from ._why import why
+from ._why import reason_of
 
 
 class _Answer(NamedTuple):
@@ -34,14 +35,9 @@ class _Answer(NamedTuple):
     status: int = 0
 
 
-def _paths(given: argparse.Namespace) -> list[str]:
-    """Returns the files on the command line."""
-    return [it for it in given.files if it != "-"]
-
-
-def _standard_input(given: argparse.Namespace) -> list[bytes]:
-    """Returns what stands on standard input, if it is asked for."""
-    return [sys.stdin.buffer.read()] if "-" in given.files else []
+def _inputs(given: argparse.Namespace) -> list[Given]:
+    """Returns the files on the command line, in their order. A list on standard input is one of them."""
+    return numbered((LIST, sys.stdin.buffer.read(), "standard input") if it == "-" else of_path(it) for it in given.files)
 
 
 def _environment(given: argparse.Namespace) -> Optional[pathlib.Path]:
@@ -51,7 +47,7 @@ def _environment(given: argparse.Namespace) -> Optional[pathlib.Path]:
 
 def _merged(given: argparse.Namespace) -> Table:
     """Returns the table of the files on the command line."""
-    return merge(*_paths(given), lists=_standard_input(given), environment=_environment(given), group=given.group, extras=given.extra)
+    return table_of(_inputs(given), _environment(given), given.group, given.extra)
 
 
 def _merged_before_a_person(given: argparse.Namespace) -> Table:
@@ -80,18 +76,19 @@ def _merge(given: argparse.Namespace) -> _Answer:
 def _check(given: argparse.Namespace) -> _Answer:
     table = _merged(given)
     (is_met,) = table.admits_each([(given.name, given.version)], prereleases=given.pre)
-    return _Answer("yes\n" if is_met else "no\n", is_met, 0 if is_met else 1)
+    is_conflict = given.name in table and table[given.name].verdict == "conflict"
+    answer = "conflict" if is_conflict else "yes" if is_met else "no"
+    return _Answer(f"{answer}\n", answer, 0 if is_met else 1)
 
 
 def _why(given: argparse.Namespace) -> _Answer:
-    reason = why(given.name, *_paths(given), lists=_standard_input(given), environment=_environment(given), group=given.group)
+    reason = reason_of(given.name, _inputs(given), _environment(given), given.group)
     data = {**reason._asdict(), "claims": [it._asdict() for it in reason.claims], "clash": [it._asdict() for it in reason.clash]}
     return _Answer(f"{reason}\n", data, 0 if reason.verdict == "open" else 1)
 
 
 def _lines(given: argparse.Namespace) -> _Answer:
-    inputs = given_inputs(_paths(given), _standard_input(given), (), ())
-    found = list(listed(inputs, environment_file(_environment(given)), given.group))
+    found = list(listed(_inputs(given), environment_file(_environment(given)), given.group))
     return _Answer("".join(f"{it}\n" for it in found), [it._asdict() for it in found])
 
 
@@ -146,7 +143,7 @@ def _parser() -> argparse.ArgumentParser:
         found.add_argument("--env", metavar="FILE", help="an environment file, in place of the running interpreter's environment")
         found.add_argument("--group", metavar="NAME", help="the dependency group of project files, in place of their dependencies")
         if has_extras:
-            found.add_argument("--extra", metavar="NAME", action="append", default=[], help="an extra; it may be given more than once")
+            found.add_argument("--extra", metavar="NAME", action="append", default=[], help="an extra; of several the table is printed without its header")
         found.add_argument("files", nargs="+", metavar="FILE", help="a list, a project file (.toml), a printed table (.table), or - for standard input")
 
     with_files(command("merge", _merge, "Print the table of all that files demand."))

@@ -29,7 +29,7 @@ def _kind_of(path: str) -> int:
     return PROJECT if path.endswith(".toml") else TABLE if path.endswith(".table") else LIST
 
 
-def _of_path(path: object) -> tuple[int, bytes, str]:
+def of_path(path: object) -> tuple[int, bytes, str]:
     """Returns the kind of the file at a path, its bytes, and the path."""
     if not isinstance(path, (str, os.PathLike)):
         raise TypeError(f"a path is a str or os.PathLike, and not {type(path).__name__}")
@@ -103,12 +103,17 @@ class Given(NamedTuple):
     places: Union[None, str, Lines]
 
 
+def numbered(found: Iterable[tuple[int, bytes, Union[None, str, Lines]]]) -> list[Given]:
+    """Returns inputs with their numbers, which count from 1."""
+    return [Given(number, *it) for number, it in enumerate(found, 1)]
+
+
 def given_inputs(paths: Iterable[Path], lists: Iterable[Source], projects: Iterable[Text], tables: Iterable[Text]) -> list[Given]:
     """Returns the inputs that are handed in, in their order."""
     kinds: tuple[tuple[int, str, Iterable[Source]], ...] = ((LIST, "lists", lists), (PROJECT, "projects", projects), (TABLE, "tables", tables))
-    found: list[tuple[int, bytes, Union[None, str, Lines]]] = [_of_path(path) for path in paths]
+    found: list[tuple[int, bytes, Union[None, str, Lines]]] = [of_path(path) for path in paths]
     found += [(kind, data, places) for kind, argument, texts in kinds for data, places in _texts(texts, argument)]
-    return [Given(number, *it) for number, it in enumerate(found, 1)]
+    return numbered(found)
 
 
 def buffer_of(environment: bytes, inputs: Sequence[Given], group: bytes, more: Sequence[bytes] = ()) -> Inputs:

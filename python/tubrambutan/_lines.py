@@ -137,11 +137,15 @@ def requirements_file(path: Union[str, os.PathLike[str]]) -> RequirementsFile:
     """Reads a requirements file as pip does: comments behind requirements, lines that go on, and files that `-r` and `-c` include. Nothing is left out.
 
     Raises:
-        ValueError: a line has another option, or a variable; or a file includes itself. The message names the file and the line.
+        ValueError: a line has another option, or a variable; or a file includes itself. The message names the file and the line. Or the file is a project
+            file or a printed table by its name.
         OSError: a file can't be read.
         UnicodeDecodeError: a file isn't UTF-8.
     """
-    found = list(_read(os.fspath(path), ()))
+    name = os.fspath(path)
+    if name.endswith((".toml", ".table")):
+        raise ValueError(f"{name} is no requirements file by its name: write merge({name!r}) to read it")
+    found = list(_read(name, ()))
     return RequirementsFile(_of_kind(found, False), _of_kind(found, True))
 
 

@@ -8,8 +8,9 @@ from . import _library
 from ._inputs import Given, placed
 from ._library import PROJECT, TABLE
 from ._merge import merge
+from ._parts import lists_of
 from ._refused import Refused
-from ._why import Claim, why
+from ._why import Claim, clashes
 
 
 def _of_list(given: Given, environment: bytes) -> Iterator[Claim]:
@@ -32,11 +33,15 @@ def _of_list(given: Given, environment: bytes) -> Iterator[Claim]:
 
 
 def _of_project(given: Given, environment: bytes, group: Optional[str]) -> Iterable[Claim]:
-    """Returns the requirements of a project file that apply. (The file is read again for each name.)"""
+    """Returns the requirements of a project file that apply."""
     names = merge(projects=[given.data], environment=environment, group=group)
-    found = [it for name in names for it in why(name, projects=[given.data], environment=environment, group=group).claims]
+    # (`clashes` tells the requirements on each package that isn't open, so two URLs more are demanded of each)
+    conflicts = (f"{name} @ x:1\n{name} @ x:2".encode() for name in names)
+    lists = [data for _, data in lists_of(conflicts)]
+    found = clashes(lists=lists, projects=[given.data], environment=environment, group=group)
     path = given.places if isinstance(given.places, str) else None
-    return sorted((it._replace(input=given.number, path=path) for it in found), key=lambda it: it.line)
+    own = (it._replace(input=given.number, path=path) for reason in found for it in reason.claims if it.is_text)
+    return sorted(own, key=lambda it: it.line)
 
 
 def listed(inputs: Iterable[Given], environment: bytes, group: Optional[str]) -> Iterator[Claim]:

@@ -43,6 +43,17 @@ def _merged_extras(environment: bytes, inputs: Sequence[Given], group: bytes, ex
     return _merged(environment, [it for it in inputs if it.kind == TABLE], b"", [lines_of(text).encode() for text in of_each])
 
 
+def table_of(inputs: Sequence[Given], environment: Environment, group: Optional[str], extras: Iterable[str]) -> Table:
+    """Returns the table of all that inputs demand."""
+    asked, names = group_of(group), extras_of(extras)
+    file = environment_file(environment, names)
+    if len(names) > 1:
+        return Table(_merged_extras(file, inputs, asked, names), file, names)
+    for name in names:
+        file = _with_extra(file, name)
+    return Table(_merged(file, inputs, asked), file)
+
+
 def merge(
     *paths: Path,
     lists: Iterable[Source] = (),
@@ -80,11 +91,4 @@ def merge(
         ValueError: a text is the name of a file, or a mapping as environment has an extra, and `extras` names some.
         TypeError: an argument has another type.
     """
-    inputs = given_inputs(paths, lists, projects, tables)
-    asked, names = group_of(group), extras_of(extras)
-    file = environment_file(environment, names)
-    if len(names) > 1:
-        return Table(_merged_extras(file, inputs, asked, names), file, names)
-    for name in names:
-        file = _with_extra(file, name)
-    return Table(_merged(file, inputs, asked), file)
+    return table_of(given_inputs(paths, lists, projects, tables), environment, group, extras)

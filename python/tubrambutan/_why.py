@@ -105,6 +105,23 @@ class _Reader:
         return tuple(Reason(name, verdict, tuple(claims), tuple(clash)) for name, verdict, claims, clash in found)
 
 
+def reason_of(name: str, inputs: Sequence[Given], environment: Environment, group: Optional[str]) -> Reason:
+    """Returns why a package has its verdict on what inputs demand."""
+    asked = canonicalize_name(name).encode()
+    try:
+        return _Reader(inputs).reasons(buffer_of(environment_file(environment), inputs, group_of(group)).why(asked))[0]
+    except Refused as refused:
+        raise placed(refused, inputs) from None
+
+
+def reasons_of(inputs: Sequence[Given], environment: Environment, group: Optional[str]) -> tuple[Reason, ...]:
+    """Returns why each package whose verdict isn't open has it."""
+    try:
+        return _Reader(inputs).reasons(buffer_of(environment_file(environment), inputs, group_of(group)).clashes())
+    except Refused as refused:
+        raise placed(refused, inputs) from None
+
+
 def why(
     name: str,
     *paths: Path,
@@ -123,12 +140,7 @@ def why(
         ValueError: a text is the name of a file.
         TypeError: an argument has another type.
     """
-    asked = canonicalize_name(name).encode()
-    inputs = given_inputs(paths, lists, projects, tables)
-    try:
-        return _Reader(inputs).reasons(buffer_of(environment_file(environment), inputs, group_of(group)).why(asked))[0]
-    except Refused as refused:
-        raise placed(refused, inputs) from None
+    return reason_of(name, given_inputs(paths, lists, projects, tables), environment, group)
 
 
 def clashes(
@@ -152,8 +164,4 @@ def clashes(
         ValueError: a text is the name of a file.
         TypeError: an argument has another type.
     """
-    inputs = given_inputs(paths, lists, projects, tables)
-    try:
-        return _Reader(inputs).reasons(buffer_of(environment_file(environment), inputs, group_of(group)).clashes())
-    except Refused as refused:
-        raise placed(refused, inputs) from None
+    return reasons_of(given_inputs(paths, lists, projects, tables), environment, group)
