@@ -1,7 +1,6 @@
 """The package as a command: `python -m tubrambutan`.
 
-It ends with status 0; with 1 where a version isn't admitted, demands clash, tables differ or something is wrong with what is installed; and with 2 where something is
-refused.
+Its status tells whether something is wrong (`_STATUS`).
 """
 
 from __future__ import annotations
@@ -24,7 +23,11 @@ from ._parts import Judged
 from ._refused import Refused
 from ._steps import Bar, are_many, merged_in_steps
 from ._table import Table
-from ._why import reason_of
+from ._why import Reason, reason_of, reasons_of
+
+
+_STATUS = """The status is 0; 1 where `check` prints no or conflict, `why` or `clashes` finds a clash, `diff` a difference or `audit` a fault; and 2 where something is refused.
+`merge` ends with 0 whatever the verdicts are."""
 
 
 class _Answer(NamedTuple):
@@ -81,10 +84,18 @@ def _check(given: argparse.Namespace) -> _Answer:
     return _Answer(f"{answer}\n", answer, 0 if is_met else 1)
 
 
+def _reason(it: Reason) -> dict[str, Any]:
+    return {**it._asdict(), "claims": [claim._asdict() for claim in it.claims], "clash": [claim._asdict() for claim in it.clash]}
+
+
 def _why(given: argparse.Namespace) -> _Answer:
     reason = reason_of(given.name, _inputs(given), _environment(given), given.group)
-    data = {**reason._asdict(), "claims": [it._asdict() for it in reason.claims], "clash": [it._asdict() for it in reason.clash]}
-    return _Answer(f"{reason}\n", data, 0 if reason.verdict == "open" else 1)
+    return _Answer(f"{reason}\n", _reason(reason), 0 if reason.verdict == "open" else 1)
+
+
+def _clashes(given: argparse.Namespace) -> _Answer:
+    found = reasons_of(_inputs(given), _environment(given), given.group)
+    return _Answer("".join(f"{it}\n" for it in found), list(map(_reason, found)), 1 if found else 0)
 
 
 def _lines(given: argparse.Namespace) -> _Answer:
@@ -129,7 +140,7 @@ def _env(_: argparse.Namespace) -> _Answer:
 
 def _parser() -> argparse.ArgumentParser:
     """Returns the parser of the command line."""
-    parser = argparse.ArgumentParser(prog="python -m tubrambutan", description="Reads Python requirements and merges them into one table.")
+    parser = argparse.ArgumentParser(prog="python -m tubrambutan", description="Reads Python requirements and merges them into one table.", epilog=_STATUS)
     parser.add_argument("--version", action="version", version=__version__)
     commands = parser.add_subparsers(required=True, metavar="COMMAND")
 
@@ -155,6 +166,7 @@ def _parser() -> argparse.ArgumentParser:
     reason = command("why", _why, "Say who demands what of a package, and which of these demands clash.")
     reason.add_argument("name", metavar="NAME")
     with_files(reason, has_extras=False)
+    with_files(command("clashes", _clashes, "Say for each package whose demands can't be met together which of them clash."), has_extras=False)
     lines = command("lines", _lines, "Print the requirements of lists, and those of project files that apply, each with its place.")
     with_files(lines, has_extras=False)
     diff = command("diff", _diff, "Say which packages two printed tables demand differently.")

@@ -60,9 +60,12 @@ class Refused(ValueError):
         """Returns what is at fault, with a colon, or nothing where that isn't known."""
         told = [f"input {self.input}"] if self.input else []
         if self.subject is not None:
-            told = [self.subject if len(self.subject) <= _SHOWN else f"{self.subject[:_SHOWN]}.."]
+            # (a path is shown whole; a text stands in quotes)
+            is_short = len(self.subject) <= _SHOWN or self.subject[0] not in "'\""
+            told = [self.subject if is_short else f"{self.subject[:_SHOWN]}.."]
         if self.line:
-            told.append(f"line {self.line}")
+            is_text = self.subject is not None and self.subject.endswith(".toml")
+            told.append(f"{'text' if is_text else 'line'} {self.line}")
         return f"{', '.join(told)}: " if told else ""
 
     def __reduce__(self) -> tuple[type[Refused], tuple[str, Optional[str]]]:

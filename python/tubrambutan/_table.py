@@ -130,7 +130,7 @@ class Package:
 
 
 class Difference(NamedTuple):
-    """What another table says of packages that a table doesn't say.
+    """What another table says of packages that a table doesn't say. It is true where it names any.
 
     Attributes:
         added: the names that the other table alone has.
@@ -145,6 +145,9 @@ class Difference(NamedTuple):
     narrowed: tuple[str, ...]
     widened: tuple[str, ...]
     changed: tuple[str, ...]
+
+    def __bool__(self) -> bool:
+        return any(names for names in self)
 
 
 class Table(Mapping[str, Package]):
