@@ -20,7 +20,7 @@ use Rattle.documents.proofs.Placed.{known}
 use Rattle.inputs.specs.Lists.{IsListBy, IsRequirementList, content}
 use Rattle.inputs.specs.Lists.{is_skipped, lines_of, requirement_lines, requirements_among}
 use Rattle.inputs.specs.Refusal.{IsRefusedLine, IsRefusedList}
-use Rattle.inputs.specs.Refusal.{by_content, by_encoding, by_length, by_line, by_size}
+use Rattle.inputs.specs.Refusal.{by_content, by_encoding, by_length, by_line, by_size, no_line}
 use Rattle.inputs.specs.Streams.{IsGoodLine}
 
 -- ---- a line of a list
@@ -80,8 +80,8 @@ line_of_list {reads} bytes done line left rs e s =
 -- a line that is refused is none that a list may have
 spoiled : (line : List ℕ) (f : LineFault) → f ≢ line_fault.Requirement fault.UrlOverflow →
     IsRefusedLine line f → ¬ IsGoodLine Reads line
-spoiled line f told (by_length long e) good = absurd (omega (arith, long, good.short))
-spoiled line f told (by_encoding short other e) good = other good.text
+spoiled line f told (no_line (by_length long e)) good = absurd (omega (arith, long, good.short))
+spoiled line f told (no_line (by_encoding short other e)) good = other good.text
 spoiled line f told (by_content g short text seen memory refuses e) good =
     let r = good.requirement seen in
     refused_is_not_read (content line) r.0 g memory
@@ -98,6 +98,6 @@ refused_list bytes c rs told (by_line number line f at refused e) s =
 -- a fault of a line is no want of memory, whatever a line is refused for
 pub line_known : (line : List ℕ) (f : LineFault) →
     IsRefusedLine line f → f ≢ line_fault.Requirement fault.NoMemory
-line_known line f (by_length long e) memory = cc (e, memory)
-line_known line f (by_encoding short other e) memory = cc (e, memory)
+line_known line f (no_line (by_length long e)) memory = cc (e, memory)
+line_known line f (no_line (by_encoding short other e)) memory = cc (e, memory)
 line_known line f (by_content g short text seen known refuses e) memory = known (cc (e, memory))

@@ -17,7 +17,7 @@ use Rattle.documents.specs.RefusedProject.{IsNumbered}
 use Rattle.inputs.specs.LineReading.{IsCauseOf, IsHeld, RefusesEnded, RefusesHeld, RefusesLineBytes}
 use Rattle.inputs.specs.LineReading.{RefusesList, RefusesPiece}
 use Rattle.inputs.specs.Lists.{lines_of}
-use Rattle.inputs.specs.Refusal.{by_length, by_line, by_size}
+use Rattle.inputs.specs.Refusal.{by_length, by_line, by_size, no_line}
 use Rattle.inputs.proofs.ListLemmas.{line_known}
 
 -- ---- the lines of a text that goes on
@@ -232,7 +232,7 @@ held_refuses refuses piece line start number done c e counted (inr (is, long)) =
     λ bytes more before at whole.
     let all = longer bytes piece line more before done start number e at counted whole in
     inr (inl (by_line (number + 1) all.0 (line_fault.Requirement fault.LineTooLong) all.1
-    (by_length (omega (arith, long, all.2)) refl) is))
+    (no_line (by_length (omega (arith, long, all.2)) refl)) is))
 
 -- the last line, which ends with the bytes
 pub last_refuses : (refuses : List ℕ → LineFault → Type 0) (bytes line : List ℕ) (number : ℕ)

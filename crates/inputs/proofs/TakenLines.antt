@@ -14,7 +14,7 @@ use Rattle.inputs.specs.Lists.{content, is_skipped, lines_of, requirements_among
 use Rattle.texts.specs.Limits.{input_limit}
 use Rattle.inputs.specs.LineReading.{HasTaken, HasText, IsHeld, SoFar, TakesFound, TakesInTurn, TakesLine}
 use Rattle.inputs.specs.LineReading.{TakesLines}
-use Rattle.inputs.specs.Refusal.{IsRefusedLine, by_encoding}
+use Rattle.inputs.specs.Refusal.{IsNoLine, by_encoding}
 use Rattle.inputs.proofs.LineTexts.{content_is_utf8, line_is_utf8}
 use Rattle.inputs.proofs.Pieces.{held_goes_on, left_lines, line_count, lines_go_on}
 
@@ -39,7 +39,7 @@ kept_text line now text short e same utf8 kept = record {
 }
 
 pub no_text : (line content_now : List ℕ) → length line ≤ line_limit → content_now ≡ content line →
-    ¬ IsUtf8 content_now → IsRefusedLine line line_fault.NotUtf8
+    ¬ IsUtf8 content_now → IsNoLine line line_fault.NotUtf8
 no_text line now short e none =
     by_encoding short (λ utf8. none (subst IsUtf8 (sym e) (content_is_utf8 line utf8))) refl
 

@@ -12,6 +12,7 @@ use Rattle.pep_marker.specs.Environment.{EnvironmentParts, environment_of}
 use Rattle.pep_marker.specs.Header.{header}
 use Rattle.pep_require.specs.Reads.{Reads, always, anything, none}
 use Rattle.pep_require.specs.Requirement.{RequirementParts, bounds}
+use Rattle.pep_require.specs.declared.fault.RequireFault.TheVariants as require
 use Rattle.demands.specs.Answer.{IsAnswer}
 use Rattle.demands.specs.Demand.{Demands, presence}
 use Rattle.demands.specs.Table.{IsTable}
@@ -21,6 +22,7 @@ use Rattle.pep_table.specs.TableText.{AreTableLines}
 use Rattle.devices.specs.Device.{Device}
 use Rattle.faults.specs.declared.fault.Cause.TheVariants as cause
 use Rattle.faults.specs.declared.fault.Fault.{Fault}
+use Rattle.faults.specs.declared.fault.LineFault.TheVariants as line_fault
 use Rattle.faults.specs.declared.fault.Place.TheVariants as place
 use Rattle.texts.specs.Bytes.{is_letter_or_digit}
 use Rattle.texts.specs.Limits.{line_limit}
@@ -28,7 +30,7 @@ use Rattle.inputs.specs.Gathered.{BytesDemand, Gathered}
 use Rattle.inputs.specs.LineReading.{HasText}
 use Rattle.inputs.specs.Lists.{IsRequirementList}
 use Rattle.inputs.specs.Merge.{IsMerge}
-use Rattle.inputs.specs.Refusal.{no_memory}
+use Rattle.inputs.specs.Refusal.{IsNoLine, by_encoding, by_length, no_memory}
 use Rattle.inputs.specs.Streams.{IsTableOfList, ReadsTable, RefusesReading, by_bytes, by_failure}
 use Rattle.inputs.specs.declared.input.Input.{Input}
 use Rattle.inputs.specs.declared.input.Kind.TheVariants as kind
@@ -106,6 +108,11 @@ gather-no_input i k b = no_empty_table (Gathered nowhere (i ∷ [])) (gathered i
 -- a line with `#` alone
 pub text_on-comment_taken : ¬ HasText (codes "#") (Some (codes "#"))
 text_on-comment_taken h = cc h.text.0
+
+-- `!`
+pub text_on-bad_name_refused : ¬ IsNoLine (codes "!") (line_fault.Requirement require.BadName)
+text_on-bad_name_refused (by_length long is) = cc is
+text_on-bad_name_refused (by_encoding short differs is) = cc is
 
 -- a list with the one line `a`
 pub list_of-requirement_dropped : ¬ IsRequirementList line []

@@ -27,13 +27,18 @@ use Rattle.inputs.specs.TableFiles.{IsRefusedTable}
 
 -- ---- bytes that are no list of requirements
 
--- Why a line is refused: it is longer than a line may be; or else it isn't UTF-8; or else it isn't
--- skipped, and its content is refused as a requirement.
-pub data IsRefusedLine (line : List ℕ) (fault : LineFault) : Type 0 where
+-- Why bytes are no line that a list may have: they are more than a line may have; or else they aren't
+-- UTF-8.
+pub data IsNoLine (line : List ℕ) (fault : LineFault) : Type 0 where
   by_length : line_limit < length line → fault ≡ line_fault.Requirement require.LineTooLong →
-      IsRefusedLine line fault
+      IsNoLine line fault
   by_encoding : length line ≤ line_limit → ¬ IsUtf8 line → fault ≡ line_fault.NotUtf8 →
-      IsRefusedLine line fault
+      IsNoLine line fault
+
+-- Why a line is refused: it is none that a list may have; or else it isn't skipped, and its content is
+-- refused as a requirement.
+pub data IsRefusedLine (line : List ℕ) (fault : LineFault) : Type 0 where
+  no_line : IsNoLine line fault → IsRefusedLine line fault
   by_content : (f : RequireFault) → length line ≤ line_limit → IsUtf8 line →
       is_skipped (content line) ≡ false
       → f ≢ require.NoMemory → RefusesLine (content line) f → fault ≡ line_fault.Requirement f →

@@ -24,7 +24,7 @@ ghost use Rattle.texts.specs.Limits.{line_limit};
 ghost use Rattle.texts.specs.Split.{left_parts};
 ghost use Rattle.inputs.specs.Lists.{content, is_skipped};
 ghost use Rattle.texts.specs.Limits.{input_limit};
-ghost use Rattle.inputs.specs.Refusal.{IsRefusedLine};
+ghost use Rattle.inputs.specs.Refusal.{IsNoLine};
 ghost use Rattle.inputs.specs.LineReading.{
   HasTaken,
   HasText,
@@ -92,7 +92,7 @@ fn is_skipped(content: &[u8]) -> bool
 #[inline(always)]
 pub fn text_on(line: &[u8]) -> Result<Option<&str>, LineFault>
     ensures ok { IfOk result (λ found. HasText line.now (option_map (λ text. text.now) found)) }
-    ensures refused { IfErr result (IsRefusedLine line.now) }
+    ensures refused { IfErr result (IsNoLine line.now) }
 {
     if line.len() > LINE_LIMIT {
         return Err(LineFault::Requirement(RequireFault::LineTooLong));

@@ -1,6 +1,7 @@
 use Rattle.std.proofs.Common.{Some, inl, inr, option_map, subst}
 use Rattle.std.proofs.lemmas.Result.{IfErr-weaker, IfOk-weaker}
 use Rattle.inputs.specs.LineReading.{HasText}
+use Rattle.inputs.specs.Refusal.{no_line}
 use Rattle.inputs.proofs.lines.take_line.Goals as goal
 use Rattle.inputs.proofs.lines.take_line.Goals.{In-Ok-Some}
 use Rattle.inputs.proofs.lines.take_line.Given as given
@@ -28,4 +29,4 @@ returns-in-Ok-Some-clause-refused g c =
     c.take.ensures.refused
 
 pub returns-in-Err-clause-refused : goal.returns-in-Err-clause-refused
-returns-in-Err-clause-refused g c = inl c.in-Err.ensures.refused
+returns-in-Err-clause-refused g c = inl (no_line c.in-Err.ensures.refused)
