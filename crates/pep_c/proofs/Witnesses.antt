@@ -5,7 +5,7 @@ use Rattle.pep_version.specs.Text.{public_version}
 use Rattle.pep_version.specs.Version.{IsVersion, Version}
 use Rattle.specifiers.specs.Clause.{less_than}
 use Rattle.pep_clause.specs.VersionSet.{all_versions}
-use Rattle.shards.specs.Shards.{AreShards, shard_of}
+use Rattle.shards.specs.Shards.{AreShards, IsShardOf, shard_of}
 use Rattle.pep_c.specs.Ranges.{IsSetOfClauses}
 
 abbrev zero : Version
@@ -23,8 +23,11 @@ pub tubrambutan_ranges-all_versions : ¬ IsSetOfClauses (less_than zero ∷ []) 
 tubrambutan_ranges-all_versions h = cc (h.versions zero fits)
 
 -- the line `b` alone, among four shards
-pub tubrambutan_split-one_shard : ¬ AreShards 4 (codes "b") (0 ∷ [])
+not_in_first : ¬ IsShardOf 4 (codes "b") 0
 unfolding is_letter_or_digit
-tubrambutan_split-one_shard (inl (e, n), t) = cc e
-tubrambutan_split-one_shard (inr (e, (name, rest, start, is)), t) =
+not_in_first (inl (e, n)) = cc e
+not_in_first (inr (e, (name, rest, start, is))) =
     let same : codes "b" ≡ name = cc start.named in cc (ap (shard_of 4) same ∙ is)
+
+pub tubrambutan_split-one_shard : ¬ AreShards 4 (codes "b") (0 ∷ [])
+tubrambutan_split-one_shard (h, t) = not_in_first h.is

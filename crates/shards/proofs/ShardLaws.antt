@@ -5,7 +5,6 @@ use Rattle.std.specs.List.{AllZip}
 use Rattle.pep_marker.specs.Environment.{EnvironmentParts, extra_in}
 use Rattle.pep_require.proofs.LineLaws.{read_parts}
 use Rattle.pep_require.specs.Faults.{after_name}
-use Rattle.pep_require.specs.LineParts.{StartsLine}
 use Rattle.pep_require.specs.Reads.{Reads}
 use Rattle.pep_require.specs.Requirement.{Applies, RequirementParts}
 use Rattle.demands.specs.Demand.{Demand, RequirementDemands, clause, extra, presence, ranges, url}
@@ -13,7 +12,7 @@ use Rattle.inputs.proofs.SameInputs.{ByOne, demanded_by, demands_of, read_too, t
 use Rattle.inputs.specs.declared.input.Input.{Input}
 use Rattle.inputs.specs.Gathered.{Gathered, HasLine, HasRequirement, IsAccepted}
 use Rattle.inputs.specs.Lists.{content, lines_of}
-use Rattle.shards.specs.Shards.{AreShards, HaveShard, IsInShard, IsShardOfLine, shard_of}
+use Rattle.shards.specs.Shards.{AreShards, HaveShard, IsInShard, IsShardOf, IsShardOfLine, shard_of}
 
 named_as : (r : RequirementParts) (name : List ℕ) (d : Demand) → RequirementDemands r name d →
     name ≡ r.name
@@ -82,22 +81,24 @@ shard_demands e count shard all part all_accepted part_accepted h name d = (
   λ g. in_part e count shard all part all_accepted part_accepted h name d g.0 (demanded_by e all name d g.1),
 )
 
+-- ---- the shard that is told
+
+-- a text begins with a name of one shard
+pub one_shard : (count : ℕ) (text : List ℕ) (m n : ℕ) → IsInShard count m text →
+    IsInShard count n text → m ≡ n
+one_shard count text m n (name, rest, a, is) (other, more, b, was) =
+    let both : Some name ≡ Some other = sym a.named ∙ b.named in
+    let same : name ≡ other = cc both in sym is ∙ ap (shard_of count) same ∙ was
+
 pub one_split : (count : ℕ) (bytes shards others : List ℕ) → AreShards count bytes shards →
     AreShards count bytes others → shards ≡ others
 one_split count bytes shards others h g = each (lines_of bytes) shards others h g
   where
-    named_once : (text name other rest more : List ℕ) → StartsLine text name rest →
-        StartsLine text other more → shard_of count name ≡ shard_of count other
-    named_once text name other rest more a b =
-        let both : Some name ≡ Some other = sym a.named ∙ b.named in
-        let same : name ≡ other = cc both in ap (shard_of count) same
-
-    once : (line : List ℕ) (m n : ℕ) → IsShardOfLine count line m → IsShardOfLine count line n → m ≡ n
-    once line m n (inl a) (inl b) = a.1 ∙ sym b.1
-    once line m n (inl a) (inr b) = let never : true ≡ false = sym a.0 ∙ b.0 in cc never
-    once line m n (inr a) (inl b) = let never : true ≡ false = sym b.0 ∙ a.0 in cc never
-    once line m n (inr (_, (name, rest, a, is))) (inr (_, (other, more, b, was))) =
-        sym is ∙ named_once (content line) name other rest more a b ∙ was
+    once : (text : List ℕ) (m n : ℕ) → IsShardOf count text m → IsShardOf count text n → m ≡ n
+    once text m n (inl a) (inl b) = a.1 ∙ sym b.1
+    once text m n (inl a) (inr b) = let never : true ≡ false = sym a.0 ∙ b.0 in cc never
+    once text m n (inr a) (inl b) = let never : true ≡ false = sym b.0 ∙ a.0 in cc never
+    once text m n (inr a) (inr b) = one_shard count text m n a.1 b.1
 
     each : (lines : List (List ℕ)) (xs ys : List ℕ) → AllZip (IsShardOfLine count) lines xs →
         AllZip (IsShardOfLine count) lines ys → xs ≡ ys
@@ -107,4 +108,5 @@ one_split count bytes shards others h g = each (lines_of bytes) shards others h 
     each (l ∷ lines) [] ys a b = absurd a
     each (l ∷ lines) (x ∷ xs) [] a b = absurd b
     each (l ∷ lines) (x ∷ xs) (y ∷ ys) a b =
-        ap (λ n. n ∷ xs) (once l x y a.0 b.0) ∙ ap (λ ns. y ∷ ns) (each lines xs ys a.1 b.1)
+        ap (λ n. n ∷ xs) (once (content l) x y a.0.is b.0.is)
+        ∙ ap (λ ns. y ∷ ns) (each lines xs ys a.1 b.1)

@@ -2,8 +2,14 @@
 
 ghost use Rattle.std.specs.Prelude.{◌≡◌, ◌⊎◌, ◌<◌, IfErr, IfOk, max};
 ghost use Rattle.faults.specs.NoMemory.{no_memory};
-ghost use Rattle.inputs.specs.Refusal.{IsRefusedLine, IsRefusedList};
-ghost use Rattle.shards.specs.Shards.{AreShards, IsShardOfLine, number_of, shard_of};
+ghost use Rattle.shards.specs.Shards.{
+  AreShards,
+  HasNoShard,
+  HasNoShards,
+  IsShardOfLine,
+  number_of,
+  shard_of,
+};
 
 use faults::{Fault, LineFault, Place, fault_in, line_cause};
 use inputs::text_on;
@@ -36,7 +42,7 @@ pub fn shard_of(name: &Name, count: u64) -> u64
 fn shard_on(alloc: Global, line: &[u8], count: u64) -> Result<u64, LineFault>
     ensures shard { IfOk result (IsShardOfLine count line.now) }
     ensures refused { IfErr result (λ fault. (fault ≡ LineFault.Requirement RequireFault.NoMemory)
-        ⊎ IsRefusedLine line.now fault) }
+        ⊎ HasNoShard line.now fault) }
 {
     let found = text_on(line)?;
     let Some(text) = found else {
@@ -50,12 +56,13 @@ fn shard_on(alloc: Global, line: &[u8], count: u64) -> Result<u64, LineFault>
 /// its marker holds; and the count itself, or 1 where it is 0, for a line that is empty or a comment. There is
 /// one number more than there are line feeds.
 ///
-/// A line is read up to the end of its name alone (PEP 508, "Names"). The fault is that of input 1, for the first
-/// line that is too long, 57 with 38, isn't UTF-8, 57 with 51, or begins with no name, 57 with 37 or 31; or it is 60.
+/// A line is read up to the end of its name alone (PEP 508, "Names"), and a list may be of any size. The fault is
+/// that of input 1, for the first line that is too long, 57 with 38, isn't UTF-8, 57 with 51, or begins with no name,
+/// 57 with 37 or 31; or it is 60.
 pub fn shards_of(alloc: Global, bytes: &[u8], count: u64) -> Result<Vec<u64>, Fault>
     ensures shards { IfOk result (λ shards. AreShards count bytes.now shards.items) }
     ensures refused { IfErr result (λ fault. (fault ≡ no_memory)
-        ⊎ ((fault.place ≡ Place.Input 1) × IsRefusedList bytes.now fault.cause)) }
+        ⊎ ((fault.place ≡ Place.Input 1) × HasNoShards bytes.now fault.cause)) }
 {
     let mut shards = Vec::new(alloc);
     let mut number: u64 = 0;

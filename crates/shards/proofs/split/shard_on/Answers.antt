@@ -2,11 +2,12 @@ use Rattle.std.proofs.Common.{inr}
 use Rattle.std.proofs.lemmas.Result.{err_from_is_err_and}
 use Rattle.pep_require.proofs.Exits.{handed_on}
 use Rattle.shards.proofs.SplitLines.{start_fault}
+use Rattle.shards.specs.Shards.{no_line}
 use Rattle.shards.proofs.split.shard_on.Goals as goal
 
 pub returns-in_err-found-clause-refused : goal.returns-in_err-found-clause-refused
 returns-in_err-found-clause-refused c =
-    handed_on _ c.from_residual.result _ c.from_residual.ensures.1 (inr c.in_err-found.ensures.refused)
+    handed_on _ c.from_residual.result _ c.from_residual.ensures.1 (inr (no_line c.in_err-found.ensures.refused))
 
 pub returns-in_err-start-clause-refused : goal.returns-in_err-start-clause-refused
 returns-in_err-start-clause-refused c =
