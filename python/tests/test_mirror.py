@@ -82,8 +82,16 @@ class Shards(unittest.TestCase):
         # (what stands behind a name is read when shards are merged)
         self.assertEqual(split(b"a<\nA[", 1), [b"a<\nA[\n"])
 
+    def test_lists_that_are_too_large_to_merge(self) -> None:
+        comments = (b"#" + b" " * 65_000 + b"\n") * 260
+        self.assertGreater(len(comments), 1 << 24)
+        self.assertEqual(split(comments + b"a\n", 1), [b"a\n"])
+        with self.assertRaises(Refused) as caught:
+            split(comments + b"<\n", 1)
+        self.assertEqual((caught.exception.line, caught.exception.codes), (261, (57, 31)))
+
     def test_refusals(self) -> None:
-        rows = [(b"a\n\n# b\n<c", 4, (57, 31)), (b"-r a.txt\n", 1, (57, 37)), (b"a\n# \xff", 2, (57, 51)), (b"a\n#" + b" " * 65_536, 2, (57, 38))]
+        rows = [(b"a\n\n# b\n<c", 4, (57, 31)), (b"-r a.txt\n", 1, (57, 37)), (b"a<\n!\n--pre\n\xff", 2, (57, 31)), (b"a\n# \xff", 2, (57, 51)), (b"a\n#" + b" " * 65_536, 2, (57, 38))]
         for text, line, codes in rows:
             with self.subTest(text[:10]), self.assertRaises(Refused) as caught:
                 split(text, 3)

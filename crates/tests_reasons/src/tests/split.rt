@@ -7,7 +7,7 @@ use std::alloc::Global;
 use std::test::Fail;
 
 // A list, the count of shards, and the shards of its lines.
-const ROWS: [(&str, u64, &str); 7] = [
+const ROWS: [(&str, u64, &str); 8] = [
     ("Flask>=2\n# why\nflask ; os_name=='nt'\nb", 4, "3 4 3 2"),
     ("", 3, "3"),
     ("a\n", 0, "0 1"),
@@ -15,6 +15,7 @@ const ROWS: [(&str, u64, &str); 7] = [
     ("Requests_OAuthlib", 1_000, "275"),
     ("flask\n>=1", 2, "refused input 1 line 2 code 57 31\n"),
     ("flask\n\n--pre", 2, "refused input 1 line 3 code 57 37\n"),
+    ("flask<\n!\n--pre", 2, "refused input 1 line 2 code 57 31\n"),
 ];
 
 // The numbers with a space between two.
