@@ -184,6 +184,11 @@ static void ranges_markers_and_shards(void)
     show("ranges", tubrambutan_ranges(BYTES(">=1,!=1.5.*,<2"), room, sizeof room), room);
     show("ranges", tubrambutan_ranges(BYTES("<1,>2"), room, sizeof room), room);
     show("ranges", tubrambutan_ranges(BYTES("2"), room, sizeof room), room);
+    show("within", tubrambutan_within(BYTES("~=1.5,!=1.6"), BYTES(">=1,<2"), room, sizeof room), room);
+    show("within", tubrambutan_within(BYTES(">=1,<2"), BYTES("~=1.5"), room, sizeof room), room);
+    show("within", tubrambutan_within(BYTES("===1.0"), BYTES(">=1,===1.0"), room, sizeof room), room);
+    show("within", tubrambutan_within(BYTES("==1.0"), BYTES("===1.0"), room, sizeof room), room);
+    show("within", tubrambutan_within(BYTES(">=1"), BYTES("1"), room, sizeof room), room);
     show("judge", tubrambutan_judge(BYTES(ENVIRONMENT), BYTES("python_version < '3.10'"), room, sizeof room), room);
     show("judge", tubrambutan_judge(BYTES(ENVIRONMENT), BYTES("os_name == 'nt'"), room, sizeof room), room);
     show("judge", tubrambutan_judge(BYTES(ENVIRONMENT), BYTES("os_name"), room, sizeof room), room);

@@ -148,13 +148,18 @@ tubrambutan_reply tubrambutan_admits_each(const uint8_t *clauses, size_t clauses
  * tubrambutan_clauses. */
 tubrambutan_reply tubrambutan_ranges(const uint8_t *clauses, size_t clauses_size, uint8_t *room, size_t room_size);
 
+/* Whether each version that all of such clauses admit, all of the others admit too: 1 for yes, 0 for no. Those with "===" count as the rest. A
+ * refusal is as of tubrambutan_clauses, and of the others it names line 1 of input 2. */
+tubrambutan_reply tubrambutan_within(const uint8_t *clauses, size_t clauses_size, const uint8_t *others, size_t others_size,
+                                     uint8_t *room, size_t room_size);
+
 /* Whether a marker holds in the environment of a file with these bytes (PEP 508, "Environment Markers"): 1 for yes, 0 for no. A refusal of
  * the marker names it as line 1 of input 1. */
 tubrambutan_reply tubrambutan_judge(const uint8_t *environment, size_t environment_size, const uint8_t *marker, size_t marker_size,
                                     uint8_t *room, size_t room_size);
 
 /* The shard of each line of a list, among so many shards: a number from 0, the same for all lines with one name, on each machine, whether or
- * not their markers hold. An empty line or a comment has the count itself. A count of 0 stands for 1. What stands behind a name isn't read. The size of the reply counts the numbers,
+ * not their markers hold. An empty line or a comment has the count itself. A count of 0 stands for 1. What stands behind a name isn't read, and the list may be of any size. The size of the reply counts the numbers,
  * one more than there are line feeds, and they go out if there is room for as many. The line of a refusal goes into the other room. */
 tubrambutan_reply tubrambutan_split(const uint8_t *bytes, size_t byte_count, uint64_t count, uint64_t *numbers, size_t number_count,
                                     uint8_t *room, size_t room_size);

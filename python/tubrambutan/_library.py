@@ -70,6 +70,7 @@ _admits = _export("tubrambutan_admits", *_BYTES, *_BYTES)
 _clauses = _export("tubrambutan_clauses", *_BYTES)
 _admits_each = _export("tubrambutan_admits_each", *_BYTES, *_BYTES)
 _ranges = _export("tubrambutan_ranges", *_BYTES)
+_within = _export("tubrambutan_within", *_BYTES, *_BYTES)
 _judge = _export("tubrambutan_judge", *_BYTES, *_BYTES)
 _key = _export("tubrambutan_key", *_BYTES)
 _keys = _export("tubrambutan_keys", *_BYTES)
@@ -197,6 +198,11 @@ def admits_each(clauses: bytes, versions: Sequence[str]) -> bytes:
 def range_texts(clauses: bytes) -> list[str]:
     """Returns the ranges of the versions that all clauses between commas admit but those with `===`, as `before 1 to end`."""
     return _text(_ranges, _SIZE, clauses, len(clauses)).split("\n")[:-1]
+
+
+def clauses_within(clauses: bytes, others: bytes) -> bool:
+    """Returns whether each version that all clauses between commas admit, all of the others admit too."""
+    return _answer(_within, clauses, len(clauses), others, len(others)) == 1
 
 
 def marker_holds(environment: bytes, marker: bytes) -> bool:

@@ -188,13 +188,7 @@ class SpecifierSet:
         """Returns whether the other set admits every version that this one admits, pre-releases too."""
         if not isinstance(other, SpecifierSet):
             return NotImplemented
-        if self.is_empty():
-            return True
-        text = self._demanded()
-        if text is not None:
-            return other._admits_text(text)
-        # (a range that isn't empty has more versions than one)
-        return other._demanded() is None and _ranges_of((*self._clauses, *other._clauses)) == self.ranges
+        return _library.clauses_within(encoded(str(self)), encoded(str(other)))
 
     def __ge__(self, other: SpecifierSet) -> bool:
         return other <= self if isinstance(other, SpecifierSet) else NotImplemented

@@ -3,7 +3,6 @@ use Rattle.std.proofs.Common.{◌≡◌, ◌⊎◌, ℕ, List, inl, inr, refl}
 use Rattle.pep_marker.specs.Environment.{EnvironmentParts}
 use Rattle.pep_marker.specs.Judged.{RefusesText}
 use Rattle.pep_marker.specs.declared.fault.MarkerFault.{MarkerFault}
-use Rattle.pep_marker.specs.declared.fault.MarkerFault.TheVariants as marker
 use Rattle.faults.specs.NoMemory.{no_memory}
 use Rattle.pep_c.specs.Judging.{RefusesMarker, marker_fault, no_marker, undefined_marker}
 

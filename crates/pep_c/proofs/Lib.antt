@@ -7,4 +7,5 @@ pub mod PartLemmas
 pub mod QuestionLemmas
 pub mod RangeLemmas
 pub mod RefusedLines
+pub mod WithinLemmas
 mod Witnesses

@@ -1,7 +1,6 @@
 -- The ranges of clauses: none, one, and those of two lists together.
-use Rattle.std.proofs.Common.{◌≡◌, ◌∙◌, ◌&&◌, ◌||◌, ◌++◌, ℕ, List, [], ◌∷◌, Option, Some, None, Result, Ok, Err, IfOk, IsSome, IsTrue}
-use Rattle.std.proofs.Common.{is_some, true, ap, refl, sym}
-use Rattle.std.specs.List.{list_all}
+use Rattle.std.proofs.Common.{◌≡◌, ◌∙◌, ◌&&◌, ◌||◌, ◌++◌, ℕ, List, [], ◌∷◌, Option, Some, None, Result, Ok, Err, IfOk, IsSome}
+use Rattle.std.proofs.Common.{is_some, refl, sym}
 use Rattle.std.proofs.lemmas.List.Folds.{list_all-append}
 use Rattle.texts.proofs.Connectives.{and-true}
 use Rattle.pep_version.specs.Version.{IsVersion, Version}

@@ -13,3 +13,4 @@ pub mod Room
 pub mod Split
 pub mod Versions
 pub mod Why
+pub mod Within

@@ -75,8 +75,12 @@ fn clause_lines(alloc: Global, bytes: &[u8]) -> Result<String, Fault>
     }
 }
 
-// Whether all clauses admit the version.
-fn admits_all(alloc: Global, clauses: &[Clause], version: &Version) -> Result<bool, AllocError>
+/// Whether all clauses admit the version.
+pub(crate) fn admits_all(
+    alloc: Global,
+    clauses: &[Clause],
+    version: &Version,
+) -> Result<bool, AllocError>
     ensures { IfOk result (λ b. b ≡ list_all (λ c. admits c version.now) clauses.now) }
 {
     for clause in clauses {

@@ -21,6 +21,7 @@ mod requirements;
 mod split;
 mod versions;
 mod why;
+mod within;
 
 pub use crate::clause_lists::{tubrambutan_admits_each, tubrambutan_clauses};
 pub use crate::judging::tubrambutan_judge;
@@ -35,3 +36,4 @@ pub use crate::requirements::{tubrambutan_requirement, tubrambutan_requirement_p
 pub use crate::split::tubrambutan_split;
 pub use crate::versions::{tubrambutan_admits, tubrambutan_compare, tubrambutan_version};
 pub use crate::why::{tubrambutan_clashes, tubrambutan_why};
+pub use crate::within::tubrambutan_within;

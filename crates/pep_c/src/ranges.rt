@@ -16,8 +16,8 @@ use pep_clause::{Range, VersionSet};
 use specifiers::{Clause, ClauseFault};
 use std::alloc::Global;
 
-// The versions that the clauses other than those with `===` admit: by halves, so that many clauses take few sweeps.
-fn set_of(alloc: Global, clauses: &[Clause]) -> Result<VersionSet, ClauseFault>
+/// The versions that the clauses other than those with `===` admit: by halves, so that many clauses take few sweeps.
+pub(crate) fn set_of(alloc: Global, clauses: &[Clause]) -> Result<VersionSet, ClauseFault>
     ensures { IfOk result (IsSetOfClauses clauses.now) }
 {
     let Some((clause, others)) = clauses.split_first() else {
