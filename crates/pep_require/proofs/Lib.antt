@@ -14,4 +14,5 @@ pub mod TargetLaws
 pub mod LineLaws
 pub mod TextLemmas
 pub mod RequirementTexts
+pub mod CommonUrls
 mod Witnesses

@@ -2,6 +2,7 @@
 
 ghost use Rattle.std.specs.Prelude.{◌≡◌, ◌≢◌, ◌≤◌, ℕ, List, length};
 ghost use Rattle.pep_require.specs.Code.{IsSameFault};
+ghost use Rattle.pep_require.specs.CommonUrl.{IsCommonUrl, IsOwnText};
 ghost use Rattle.pep_require.specs.LineParts.{RefusesLine};
 ghost use Rattle.pep_require.specs.Reads.{Reads};
 ghost use Rattle.texts.specs.Limits.{line_limit};
@@ -10,6 +11,12 @@ ghost use Rattle.pep_require.specs.RequirementText.{requirement_text};
 
 use crate::fault::RequireFault;
 use specifiers::laws;
+
+/// A URL of the common form is a URL, by the crate `url`, and printed as it is written: `http://` or `https://`, a host
+/// in lower case whose last label begins with a letter, and a path, a query and a fragment in which nothing is escaped.
+pub fn common_url_is_its_text()
+    ensures { (x : List ℕ) → IsCommonUrl x → IsOwnText x }
+{}
 
 /// A line is read as at most one requirement (PEP 508, "Grammar").
 pub fn one_requirement()

@@ -2,6 +2,7 @@
 #![tactic(auto)]
 
 mod clauses;
+mod common_url;
 mod extras;
 mod fault;
 mod front;

@@ -1,11 +1,13 @@
 ghost use Rattle.std.specs.Prelude.{◌≡◌, ◌⊎◌, ◌<◌, length, nat_lt, IfOk, IfErr, IsTrue};
 ghost use Rattle.std.specs.List.{list_all};
+ghost use Rattle.pep_require.specs.CommonUrl.{IsCommonUrl};
 ghost use Rattle.pep_require.specs.LineParts.{RefusesWritten};
 ghost use Rattle.pep_require.specs.Reads.{ReadsUrl, is_url_byte};
 ghost use Rattle.pep_require.specs.Requirement.{UrlParts};
 
+use crate::common_url::is_common;
 use crate::fault::RequireFault;
-use std::alloc::Global;
+use std::alloc::{AllocError, Global};
 use std::marker::Model;
 use url::{ParseError, Url};
 
@@ -14,7 +16,8 @@ use url::{ParseError, Url};
 #[derive(Drop)]
 pub struct UrlText {
     written: String,
-    text: String,
+    // If it is another.
+    text: Option<String>,
 }
 
 impl Model for UrlText {
@@ -22,13 +25,17 @@ impl Model for UrlText {
     ghost use Rattle.std.specs.List.{list_all};
     ghost use Rattle.pep_require.specs.Reads.{is_url_byte};
     ghost use Rattle.pep_require.specs.Requirement.{UrlParts};
+    ghost use Rattle.pep_require.specs.CommonUrl.{kept_text};
 
     ghost Value = { UrlParts };
 
-    ghost view = { λ u. record { written = string_bytes u.written; text = string_bytes u.text } };
+    ghost view = { λ u. record {
+      written = string_bytes u.written;
+      text = kept_text u.text u.written;
+    } };
 
-    ghost invariant = { λ u. (0 < length (string_bytes u.text))
-        × IsTrue (list_all is_url_byte (string_bytes u.text)) };
+    ghost invariant = { λ u. (0 < length (kept_text u.text u.written))
+        × IsTrue (list_all is_url_byte (kept_text u.text u.written)) };
 }
 
 fn is_run(text: &str) -> bool
@@ -55,6 +62,9 @@ impl UrlText {
         ensures refused { IfErr result (λ e. (e ≡ RequireFault.NoMemory)
             ⊎ RefusesWritten written.now e) }
     {
+        if is_common(written) {
+            return Ok(UrlText::common(alloc, written)?);
+        }
         if !is_run(written) {
             return Err(RequireFault::BadUrl);
         }
@@ -70,7 +80,18 @@ impl UrlText {
         }
         Ok(UrlText {
             written: String::from_str(alloc, written)?,
-            text: String::from_str(alloc, text)?,
+            text: Some(String::from_str(alloc, text)?),
+        })
+    }
+
+    // A URL of the common form, which is printed as it is written.
+    fn common(alloc: Global, written: &str) -> Result<UrlText, AllocError>
+        requires { IsCommonUrl written.now }
+        ensures { IfOk result (λ u. ReadsUrl written.now u) }
+    {
+        Ok(UrlText {
+            written: String::from_str(alloc, written)?,
+            text: None,
         })
     }
 
@@ -87,6 +108,9 @@ impl UrlText {
         ensures some { 0 < length self.now.text }
         ensures bytes { IsTrue (list_all is_url_byte self.now.text) }
     {
-        self.text.as_str()
+        match &self.text {
+            Some(text) => text.as_str(),
+            None => self.written(),
+        }
     }
 }
