@@ -13,6 +13,8 @@ pub mod TakenClaims
 pub mod PickedClaims
 pub mod ClashSteps
 pub mod ClashViews
+pub mod PointOrder
+pub mod ApartClaims
 pub mod AskedNames
 pub mod AskedClaims
 pub mod FoundClaims

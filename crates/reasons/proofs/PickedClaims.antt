@@ -1,11 +1,11 @@
 -- Claims at indices, and indices that are picked from others.
 use Rattle.std.proofs.Common.{◌≡◌, ℕ, zero, suc, ◌+◌, ◌<◌, ◌≤◌, List, [], ◌∷◌, ◌++◌}
 use Rattle.std.proofs.Common.{arith, length, take, refl, sym, ap, subst, ◌∙◌, inl, inr}
-use Rattle.std.specs.Prelude.{Contains, slice_index_or}
+use Rattle.std.specs.Prelude.{All, Contains, slice_index_or}
 use Rattle.std.proofs.Math.Seq.{take-length}
 use Rattle.std.proofs.lemmas.List.{map-append}
 use Rattle.std.proofs.lemmas.List.Elements.{All-append, All-cons, All-contains, All-contains_itself}
-use Rattle.std.proofs.lemmas.List.Elements.{All-nil, Contains-append_cases, Contains-append_left}
+use Rattle.std.proofs.lemmas.List.Elements.{All-nil, All-push, All-weaker, Contains-append_cases, Contains-append_left}
 use Rattle.std.proofs.lemmas.List.Elements.{Contains-append_right}
 use Rattle.pep_require.proofs.Members.{in_either, in_first, in_none, in_rest}
 use Rattle.reasons.proofs.ClaimOrder.{first_before, rest_in_order}
@@ -188,3 +188,21 @@ at_in_order ps o n (k ∷ j ∷ ks) r h =
       before_at ps o k j (omega (arith, less)) (first_within ps j ks rest),
       at_in_order ps o (k + 1) (j ∷ ks) r.1 rest,
     )
+
+-- ---- indices that are taken one after the other, if they rise
+
+pub record RisenTo (ps : List PlacedParts) (few : List ℕ) (next : ℕ) : Type 0 where
+  pub within : AreWithin ps few
+  pub rising : RiseFrom 0 few
+  pub below : All (λ k. k < next) few
+
+pub risen_none : (ps : List PlacedParts) → RisenTo ps [] 0
+risen_none ps = record { within = All-nil _; rising = tt; below = All-nil _ }
+
+pub risen_more : (ps : List PlacedParts) (few : List ℕ) (next k : ℕ) → RisenTo ps few next → next ≤ k →
+    k < length ps → RisenTo ps (few ++ k ∷ []) (k + 1)
+risen_more ps few next k h le lt = record {
+  within = All-push (λ i. i < length ps) few k h.within lt;
+  rising = rise_more 0 k few h.rising (λ j m. let below = All-contains (λ i. i < next) few j h.below m in omega (arith, le, below)) (omega arith);
+  below = All-push (λ i. i < k + 1) few k (All-weaker (λ i. i < next) (λ i. i < k + 1) (λ i below. omega (arith, le, below)) few h.below) (omega arith);
+}

@@ -42,7 +42,7 @@ weighed_entry Q e h = record {
 
 -- ---- verdicts
 
-meets_weighed : (Q : Demand → Type 0) (v : Version) → MeetsAll (Weighed Q) v → MeetsAll Q v
+pub meets_weighed : (Q : Demand → Type 0) (v : Version) → MeetsAll (Weighed Q) v → MeetsAll Q v
 meets_weighed Q v f presence q = tt
 meets_weighed Q v f (extra x) q = tt
 meets_weighed Q v f (url u) q = tt

@@ -5,5 +5,6 @@ pub mod View
 pub mod Asked
 pub mod ClaimSearch
 pub mod ClashSearch
+pub mod Apart
 pub mod ReasonText
 pub mod ReasonSearch

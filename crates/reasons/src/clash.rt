@@ -10,17 +10,19 @@
 //!
 //! Two claims that clash by the bounds of their versions are tried first, if these bounds are places.
 
-ghost use Rattle.std.specs.Prelude.{◌≡◌, ◌++◌, IfErr, IfOk, List, [], map};
+ghost use Rattle.std.specs.Prelude.{◌≡◌, ◌++◌, IfErr, IfOk, IsTrue, List, [], length, map};
 ghost use Rattle.demands.specs.Gathering.{bare_entry};
 ghost use Rattle.demands.specs.Join.{JoinsEntries};
 ghost use Rattle.demands.specs.Table.{IsValidEntry};
 ghost use Rattle.demands.specs.Verdict.{IsVerdict};
 ghost use Rattle.faults.specs.NoMemory.{no_memory};
+ghost use Rattle.reasons.specs.Apart.{AreApart, AreRising};
 ghost use Rattle.reasons.specs.Claims.{AreAmong, AreInOrder, Claimed, PlacedParts};
 ghost use Rattle.reasons.specs.Clash.{IsPartThatClashes};
 ghost use Rattle.reasons.specs.ClashSearch.{
   AreEnough,
   AreFound,
+  AreNeeded,
   ArePicked,
   AreWithin,
   Clashing,
@@ -35,8 +37,9 @@ ghost use Rattle.reasons.specs.ClashSearch.{
 };
 ghost use Rattle.reasons.specs.View.{claim_parts, claims_at, placed_parts};
 
+use crate::apart::{Point, is_apart, sort_points, turns_of};
 use crate::claims::{Claim, PlacedClaim};
-use crate::likely::narrowest;
+use crate::likely::{Hint, covered, demands_text, narrowest, urls_apart};
 use demands::{Entry, PackageDemands, Sorted, TableFault, Verdict};
 use faults::Fault;
 use pep_marker::Name;
@@ -183,38 +186,124 @@ impl Trial<'_> {
         Ok(found)
     }
 
-    // The indices of a few claims that may be enough. No clause says that they are.
-    fn likely(&self) -> Result<Vec<usize>, TableFault>
+    // A claim that demands a text, and one that doesn't admit the version of it, if there are any. No clause says that
+    // they clash.
+    fn text_pair(&self, nothing: &Entry) -> Result<Option<(usize, usize)>, TableFault> {
+        let Some(first) = self
+            .claims
+            .iter()
+            .position(|placed| demands_text(&placed.claim))
+        else {
+            return Ok(None);
+        };
+        let entry = self.with_more(nothing, &[first])?;
+        for index in 0..self.claims.len() {
+            let both = self.with_more(&entry, &[index])?;
+            if both.verdict(self.alloc)? == self.verdict {
+                return Ok(Some((first, index)));
+            }
+        }
+        Ok(None)
+    }
+
+    // A few claims that may be enough, and points. No clause says that they are.
+    fn hint(&self, nothing: &Entry) -> Result<Hint, TableFault> {
+        if self.verdict == Verdict::Conflict {
+            return match urls_apart(self.claims) {
+                Some(pair) => Ok(Hint::of_pair(self.alloc, pair)?),
+                None => Ok(Hint::of_pair(self.alloc, (0, 0))?),
+            };
+        }
+        if let Some(pair) = self.text_pair(nothing)? {
+            return Ok(Hint::of_pair(self.alloc, pair)?);
+        }
+        if let Some(pair) = narrowest(self.claims) {
+            return Ok(Hint::of_pair(self.alloc, pair)?);
+        }
+        match covered(self.alloc, self.claims) {
+            Ok(hint) => Ok(hint),
+            Err(_) => Err(TableFault::NoMemory),
+        }
+    }
+
+    // Those of the indices that are within the claims, where each is above those before it.
+    fn rising(&self, hinted: &[usize]) -> Result<Vec<usize>, TableFault>
         ensures within { IfOk result (λ few.
             AreWithin (map placed_parts self.now.claims.now) few.items) }
         ensures rising { IfOk result (λ few. RiseFrom 0 few.items) }
     {
         let mut few = Vec::new(self.alloc);
-        if self.claims.is_empty() {
-            return Ok(few);
-        }
-        let (first, last) = narrowest(self.claims);
-        few.push(first.min(last))?;
-        if first != last {
-            few.push(first.max(last))?;
+        let mut next = 0;
+        for &index in hinted {
+            if index < next || index >= self.claims.len() {
+                continue;
+            }
+            few.push(index)?;
+            next = index + 1;
         }
         Ok(few)
     }
 
-    // The indices of claims that are enough: a few, or all. The entry stands for no claim.
-    fn enough(&self, nothing: &Entry) -> Result<Vec<usize>, TableFault>
+    // The indices of claims that are enough: those that are hinted at, or all. The entry stands for no claim.
+    fn enough(&self, nothing: &Entry, hinted: &[usize]) -> Result<Vec<usize>, TableFault>
         requires nothing { StandsFor self.now.name.now [] nothing.now }
         requires verdict { IsVerdict (Claimed (map placed_parts self.now.claims.now)
             self.now.name.now) self.now.verdict }
         ensures { IfOk result (λ picked. AreEnough self.now.name.now self.now.verdict
             (map placed_parts self.now.claims.now) picked.items) }
     {
-        let few = self.likely()?;
+        let few = self.rising(hinted)?;
         let demanded = self.with_more(nothing, few.as_slice())?;
         if self.is_enough(&demanded)? {
             return Ok(few);
         }
         indices_below(self.alloc, self.claims.len())
+    }
+
+    // Whether each of the claims at these indices stands apart, by points that are sorted.
+    fn are_apart(
+        &self,
+        nothing: &Entry,
+        picked: &[usize],
+        points: &[Point],
+        turns: &[usize],
+    ) -> Result<bool, TableFault>
+        requires nothing { StandsFor self.now.name.now [] nothing.now }
+        requires within { AreWithin (map placed_parts self.now.claims.now) picked.now }
+        requires rising { AreRising points.now }
+        ensures { IfOk result (λ b. IsTrue b → AreApart self.now.name.now
+            (claims_at (map placed_parts self.now.claims.now) picked.now) points.now
+            (length picked.now)) }
+    {
+        for (own, &index) in picked.iter().enumerate() {
+            let entry = self.with_more(nothing, &[index])?;
+            let at = turns.get(own).copied().unwrap_or(0);
+            if !is_apart(&entry, points, at, own) {
+                return Ok(false);
+            }
+        }
+        Ok(true)
+    }
+
+    // Whether the points tell that each of the claims at these indices is needed.
+    fn are_needed(
+        &self,
+        nothing: &Entry,
+        picked: &[usize],
+        points: Vec<Point>,
+    ) -> Result<bool, TableFault>
+        requires nothing { StandsFor self.now.name.now [] nothing.now }
+        requires within { AreWithin (map placed_parts self.now.claims.now) picked.now }
+        ensures { IfOk result (λ b. IsTrue b → AreNeeded self.now.name.now self.now.verdict []
+            (claims_at (map placed_parts self.now.claims.now) picked.now)) }
+    {
+        if self.verdict != Verdict::Nothing {
+            return Ok(false);
+        }
+        let mut points = points;
+        sort_points(&mut points);
+        let turns = turns_of(self.alloc, points.as_slice(), picked.len())?;
+        self.are_apart(nothing, picked, points.as_slice(), turns.as_slice())
     }
 
     // The indices of claims that clash.
@@ -225,7 +314,11 @@ impl Trial<'_> {
             (map placed_parts self.now.claims.now) found.items) }
     {
         let nothing = PackageDemands::bare().entry(self.alloc)?;
-        let picked = self.enough(&nothing)?;
+        let Hint { few, points } = self.hint(&nothing)?;
+        let picked = self.enough(&nothing, few.as_slice())?;
+        if self.are_needed(&nothing, picked.as_slice(), points)? {
+            return Ok(picked);
+        }
         let found = self.needed(&nothing, picked.as_slice())?;
         Ok(found)
     }

@@ -1,9 +1,12 @@
 //! Why packages have their verdicts: who demands what, and which of these demands clash.
 #![tactic(auto)]
 
+mod apart;
 mod asked;
 mod claims;
 mod clash;
+mod cover;
+mod ends;
 mod entered;
 pub mod laws;
 mod likely;

@@ -2,10 +2,32 @@
 
 ghost use Rattle.std.specs.Prelude.{◌<◌, length};
 
+use crate::apart::Point;
 use crate::claims::{Claim, PlacedClaim};
-use pep_clause::Clause;
+use crate::cover::covering;
+use crate::ends::{Ends, Numbered, Standing, push_cuts, push_others, push_places};
+use pep_clause::{Clause, ClauseFault, Cut, Op};
 use pep_require::Target;
 use places::{Bounds, Place};
+use std::alloc::{AllocError, Global};
+
+/// A few claims that may clash by themselves, by their indices, and points that each of them may leave out alone.
+#[derive(Drop)]
+pub(crate) struct Hint {
+    pub(crate) few: Vec<usize>,
+    pub(crate) points: Vec<Point>,
+}
+
+impl Hint {
+    /// Two claims, or one twice, and no points.
+    pub(crate) fn of_pair(alloc: Global, pair: (usize, usize)) -> Result<Hint, AllocError> {
+        let few = vec![in alloc; pair.0.min(pair.1), pair.0.max(pair.1)]?;
+        Ok(Hint {
+            few,
+            points: Vec::new(alloc),
+        })
+    }
+}
 
 // Between which places versions lie that all clauses admit, as far as places tell.
 fn between(clauses: &[Clause]) -> Bounds {
@@ -40,13 +62,9 @@ fn bounds_of(claim: &Claim) -> Bounds {
     }
 }
 
-/// The claim whose versions begin last, and the one whose versions end first, by their indices: one that admits no
-/// version by itself is both.
-pub(crate) fn narrowest(claims: &[PlacedClaim]) -> (usize, usize)
-    requires some { 0 < length claims.now }
-    ensures first { result.0 < length claims.now }
-    ensures last { result.1 < length claims.now }
-{
+/// The claim whose versions begin last, and the one whose versions end first, by their indices, where no version is
+/// between them: one that admits no version by itself is both.
+pub(crate) fn narrowest(claims: &[PlacedClaim]) -> Option<(usize, usize)> {
     let mut first = 0;
     let mut last = 0;
     let mut low = Place::least();
@@ -54,7 +72,7 @@ pub(crate) fn narrowest(claims: &[PlacedClaim]) -> (usize, usize)
     for (index, placed) in claims.iter().enumerate() {
         let own = bounds_of(&placed.claim);
         if own.low >= own.high {
-            return (index, index);
+            return Some((index, index));
         }
         if own.low > low {
             low = own.low;
@@ -65,5 +83,142 @@ pub(crate) fn narrowest(claims: &[PlacedClaim]) -> (usize, usize)
             last = index;
         }
     }
-    (first, last)
+    if low >= high {
+        Some((first, last))
+    } else {
+        None
+    }
+}
+
+// The text of the first URL that the claim demands.
+fn url_of(claim: &Claim) -> Option<&str> {
+    match claim {
+        Claim::Required(requirement) => match requirement.target() {
+            Target::Direct(url) => Some(url.text()),
+            Target::Bounds(_) => None,
+        },
+        Claim::Entered(_, entry) => Some(entry.urls().items().first()?.as_str()),
+    }
+}
+
+// Whether the claim demands two URLs.
+fn has_two_urls(claim: &Claim) -> bool {
+    match claim {
+        Claim::Required(_) => false,
+        Claim::Entered(_, entry) => entry.urls().items().len() > 1,
+    }
+}
+
+/// A claim that demands two URLs, or two claims with different ones, by their indices.
+pub(crate) fn urls_apart(claims: &[PlacedClaim]) -> Option<(usize, usize)> {
+    let mut first = None;
+    for (index, placed) in claims.iter().enumerate() {
+        if has_two_urls(&placed.claim) {
+            return Some((index, index));
+        }
+        let Some(url) = url_of(&placed.claim) else {
+            continue;
+        };
+        match first {
+            Some((other, text)) => {
+                if text != url {
+                    return Some((other, index));
+                }
+            }
+            None => first = Some((index, url)),
+        }
+    }
+    None
+}
+
+/// Whether the claim demands the text of a version.
+pub(crate) fn demands_text(claim: &Claim) -> bool {
+    match claim {
+        Claim::Required(requirement) => match requirement.target() {
+            Target::Bounds(clauses) => clauses.iter().any(|clause| clause.op() == Op::Exact),
+            Target::Direct(_) => false,
+        },
+        Claim::Entered(_, entry) => !entry.texts().items().is_empty(),
+    }
+}
+
+// ---- a cover of all versions by what claims leave out
+
+fn push_claim_places(
+    ends: &mut Ends<Place>,
+    index: usize,
+    claim: &Claim,
+) -> Result<(), AllocError> {
+    if let Claim::Required(requirement) = claim {
+        if let Target::Bounds(clauses) = requirement.target() {
+            for clause in clauses {
+                push_places(ends, index, clause)?;
+            }
+        }
+    }
+    Ok(())
+}
+
+// What the claims leave out between places.
+fn between_places(alloc: Global, claims: &[PlacedClaim]) -> Result<Numbered<Place>, ClauseFault> {
+    let mut ends = Ends::none(alloc);
+    for (index, placed) in claims.iter().enumerate() {
+        push_claim_places(&mut ends, index, &placed.claim)?;
+    }
+    Ok(ends.numbered(alloc, Place::least(), Place::end())?)
+}
+
+fn push_claim_cuts(
+    alloc: Global,
+    ends: &mut Ends<Cut>,
+    index: usize,
+    claim: &Claim,
+) -> Result<(), ClauseFault> {
+    match claim {
+        Claim::Required(requirement) => {
+            if let Target::Bounds(clauses) = requirement.target() {
+                for clause in clauses {
+                    push_cuts(alloc, ends, index, clause)?;
+                }
+            }
+            Ok(())
+        }
+        Claim::Entered(_, entry) => push_others(alloc, ends, index, entry.versions().ranges()),
+    }
+}
+
+// What the claims leave out between cuts.
+fn between_cuts(alloc: Global, claims: &[PlacedClaim]) -> Result<Numbered<Cut>, ClauseFault> {
+    let mut ends = Ends::none(alloc);
+    for (index, placed) in claims.iter().enumerate() {
+        push_claim_cuts(alloc, &mut ends, index, &placed.claim)?;
+    }
+    Ok(ends.numbered(alloc, Cut::least(alloc)?, Cut::end())?)
+}
+
+// The claims of a cover that are needed, and for each a point.
+fn hint_of<T: Standing>(
+    alloc: Global,
+    numbered: &Numbered<T>,
+    claims: usize,
+) -> Result<Hint, ClauseFault> {
+    let needed = covering(alloc, numbered.parts.as_slice(), numbered.last(), claims)?;
+    let mut few = Vec::new(alloc);
+    let mut points = Vec::new(alloc);
+    for (owner, one) in needed.iter().enumerate() {
+        few.push(one.claim)?;
+        if let Some(cut) = numbered.cut(alloc, one.at)? {
+            points.push(Point { cut, owner })?;
+        }
+    }
+    Ok(Hint { few, points })
+}
+
+/// Claims that leave out all versions together, none of which may be left away, where places or cuts tell.
+pub(crate) fn covered(alloc: Global, claims: &[PlacedClaim]) -> Result<Hint, ClauseFault> {
+    let hint = hint_of(alloc, &between_places(alloc, claims)?, claims.len())?;
+    if !hint.few.is_empty() {
+        return Ok(hint);
+    }
+    hint_of(alloc, &between_cuts(alloc, claims)?, claims.len())
 }

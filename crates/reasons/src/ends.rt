@@ -1,0 +1,212 @@
+//! What claims leave out, between cuts that are numbered in order.
+
+use crate::cover::Part;
+use pep_clause::{Clause, ClauseFault, Cut, Range, VersionSet};
+use places::{Bounds, Place};
+use std::alloc::{AllocError, Global};
+
+/// What stands for a cut.
+pub(crate) trait Standing: Ord + Drop {
+    /// The cut.
+    fn stands_for(&self, alloc: Global) -> Result<Cut, ClauseFault>;
+}
+
+impl Standing for Place {
+    fn stands_for(&self, alloc: Global) -> Result<Cut, ClauseFault> {
+        self.cut(alloc)
+    }
+}
+
+impl Standing for Cut {
+    fn stands_for(&self, alloc: Global) -> Result<Cut, ClauseFault> {
+        self.copied(alloc)
+    }
+}
+
+// Where a part begins or ends.
+#[derive(Drop)]
+struct End<T> {
+    cut: T,
+    part: usize,
+    is_high: bool,
+}
+
+/// What claims leave out, part by part, in the order of the claims.
+#[derive(Drop)]
+pub(crate) struct Ends<T> {
+    ends: Vec<End<T>>,
+    parts: Vec<Part>,
+}
+
+/// The same with the cuts by their numbers.
+#[derive(Drop)]
+pub(crate) struct Numbered<T> {
+    ends: Vec<End<T>>,
+    pub(crate) parts: Vec<Part>,
+    // For each cut one of the ends that stand there.
+    cuts: Vec<usize>,
+}
+
+impl<T: Standing> Ends<T> {
+    pub(crate) fn none(alloc: Global) -> Ends<T> {
+        Ends {
+            ends: Vec::new(alloc),
+            parts: Vec::new(alloc),
+        }
+    }
+
+    /// Puts what the claim leaves out between two cuts behind the others.
+    pub(crate) fn push(&mut self, claim: usize, low: T, high: T) -> Result<(), AllocError> {
+        if low >= high {
+            return Ok(());
+        }
+        let part = self.parts.len();
+        self.ends.push(End {
+            cut: low,
+            part,
+            is_high: false,
+        })?;
+        self.ends.push(End {
+            cut: high,
+            part,
+            is_high: true,
+        })?;
+        self.parts.push(Part {
+            claim,
+            low: 0,
+            high: 0,
+        })?;
+        Ok(())
+    }
+
+    // Puts a cut behind the others where nothing begins or ends.
+    fn push_cut(&mut self, cut: T) -> Result<(), AllocError> {
+        self.ends.push(End {
+            cut,
+            part: usize::MAX,
+            is_high: false,
+        })?;
+        Ok(())
+    }
+
+    /// The cuts by their numbers, of which the first and the last are to be these.
+    pub(crate) fn numbered(
+        self,
+        alloc: Global,
+        first: T,
+        last: T,
+    ) -> Result<Numbered<T>, AllocError> {
+        let mut all = self;
+        all.push_cut(first)?;
+        all.push_cut(last)?;
+        let Ends {
+            mut ends,
+            mut parts,
+        } = all;
+        ends.sort_unstable_by(|a, b| a.cut.cmp(&b.cut));
+        let cuts = number_parts(alloc, ends.as_slice(), parts.as_mut_slice())?;
+        Ok(Numbered { ends, parts, cuts })
+    }
+}
+
+// Whether the cut of the end is not that of the one before it.
+fn is_next<T: Ord>(ends: &[End<T>], index: usize) -> bool {
+    match (index.checked_sub(1), ends.get(index)) {
+        (Some(before), Some(end)) => match ends.get(before) {
+            Some(other) => other.cut != end.cut,
+            None => true,
+        },
+        _ => true,
+    }
+}
+
+fn number_end(parts: &mut [Part], part: usize, is_high: bool, number: usize) {
+    if let Some(part) = parts.get_mut(part) {
+        if is_high {
+            part.high = number;
+        } else {
+            part.low = number;
+        }
+    }
+}
+
+// Puts the numbers of cuts into the parts, whose ends are sorted. For each cut one of the ends that stand there.
+fn number_parts<T: Ord>(
+    alloc: Global,
+    ends: &[End<T>],
+    parts: &mut [Part],
+) -> Result<Vec<usize>, AllocError> {
+    let mut cuts = Vec::new(alloc);
+    for (index, end) in ends.iter().enumerate() {
+        if is_next(ends, index) {
+            cuts.push(index)?;
+        }
+        number_end(parts, end.part, end.is_high, cuts.len().saturating_sub(1));
+    }
+    Ok(cuts)
+}
+
+impl<T: Standing> Numbered<T> {
+    /// The number of the last cut.
+    pub(crate) fn last(&self) -> usize {
+        self.cuts.len().saturating_sub(1)
+    }
+
+    /// The cut with the number.
+    pub(crate) fn cut(&self, alloc: Global, number: usize) -> Result<Option<Cut>, ClauseFault> {
+        let Some(&index) = self.cuts.get(number) else {
+            return Ok(None);
+        };
+        match self.ends.get(index) {
+            Some(end) => Ok(Some(end.cut.stands_for(alloc)?)),
+            None => Ok(None),
+        }
+    }
+}
+
+// ---- between places
+
+/// Puts what the clause leaves out behind the rest, where places tell it.
+pub(crate) fn push_places(
+    ends: &mut Ends<Place>,
+    claim: usize,
+    clause: &Clause,
+) -> Result<(), AllocError> {
+    if let Some(admitted) = Bounds::of(clause) {
+        ends.push(claim, Place::least(), admitted.low)?;
+        return ends.push(claim, admitted.high, Place::end());
+    }
+    match Bounds::left_out(clause) {
+        Some(out) => ends.push(claim, out.low, out.high),
+        None => Ok(()),
+    }
+}
+
+// ---- between cuts
+
+/// Puts what is in none of the ranges behind the rest.
+pub(crate) fn push_others(
+    alloc: Global,
+    ends: &mut Ends<Cut>,
+    claim: usize,
+    ranges: &[Range],
+) -> Result<(), ClauseFault> {
+    let mut low = Cut::least(alloc)?;
+    for range in ranges {
+        ends.push(claim, low, range.low().copied(alloc)?)?;
+        low = range.high().copied(alloc)?;
+    }
+    ends.push(claim, low, Cut::end())?;
+    Ok(())
+}
+
+/// Puts what the clause leaves out behind the rest.
+pub(crate) fn push_cuts(
+    alloc: Global,
+    ends: &mut Ends<Cut>,
+    claim: usize,
+    clause: &Clause,
+) -> Result<(), ClauseFault> {
+    let versions = VersionSet::of(alloc, clause)?;
+    push_others(alloc, ends, claim, versions.ranges())
+}
