@@ -1,5 +1,6 @@
 -- Why edits are refused: at one input, what the turned body gives is not what the clause says.
-use Rattle.std.proofs.Common.{◌≡◌, List, ℕ, [], ◌∷◌, None, Some, ap, arith, codes, inl, inr, lit<, map, refl, subst, sym}
+use Rattle.std.proofs.Common.{◌≡◌, ◌∙◌, List, ℕ, [], ◌∷◌, None, Some, ap, arith, codes, inl, inr, lit<, map, refl, subst, sym}
+use Rattle.pep_clause.specs.Cut.{end}
 use Rattle.pep_require.proofs.Members.{in_either, in_none}
 use Rattle.pep_marker.specs.Environment.{EnvironmentParts}
 use Rattle.pep_require.specs.Requirement.{RequirementParts, bounds}
@@ -9,12 +10,14 @@ use Rattle.demands.specs.Gathering.{bare_entry}
 use Rattle.demands.specs.Table.{EntryDemands, EntryParts, TableDemands}
 use Rattle.demands.specs.Verdict.{IsVerdict}
 use Rattle.reasons.proofs.FoundClashes.{some_version}
+use Rattle.reasons.specs.Apart.{AreApart, HasOwn}
 use Rattle.reasons.specs.Asked.{AskedParts, with_claim}
 use Rattle.reasons.specs.Claims.{ClaimDemands, PlacedParts, entered}
 use Rattle.reasons.specs.ClaimSearch.{FindsApplying, FindsCounted}
 use Rattle.reasons.specs.Clash.{IsPartThatClashes}
 use Rattle.reasons.specs.ClashSearch.{AreEnough, IsLeast, StandsFor, without_extras}
 use Rattle.reasons.specs.ReasonSearch.{FindsClosed}
+use Rattle.reasons.specs.declared.apart.Point.{Point}
 
 abbrev with_url : List ℕ → EntryParts
 with_url u = record bare_entry { urls = u ∷ [] }
@@ -114,3 +117,15 @@ closed_package-open_ones_too h = h.1 refl
 pub verdict_on-nothing_demanded_is_none : ¬ IsVerdict (TableDemands [] (codes "a")) Nothing
 verdict_on-nothing_demanded_is_none h =
     h.1 some_version.0 some_version.1 (λ d q. let never : None ≡ Some q.0 = q.1 in cc never)
+
+-- a point of the first of two claims
+pub has_own-point_of_another : ¬ HasOwn (record { cut = end; owner = 0 } ∷ []) 1
+has_own-point_of_another h = elim (in_either (record { cut = end; owner = 0 }) [] h.0 h.1) [
+  | inl same ↦
+      let never : 0 ≡ 1 = ap (λ (p : Point). p.owner) same ∙ h.2 in absurd (omega (arith, never))
+  | inr more ↦ in_none h.0 more
+]
+
+-- a claim, and no points
+pub are_apart-without_the_last : ¬ AreApart (codes "a") (third_one ∷ []) [] 1
+are_apart-without_the_last h = let own = (h 0 (omega arith)).2.has in in_none own.0 own.1

@@ -10,7 +10,7 @@
 //!
 //! Two claims that clash by the bounds of their versions are tried first, if these bounds are places.
 
-ghost use Rattle.std.specs.Prelude.{◌≡◌, ◌++◌, IfErr, IfOk, IsTrue, List, [], length, map};
+ghost use Rattle.std.specs.Prelude.{◌≡◌, ◌<◌, ◌∷◌, ◌++◌, IfErr, IfOk, IsTrue, List, [], length, map};
 ghost use Rattle.demands.specs.Gathering.{bare_entry};
 ghost use Rattle.demands.specs.Join.{JoinsEntries};
 ghost use Rattle.demands.specs.Table.{IsValidEntry};
@@ -188,7 +188,7 @@ impl Trial<'_> {
 
     // A claim that demands a text, and one that doesn't admit the version of it, if there are any. No clause says that
     // they clash.
-    fn text_pair(&self, nothing: &Entry) -> Result<Option<(usize, usize)>, TableFault> {
+    fn text_pair(&self) -> Result<Option<(usize, usize)>, TableFault> {
         let Some(first) = self
             .claims
             .iter()
@@ -196,7 +196,7 @@ impl Trial<'_> {
         else {
             return Ok(None);
         };
-        let entry = self.with_more(nothing, &[first])?;
+        let entry = self.alone(first)?;
         for index in 0..self.claims.len() {
             let both = self.with_more(&entry, &[index])?;
             if both.verdict(self.alloc)? == self.verdict {
@@ -207,14 +207,14 @@ impl Trial<'_> {
     }
 
     // A few claims that may be enough, and points. No clause says that they are.
-    fn hint(&self, nothing: &Entry) -> Result<Hint, TableFault> {
+    fn hint(&self) -> Result<Hint, TableFault> {
         if self.verdict == Verdict::Conflict {
             return match urls_apart(self.claims) {
                 Some(pair) => Ok(Hint::of_pair(self.alloc, pair)?),
                 None => Ok(Hint::of_pair(self.alloc, (0, 0))?),
             };
         }
-        if let Some(pair) = self.text_pair(nothing)? {
+        if let Some(pair) = self.text_pair()? {
             return Ok(Hint::of_pair(self.alloc, pair)?);
         }
         if let Some(pair) = narrowest(self.claims) {
@@ -260,15 +260,24 @@ impl Trial<'_> {
         indices_below(self.alloc, self.claims.len())
     }
 
+    // What the claim at the index demands of the name.
+    fn alone(&self, index: usize) -> Result<Entry, TableFault>
+        requires { index < length self.now.claims.now }
+        ensures { IfOk result (StandsFor self.now.name.now
+            (claims_at (map placed_parts self.now.claims.now) (index ∷ []))) }
+    {
+        let claim = &self.claims[index].claim;
+        let demands = take_claim(self.alloc, PackageDemands::bare(), claim, self.name)?;
+        demands.entry(self.alloc)
+    }
+
     // Whether each of the claims at these indices stands apart, by points that are sorted.
     fn are_apart(
         &self,
-        nothing: &Entry,
         picked: &[usize],
         points: &[Point],
         turns: &[usize],
     ) -> Result<bool, TableFault>
-        requires nothing { StandsFor self.now.name.now [] nothing.now }
         requires within { AreWithin (map placed_parts self.now.claims.now) picked.now }
         requires rising { AreRising points.now }
         ensures { IfOk result (λ b. IsTrue b → AreApart self.now.name.now
@@ -276,7 +285,7 @@ impl Trial<'_> {
             (length picked.now)) }
     {
         for (own, &index) in picked.iter().enumerate() {
-            let entry = self.with_more(nothing, &[index])?;
+            let entry = self.alone(index)?;
             let at = turns.get(own).copied().unwrap_or(0);
             if !is_apart(&entry, points, at, own) {
                 return Ok(false);
@@ -286,13 +295,7 @@ impl Trial<'_> {
     }
 
     // Whether the points tell that each of the claims at these indices is needed.
-    fn are_needed(
-        &self,
-        nothing: &Entry,
-        picked: &[usize],
-        points: Vec<Point>,
-    ) -> Result<bool, TableFault>
-        requires nothing { StandsFor self.now.name.now [] nothing.now }
+    fn are_needed(&self, picked: &[usize], points: Vec<Point>) -> Result<bool, TableFault>
         requires within { AreWithin (map placed_parts self.now.claims.now) picked.now }
         ensures { IfOk result (λ b. IsTrue b → AreNeeded self.now.name.now self.now.verdict []
             (claims_at (map placed_parts self.now.claims.now) picked.now)) }
@@ -303,7 +306,7 @@ impl Trial<'_> {
         let mut points = points;
         sort_points(&mut points);
         let turns = turns_of(self.alloc, points.as_slice(), picked.len())?;
-        self.are_apart(nothing, picked, points.as_slice(), turns.as_slice())
+        self.are_apart(picked, points.as_slice(), turns.as_slice())
     }
 
     // The indices of claims that clash.
@@ -314,9 +317,9 @@ impl Trial<'_> {
             (map placed_parts self.now.claims.now) found.items) }
     {
         let nothing = PackageDemands::bare().entry(self.alloc)?;
-        let Hint { few, points } = self.hint(&nothing)?;
+        let Hint { few, points } = self.hint()?;
         let picked = self.enough(&nothing, few.as_slice())?;
-        if self.are_needed(&nothing, picked.as_slice(), points)? {
+        if self.are_needed(picked.as_slice(), points)? {
             return Ok(picked);
         }
         let found = self.needed(&nothing, picked.as_slice())?;

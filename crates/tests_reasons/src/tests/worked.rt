@@ -22,7 +22,7 @@ const LINES: Part = (
 );
 
 // The inputs, the name, and the line.
-const ROWS: [(&str, &[Part], &str, &str); 20] = [
+const ROWS: [(&str, &[Part], &str, &str); 24] = [
     ("no claim", &[(Kind::List, "django\n")], "flask", "open"),
     (
         "two bounds, behind a comment",
@@ -52,6 +52,27 @@ const ROWS: [(&str, &[Part], &str, &str); 20] = [
         "none | 1:1 flask==2.* * | 1:2 flask!=2.0.* * | 1:3 flask!=2.1.* * | 1:4 flask<2.2 * | 1:5 flask!=2.3.*",
     ),
     (
+        "a bound that a cover takes, though the prefixes are enough",
+        &[(Kind::List, "flask>=2.0\nflask!=2.*\nflask==2.*\n")],
+        "flask",
+        "none | 1:1 flask>=2.0 | 1:2 flask!=2.* * | 1:3 flask==2.* *",
+    ),
+    (
+        "an epoch, whose cuts have no places",
+        &[(
+            Kind::List,
+            "flask!=1!0.*\nflask>=1!1.0\nflask!=1!1.*\nflask<1!2\n",
+        )],
+        "flask",
+        "none | 1:1 flask!=1!0.* | 1:2 flask>=1!1.0 * | 1:3 flask!=1!1.* * | 1:4 flask<1!2 *",
+    ),
+    (
+        "a != that closes the gap between an entry and a bound",
+        &[TABLE, (Kind::List, "flask!=3.*\nflask<3\nflask!=2.*\n")],
+        "flask",
+        "none | 1:17 flask open\n  range before 2 to end\n * | 2:1 flask!=3.* | 2:2 flask<3 * | 2:3 flask!=2.* *",
+    ),
+    (
         "two demanded texts",
         &[(Kind::List, "flask===1.0\nflask===1.0\nflask===2.0\n")],
         "flask",
@@ -62,6 +83,15 @@ const ROWS: [(&str, &[Part], &str, &str); 20] = [
         &[(Kind::List, "flask===1.0\nflask<3\nflask>=2\n")],
         "flask",
         "none | 1:1 flask===1.0 * | 1:2 flask<3 | 1:3 flask>=2 *",
+    ),
+    (
+        "a text, and a clause that closes no gap but leaves its version out",
+        &[(
+            Kind::List,
+            "flask!=2.*\nflask>=0.5\nflask===1.0\nflask!=1.0\nflask<1.5\n",
+        )],
+        "flask",
+        "none | 1:1 flask!=2.* | 1:2 flask>=0.5 | 1:3 flask===1.0 * | 1:4 flask!=1.0 * | 1:5 flask<1.5",
     ),
     (
         "three URLs",

@@ -14,9 +14,6 @@ nothing_yet c =
 pub enough-requires-clause-nothing : goal.enough-requires-clause-nothing
 enough-requires-clause-nothing c = nothing_yet (goal.at.enough-requires-clause-nothing c).In_ok-nothing
 
-pub are_needed-requires-clause-nothing : goal.are_needed-requires-clause-nothing
-are_needed-requires-clause-nothing c = nothing_yet (goal.at.are_needed-requires-clause-nothing c).In_ok-nothing
-
 pub needed-requires-clause-within : goal.needed-requires-clause-within
 needed-requires-clause-within c =
     subst (AreWithin (map placed_parts c.args.self.now.claims.now)) (sym c.as_slice-3.ensures.value)
