@@ -1,15 +1,12 @@
 -- What the code's claims are to the search for those that clash.
-use Rattle.std.proofs.Common.{◌≡◌, ℕ, ◌+◌, ◌<◌, List, [], ◌∷◌, ◌++◌, get_or, length, map, refl, take, sym, ap, subst, ◌∙◌}
+use Rattle.std.proofs.Common.{◌≡◌, ℕ, ◌+◌, ◌<◌, List, [], ◌∷◌, ◌++◌, get_or, length, map, take, sym, ap, subst, ◌∙◌}
 use Rattle.std.proofs.lemmas.List.{get_or-map, length-map, map_more}
 use Rattle.reasons.proofs.PickedClaims.{claim_at}
-use Rattle.demands.specs.Gathering.{bare_entry}
-use Rattle.demands.specs.Table.{EntryParts}
-use Rattle.reasons.specs.Claims.{PlacedParts}
-use Rattle.reasons.specs.ClashSearch.{AreWithin, TakesClaim, TakesClaims}
-use Rattle.reasons.specs.View.{claim_parts, claims_at, nowhere, placed_parts}
+use Rattle.reasons.specs.ClashSearch.{AreWithin}
+use Rattle.reasons.specs.View.{claims_at, nowhere, placed_parts}
 use Rattle.reasons.specs.declared.claims.PlacedClaim.{PlacedClaim}
 
-at_index : (claims : List PlacedClaim) (k : ℕ) (x : PlacedClaim) → k < length claims →
+pub at_index : (claims : List PlacedClaim) (k : ℕ) (x : PlacedClaim) → k < length claims →
     x ≡ get_or claims k x → claim_at (map placed_parts claims) k ≡ placed_parts x
 at_index claims k x lt is =
     get_or-map placed_parts claims k x nowhere lt ∙ ap placed_parts (sym is)
@@ -25,10 +22,3 @@ next_found claims found i x lt within is =
     map_more (claim_at (map placed_parts claims)) found i 0 lt
     ∙ ap (λ y. claims_at (map placed_parts claims) (take i found) ++ y ∷ [])
     (at_index claims (get_or found i 0) x below is)
-
--- what one claim takes to nothing
-pub takes_alone : (name : List ℕ) (claims : List PlacedClaim) (k : ℕ) (x : PlacedClaim) (new : EntryParts) →
-    k < length claims → x ≡ get_or claims k x → TakesClaim name bare_entry (claim_parts x.claim) new →
-    TakesClaims name bare_entry (claims_at (map placed_parts claims) (k ∷ [])) new
-takes_alone name claims k x new lt is t =
-    (new, subst (λ (p : PlacedParts). TakesClaim name bare_entry p.claim new) (sym (at_index claims k x lt is)) t, refl)

@@ -172,20 +172,3 @@ stands_with name some more e d new valid j t h =
 pub nothing_stands : (name : List ℕ) → StandsFor name [] bare_entry
 nothing_stands name =
     bare_is_entry (Weighed (Claimed [] name)) (λ d q. in_none q.0.0 q.0.1)
-
--- ---- what claims demand alone
-
-pub stands_alone : (name : List ℕ) (ps : List PlacedParts) (new : EntryParts) →
-    TakesClaims name bare_entry ps new → StandsFor name ps new
-stands_alone name ps new t =
-    let all = taken_from name (λ d. ⊥) ps bare_entry new (bare_is_entry (λ d. ⊥) (λ d q. q), bare_valid) t in
-    weighed_entry (Claimed ps name) new
-    (same_entry (λ d. ⊥ ⊎ Claimed ps name d) (Claimed ps name) new (λ d. (back d, λ q. inr q)) all.0)
-  where
-    back : (d : Demand) → ⊥ ⊎ Claimed ps name d → Claimed ps name d
-    back d (inl never) = absurd never
-    back d (inr q) = q
-
-pub valid_alone : (name : List ℕ) (ps : List PlacedParts) (new : EntryParts) →
-    TakesClaims name bare_entry ps new → IsValidEntry new
-valid_alone name ps new t = claims_valid name ps bare_entry new bare_valid t

@@ -127,5 +127,5 @@ has_own-point_of_another h = elim (in_either (record { cut = end; owner = 0 }) [
 ]
 
 -- a claim, and no points
-pub are_apart-without_the_last : ¬ AreApart (codes "a") (third_one ∷ []) [] 1
-are_apart-without_the_last h = let own = (h 0 (omega arith)).2.has in in_none own.0 own.1
+pub are_apart-without_the_last : ¬ AreApart (third_one ∷ []) [] 1
+are_apart-without_the_last h = let own = (h 0 (omega arith)).has in in_none own.0 own.1

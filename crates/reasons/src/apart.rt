@@ -1,13 +1,25 @@
 //! Whether each of some claims is needed, as points tell: one for each that it alone leaves out.
 
-ghost use Rattle.std.specs.Prelude.{◌≡◌, ◌≢◌, ◌<◌, ◌≤◌, false, length, get_or, All, IsTrue};
-ghost use Rattle.std.specs.Ordering.{is_lt};
-ghost use Rattle.demands.specs.Table.{IsValidEntry};
-ghost use Rattle.pep_clause.specs.Cut.{cut_cmp};
-ghost use Rattle.reasons.specs.Apart.{AreBelow, AreRising, IsApart, HasOthers, HasOwn, OwnsBelow, OwnsBehind};
+ghost use Rattle.std.specs.Prelude.{◌≤◌, length, IfOk, IsTrue};
+ghost use Rattle.reasons.specs.Apart.{
+  AdmitsOthers,
+  AreBelow,
+  AreClausesApart,
+  AreRising,
+  HasOthers,
+  HasOwn,
+  IsApart,
+  IsClauseApart,
+  IsEntryApart,
+  OwnsBehind,
+  OwnsBelow,
+};
+ghost use Rattle.reasons.specs.View.{claim_parts};
 
+use crate::claims::Claim;
 use demands::Entry;
-use pep_clause::{Cut, Range};
+use pep_clause::{Clause, ClauseFault, Cut, Op, Range, VersionSet};
+use pep_require::Target;
 use std::alloc::{AllocError, Global};
 
 /// A cut that one of some claims leaves out, and none of the others.
@@ -102,12 +114,84 @@ fn has_own(points: &[Point], at: usize, own: usize) -> bool
     }
 }
 
-/// Whether the claim for which the entry stands admits the points of all others, and one is its own. No text is demanded.
-pub(crate) fn is_apart(entry: &Entry, points: &[Point], at: usize, own: usize) -> bool
+// Whether the clause admits the points of all other claims. One that demands a text may not.
+fn clause_is_apart(
+    alloc: Global,
+    clause: &Clause,
+    points: &[Point],
+    own: usize,
+) -> Result<bool, ClauseFault>
     requires rising { AreRising points.now }
-    ensures { IsTrue result → IsApart entry.now points.now own }
+    ensures { IfOk result (λ b. IsTrue b → IsClauseApart clause.now points.now own) }
 {
-    entry.texts().items().is_empty()
-        && has_own(points, at, own)
-        && has_others(entry.versions().ranges(), points, own)
+    if clause.op() == Op::Exact {
+        return Ok(false);
+    }
+    let versions = VersionSet::of(alloc, clause)?;
+    Ok(has_others(versions.ranges(), points, own))
+}
+
+// Whether each of the clauses does, and there are some.
+fn clauses_are_apart(
+    alloc: Global,
+    clauses: &[Clause],
+    points: &[Point],
+    own: usize,
+) -> Result<bool, ClauseFault>
+    requires rising { AreRising points.now }
+    ensures { IfOk result (λ b. IsTrue b → AreClausesApart clauses.now points.now own) }
+{
+    if clauses.is_empty() {
+        return Ok(false);
+    }
+    for clause in clauses {
+        if !clause_is_apart(alloc, clause, points, own)? {
+            return Ok(false);
+        }
+    }
+    Ok(true)
+}
+
+// Whether the entry admits the points of all other claims. One that demands a text may not.
+fn entry_is_apart(entry: &Entry, points: &[Point], own: usize) -> bool
+    requires rising { AreRising points.now }
+    ensures { IsTrue result → IsEntryApart entry.now points.now own }
+{
+    entry.texts().items().is_empty() && has_others(entry.versions().ranges(), points, own)
+}
+
+// Whether the claim admits the points of all others, as far as its clauses and ranges tell.
+fn admits_others(
+    alloc: Global,
+    claim: &Claim,
+    points: &[Point],
+    own: usize,
+) -> Result<bool, ClauseFault>
+    requires rising { AreRising points.now }
+    ensures { IfOk result (λ b. IsTrue b → AdmitsOthers (claim_parts claim.now) points.now own) }
+{
+    match claim {
+        Claim::Required(requirement) => match requirement.target() {
+            Target::Bounds(clauses) => clauses_are_apart(alloc, clauses.as_slice(), points, own),
+            Target::Direct(_) => Ok(false),
+        },
+        Claim::Entered(_, entry) => Ok(entry_is_apart(entry, points, own)),
+    }
+}
+
+/// Whether the claim admits the points of all others, and one is its own, which is sought at this place.
+pub(crate) fn is_apart(
+    alloc: Global,
+    claim: &Claim,
+    points: &[Point],
+    at: usize,
+    own: usize,
+) -> Result<bool, ClauseFault>
+    requires rising { AreRising points.now }
+    ensures { IfOk result (λ b. IsTrue b → IsApart (claim_parts claim.now) points.now own) }
+{
+    if !has_own(points, at, own) {
+        return Ok(false);
+    }
+    admits_others(alloc, claim, points, own)
 }

@@ -1,16 +1,18 @@
 //! Which claims on a package clash: as many as the verdict needs, and none that it doesn't need.
 //!
-//! The search divides. What the claims in hand demand is an entry, and each half of the others is
-//! searched beside it: first the second half beside all of the first one, and then the first half
-//! beside those that were found in the second. What isn't needed falls away with its half. So each
-//! claim is taken once at most for each time that the list is halved. No two entries of as many halvings
-//! admit the same version, since what one of them admits is left out by claims that the other one has. So
-//! the ranges of all copies together have about the size of the list, however many claims clash. URLs and
-//! demanded texts are copied with each entry. An entry of each size is kept at a time.
+//! A hint says which claims may clash by themselves: two with different URLs, a demanded text and what leaves its version
+//! out, two bounds, or claims that leave out all versions together. Nothing rests on the hint, since what it says is
+//! tried: whether the claims are enough, and whether each is needed, by points. A point is a cut that one of them alone
+//! leaves out. Each of the others is looked at once, with the points beside what it leaves out. So k claims cost k times
+//! a logarithm of k.
 //!
-//! Two claims that clash by the bounds of their versions are tried first, if these bounds are places.
+//! Where a trial fails, as of demanded texts, the search divides. What the claims in hand demand is an entry, and each
+//! half of the others is searched beside it: first the second half beside all of the first one, and then the first half
+//! beside those that were found in the second. What isn't needed falls away with its half. So each claim is taken once at
+//! most for each time that the list is halved. An entry of each size is kept at a time. The hints leave it two claims,
+//! mostly.
 
-ghost use Rattle.std.specs.Prelude.{◌≡◌, ◌<◌, ◌∷◌, ◌++◌, IfErr, IfOk, IsTrue, List, [], length, map};
+ghost use Rattle.std.specs.Prelude.{◌≡◌, ◌++◌, IfErr, IfOk, IsTrue, List, [], length, map};
 ghost use Rattle.demands.specs.Gathering.{bare_entry};
 ghost use Rattle.demands.specs.Join.{JoinsEntries};
 ghost use Rattle.demands.specs.Table.{IsValidEntry};
@@ -42,6 +44,7 @@ use crate::claims::{Claim, PlacedClaim};
 use crate::likely::{Hint, covered, demands_text, narrowest, urls_apart};
 use demands::{Entry, PackageDemands, Sorted, TableFault, Verdict};
 use faults::Fault;
+use pep_clause::ClauseFault;
 use pep_marker::Name;
 use std::alloc::Global;
 
@@ -188,7 +191,7 @@ impl Trial<'_> {
 
     // A claim that demands a text, and one that doesn't admit the version of it, if there are any. No clause says that
     // they clash.
-    fn text_pair(&self) -> Result<Option<(usize, usize)>, TableFault> {
+    fn text_pair(&self, nothing: &Entry) -> Result<Option<(usize, usize)>, TableFault> {
         let Some(first) = self
             .claims
             .iter()
@@ -196,7 +199,7 @@ impl Trial<'_> {
         else {
             return Ok(None);
         };
-        let entry = self.alone(first)?;
+        let entry = self.with_more(nothing, &[first])?;
         for index in 0..self.claims.len() {
             let both = self.with_more(&entry, &[index])?;
             if both.verdict(self.alloc)? == self.verdict {
@@ -207,14 +210,14 @@ impl Trial<'_> {
     }
 
     // A few claims that may be enough, and points. No clause says that they are.
-    fn hint(&self) -> Result<Hint, TableFault> {
+    fn hint(&self, nothing: &Entry) -> Result<Hint, TableFault> {
         if self.verdict == Verdict::Conflict {
             return match urls_apart(self.claims) {
                 Some(pair) => Ok(Hint::of_pair(self.alloc, pair)?),
                 None => Ok(Hint::of_pair(self.alloc, (0, 0))?),
             };
         }
-        if let Some(pair) = self.text_pair()? {
+        if let Some(pair) = self.text_pair(nothing)? {
             return Ok(Hint::of_pair(self.alloc, pair)?);
         }
         if let Some(pair) = narrowest(self.claims) {
@@ -260,34 +263,22 @@ impl Trial<'_> {
         indices_below(self.alloc, self.claims.len())
     }
 
-    // What the claim at the index demands of the name.
-    fn alone(&self, index: usize) -> Result<Entry, TableFault>
-        requires { index < length self.now.claims.now }
-        ensures { IfOk result (StandsFor self.now.name.now
-            (claims_at (map placed_parts self.now.claims.now) (index ∷ []))) }
-    {
-        let claim = &self.claims[index].claim;
-        let demands = take_claim(self.alloc, PackageDemands::bare(), claim, self.name)?;
-        demands.entry(self.alloc)
-    }
-
     // Whether each of the claims at these indices stands apart, by points that are sorted.
     fn are_apart(
         &self,
         picked: &[usize],
         points: &[Point],
         turns: &[usize],
-    ) -> Result<bool, TableFault>
+    ) -> Result<bool, ClauseFault>
         requires within { AreWithin (map placed_parts self.now.claims.now) picked.now }
         requires rising { AreRising points.now }
-        ensures { IfOk result (λ b. IsTrue b → AreApart self.now.name.now
+        ensures { IfOk result (λ b. IsTrue b → AreApart
             (claims_at (map placed_parts self.now.claims.now) picked.now) points.now
             (length picked.now)) }
     {
         for (own, &index) in picked.iter().enumerate() {
-            let entry = self.alone(index)?;
             let at = turns.get(own).copied().unwrap_or(0);
-            if !is_apart(&entry, points, at, own) {
+            if !is_apart(self.alloc, &self.claims[index].claim, points, at, own)? {
                 return Ok(false);
             }
         }
@@ -306,7 +297,10 @@ impl Trial<'_> {
         let mut points = points;
         sort_points(&mut points);
         let turns = turns_of(self.alloc, points.as_slice(), picked.len())?;
-        self.are_apart(picked, points.as_slice(), turns.as_slice())
+        match self.are_apart(picked, points.as_slice(), turns.as_slice()) {
+            Ok(apart) => Ok(apart),
+            Err(_) => Err(TableFault::NoMemory),
+        }
     }
 
     // The indices of claims that clash.
@@ -317,7 +311,7 @@ impl Trial<'_> {
             (map placed_parts self.now.claims.now) found.items) }
     {
         let nothing = PackageDemands::bare().entry(self.alloc)?;
-        let Hint { few, points } = self.hint()?;
+        let Hint { few, points } = self.hint(&nothing)?;
         let picked = self.enough(&nothing, few.as_slice())?;
         if self.are_needed(picked.as_slice(), points)? {
             return Ok(picked);
