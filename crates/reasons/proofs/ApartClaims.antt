@@ -1,7 +1,7 @@
 -- Claims that stand apart, by points, are each needed.
-use Rattle.std.proofs.Common.{◌≡◌, ℕ, zero, suc, ◌+◌, ◌-◌, ◌<◌, ◌≤◌, List, [], ◌∷◌, ◌++◌, length}
+use Rattle.std.proofs.Common.{◌≡◌, ℕ, zero, suc, ◌+◌, ◌-◌, ◌<◌, List, [], ◌∷◌, ◌++◌, length}
 use Rattle.std.proofs.Common.{ap, arith, get_or, refl, sym, subst, ◌∙◌, inl, inr}
-use Rattle.std.specs.Prelude.{◌≢◌, ◌&&◌, All, Bool, Contains, IsTrue, None, false, slice_index_or, true}
+use Rattle.std.specs.Prelude.{◌≢◌, ◌&&◌, Bool, Contains, IsTrue, None, false, slice_index_or, true}
 use Rattle.std.proofs.lemmas.Bool.Decides.{leb_tells}
 use Rattle.std.proofs.lemmas.List.{get_or-append-add, get_or-map, get_or_append_left, get_or_read}
 use Rattle.std.proofs.lemmas.List.{length-append, length-map}

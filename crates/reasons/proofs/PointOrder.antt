@@ -2,7 +2,6 @@
 use Rattle.std.proofs.Common.{◌≡◌, ℕ, ◌<◌, ◌≤◌, Bool, true, false, List, get_or, length}
 use Rattle.std.proofs.Common.{arith, refl, sym, subst, ◌∙◌, inl, inr}
 use Rattle.std.specs.Cmp.{IsStrictWeakOrder}
-use Rattle.std.specs.List.{list_any}
 use Rattle.std.specs.List.Sorted.{IsPartitionedBy}
 use Rattle.std.specs.Ordering.{is_lt}
 use Rattle.std.specs.Prelude.{◌≢◌, ◌&&◌, not}
@@ -12,8 +11,8 @@ use Rattle.std.proofs.lemmas.List.Folds.{list_any_at}
 use Rattle.std.proofs.lemmas.List.Sorted.{ranks_by}
 use Rattle.pep_clause.specs.Cut.{Cut, cut_cmp}
 use Rattle.pep_clause.specs.Laws.{cut_total}
-use Rattle.pep_clause.specs.VersionSet.{IsPoint, Range, is_point}
-use Rattle.reasons.specs.Apart.{AreBelow, AreRising, HasOthers, OwnsBehind, OwnsBelow}
+use Rattle.pep_clause.specs.VersionSet.{IsPoint, Range}
+use Rattle.reasons.specs.Apart.{AreBelow, AreRising, OwnsBelow}
 use Rattle.reasons.specs.declared.apart.Point.{Point}
 
 order : IsStrictWeakOrder (λ (x y : Cut). is_lt (cut_cmp x y))

@@ -1,4 +1,4 @@
-use Rattle.std.proofs.Common.{◌<◌, length, rules, subst}
+use Rattle.std.proofs.Common.{rules, subst}
 use Rattle.reasons.specs.Apart.{AreBelow, OwnsBelow}
 use Rattle.pep_clause.specs.Cut.{Cut}
 use Rattle.reasons.proofs.PointOrder.{others_more}

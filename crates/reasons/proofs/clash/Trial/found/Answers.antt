@@ -1,4 +1,4 @@
-use Rattle.std.proofs.Common.{◌∙◌, [], List, ℕ, map, rules, subst, sym}
+use Rattle.std.proofs.Common.{◌∙◌, [], List, ℕ, map, subst, sym}
 use Rattle.reasons.specs.ClashSearch.{AreNeeded, ArePicked, AreWithin, Clashing, StandsFor}
 use Rattle.reasons.specs.View.{claims_at, placed_parts}
 use Rattle.reasons.proofs.ClashSteps.{found_among, none_among}
