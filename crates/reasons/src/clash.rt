@@ -41,7 +41,7 @@ ghost use Rattle.reasons.specs.View.{claim_parts, claims_at, placed_parts};
 
 use crate::apart::{Point, is_apart, sort_points, turns_of};
 use crate::claims::{Claim, PlacedClaim};
-use crate::likely::{Hint, covered, demands_text, narrowest, urls_apart};
+use crate::likely::{Hint, clashing_urls, clashing_versions};
 use demands::{Entry, PackageDemands, Sorted, TableFault, Verdict};
 use faults::Fault;
 use pep_clause::ClauseFault;
@@ -189,41 +189,14 @@ impl Trial<'_> {
         Ok(found)
     }
 
-    // A claim that demands a text, and one that doesn't admit the version of it, if there are any. No clause says that
-    // they clash.
-    fn text_pair(&self, nothing: &Entry) -> Result<Option<(usize, usize)>, TableFault> {
-        let Some(first) = self
-            .claims
-            .iter()
-            .position(|placed| demands_text(&placed.claim))
-        else {
-            return Ok(None);
-        };
-        let entry = self.with_more(nothing, &[first])?;
-        for index in 0..self.claims.len() {
-            let both = self.with_more(&entry, &[index])?;
-            if both.verdict(self.alloc)? == self.verdict {
-                return Ok(Some((first, index)));
-            }
-        }
-        Ok(None)
-    }
-
     // A few claims that may be enough, and points. No clause says that they are.
-    fn hint(&self, nothing: &Entry) -> Result<Hint, TableFault> {
-        if self.verdict == Verdict::Conflict {
-            return match urls_apart(self.claims) {
-                Some(pair) => Ok(Hint::of_pair(self.alloc, pair)?),
-                None => Ok(Hint::of_pair(self.alloc, (0, 0))?),
-            };
-        }
-        if let Some(pair) = self.text_pair(nothing)? {
-            return Ok(Hint::of_pair(self.alloc, pair)?);
-        }
-        if let Some(pair) = narrowest(self.claims) {
-            return Ok(Hint::of_pair(self.alloc, pair)?);
-        }
-        match covered(self.alloc, self.claims) {
+    fn hint(&self) -> Result<Hint, TableFault> {
+        let hint = if self.verdict == Verdict::Conflict {
+            clashing_urls(self.alloc, self.claims)
+        } else {
+            clashing_versions(self.alloc, self.claims)
+        };
+        match hint {
             Ok(hint) => Ok(hint),
             Err(_) => Err(TableFault::NoMemory),
         }
@@ -311,7 +284,7 @@ impl Trial<'_> {
             (map placed_parts self.now.claims.now) found.items) }
     {
         let nothing = PackageDemands::bare().entry(self.alloc)?;
-        let Hint { few, points } = self.hint(&nothing)?;
+        let Hint { few, points } = self.hint()?;
         let picked = self.enough(&nothing, few.as_slice())?;
         if self.are_needed(picked.as_slice(), points)? {
             return Ok(picked);

@@ -1,13 +1,13 @@
 //! A few claims that may clash by themselves: a hint for the search. No clause says that they do.
 
-ghost use Rattle.std.specs.Prelude.{◌<◌, length};
-
 use crate::apart::Point;
 use crate::claims::{Claim, PlacedClaim};
 use crate::cover::covering;
 use crate::ends::{Ends, Numbered, Standing, push_cuts, push_others, push_places};
-use pep_clause::{Clause, ClauseFault, Cut, Op};
+use demands::Entry;
+use pep_clause::{Clause, ClauseFault, Cut};
 use pep_require::Target;
+use pep_version::{Key, Version, VersionFault};
 use places::{Bounds, Place};
 use std::alloc::{AllocError, Global};
 
@@ -62,9 +62,9 @@ fn bounds_of(claim: &Claim) -> Bounds {
     }
 }
 
-/// The claim whose versions begin last, and the one whose versions end first, by their indices, where no version is
-/// between them: one that admits no version by itself is both.
-pub(crate) fn narrowest(claims: &[PlacedClaim]) -> Option<(usize, usize)> {
+// The claim whose versions begin last, and the one whose versions end first, by their indices, where no version is
+// between them: one that admits no version by itself is both.
+fn narrowest(claims: &[PlacedClaim]) -> Option<(usize, usize)> {
     let mut first = 0;
     let mut last = 0;
     let mut low = Place::least();
@@ -109,8 +109,8 @@ fn has_two_urls(claim: &Claim) -> bool {
     }
 }
 
-/// A claim that demands two URLs, or two claims with different ones, by their indices.
-pub(crate) fn urls_apart(claims: &[PlacedClaim]) -> Option<(usize, usize)> {
+// A claim that demands two URLs, or two claims with different ones, by their indices.
+fn urls_apart(claims: &[PlacedClaim]) -> Option<(usize, usize)> {
     let mut first = None;
     for (index, placed) in claims.iter().enumerate() {
         if has_two_urls(&placed.claim) {
@@ -131,15 +131,87 @@ pub(crate) fn urls_apart(claims: &[PlacedClaim]) -> Option<(usize, usize)> {
     None
 }
 
-/// Whether the claim demands the text of a version.
-pub(crate) fn demands_text(claim: &Claim) -> bool {
+// The first text that the claim demands of the version.
+fn text_of(claim: &Claim) -> Option<&str> {
     match claim {
         Claim::Required(requirement) => match requirement.target() {
-            Target::Bounds(clauses) => clauses.iter().any(|clause| clause.op() == Op::Exact),
-            Target::Direct(_) => false,
+            Target::Bounds(clauses) => first_demanded(clauses.as_slice()),
+            Target::Direct(_) => None,
         },
-        Claim::Entered(_, entry) => !entry.texts().items().is_empty(),
+        Claim::Entered(_, entry) => Some(entry.texts().items().first()?.as_str()),
     }
+}
+
+fn first_demanded(clauses: &[Clause]) -> Option<&str> {
+    for clause in clauses {
+        if let Some(text) = clause.exact_text() {
+            return Some(text);
+        }
+    }
+    None
+}
+
+fn first_text(claims: &[PlacedClaim]) -> Option<(usize, &str)> {
+    for (index, placed) in claims.iter().enumerate() {
+        if let Some(text) = text_of(&placed.claim) {
+            return Some((index, text));
+        }
+    }
+    None
+}
+
+fn clauses_admit(
+    alloc: Global,
+    clauses: &[Clause],
+    version: &Version,
+) -> Result<bool, ClauseFault> {
+    for clause in clauses {
+        if !clause.admits(alloc, version)? {
+            return Ok(false);
+        }
+    }
+    Ok(true)
+}
+
+fn entry_admits(alloc: Global, entry: &Entry, version: &Version) -> Result<bool, ClauseFault> {
+    let text = version.text(alloc)?;
+    let is_text = entry
+        .texts()
+        .items()
+        .iter()
+        .all(|demanded| demanded.as_str() == text.as_str());
+    Ok(is_text && entry.versions().contains(&Key::of(alloc, version)?))
+}
+
+fn admits(alloc: Global, claim: &Claim, version: &Version) -> Result<bool, ClauseFault> {
+    match claim {
+        Claim::Required(requirement) => match requirement.target() {
+            Target::Bounds(clauses) => clauses_admit(alloc, clauses.as_slice(), version),
+            Target::Direct(_) => Ok(true),
+        },
+        Claim::Entered(_, entry) => entry_admits(alloc, entry, version),
+    }
+}
+
+// The first claim that demands a text, and one that doesn't admit its version, by their indices.
+fn text_apart(
+    alloc: Global,
+    claims: &[PlacedClaim],
+) -> Result<Option<(usize, usize)>, ClauseFault> {
+    let Some((first, text)) = first_text(claims) else {
+        return Ok(None);
+    };
+    let version = match Version::read(alloc, text) {
+        Ok(version) => version,
+        Err(VersionFault::NoMemory) => return Err(ClauseFault::NoMemory),
+        Err(_) => return Ok(Some((first, first))),
+    };
+    for (index, placed) in claims.iter().enumerate() {
+        if !admits(alloc, &placed.claim, &version)? {
+            return Ok(Some((first, index)));
+        }
+    }
+    Ok(None)
 }
 
 // ---- a cover of all versions by what claims leave out
@@ -214,11 +286,31 @@ fn hint_of<T: Standing>(
     Ok(Hint { few, points })
 }
 
-/// Claims that leave out all versions together, none of which may be left away, where places or cuts tell.
-pub(crate) fn covered(alloc: Global, claims: &[PlacedClaim]) -> Result<Hint, ClauseFault> {
+// Claims that leave out all versions together, none of which may be left away, where places or cuts tell.
+fn covered(alloc: Global, claims: &[PlacedClaim]) -> Result<Hint, ClauseFault> {
     let hint = hint_of(alloc, &between_places(alloc, claims)?, claims.len())?;
     if !hint.few.is_empty() {
         return Ok(hint);
     }
     hint_of(alloc, &between_cuts(alloc, claims)?, claims.len())
+}
+
+/// Claims that may clash by the versions that they admit, and points.
+pub(crate) fn clashing_versions(
+    alloc: Global,
+    claims: &[PlacedClaim],
+) -> Result<Hint, ClauseFault> {
+    if let Some(pair) = text_apart(alloc, claims)? {
+        return Ok(Hint::of_pair(alloc, pair)?);
+    }
+    if let Some(pair) = narrowest(claims) {
+        return Ok(Hint::of_pair(alloc, pair)?);
+    }
+    covered(alloc, claims)
+}
+
+/// Claims that may clash by their URLs.
+pub(crate) fn clashing_urls(alloc: Global, claims: &[PlacedClaim]) -> Result<Hint, ClauseFault> {
+    let pair = urls_apart(claims).unwrap_or((0, 0));
+    Ok(Hint::of_pair(alloc, pair)?)
 }
