@@ -235,7 +235,8 @@ others_admit c before p behind f k lt = elim (leb_tells (length before) k) [
   | inl (e, after) ↦
       let m = k - length before in
       let at : length before + m ≡ k = omega (arith, after) in
-      let same : claim_at (before ++ p ∷ behind) (length before + suc m) ≡ claim_at (before ++ behind) (length before + m) =
+      let same : claim_at (before ++ p ∷ behind) (length before + suc m)
+      ≡ claim_at (before ++ behind) (length before + m) =
       get_or-append-add before (p ∷ behind) (suc m) nowhere ∙ sym (get_or-append-add before behind m nowhere) in
       subst (λ (i : ℕ). AdmitsAround (claim_at (before ++ behind) i).claim c) at
       (subst (λ (q : PlacedParts). AdmitsAround q.claim c) same (f (length before + suc m)
@@ -268,7 +269,8 @@ each_needed name qs points all before p behind e =
     let own = (whole (length before) (omega (arith, length-append before (p ∷ behind)))).has in
     admit name own.0.cut (before ++ behind)
     (others_admit own.0.cut before p behind
-    (λ k lt other. All-contains (λ (x : Point). x.owner ≢ k → AdmitsAround (claim_at (before ++ p ∷ behind) k).claim x.cut)
+    (λ k lt other. All-contains
+    (λ (x : Point). x.owner ≢ k → AdmitsAround (claim_at (before ++ p ∷ behind) k).claim x.cut)
     points own.0 (whole k lt).others own.1 (λ same. other (sym same ∙ own.2))))
 
 pub needed_at : (name : List ℕ) (ps : List PlacedParts) (picked : List ℕ) (points : List Point) →

@@ -203,6 +203,8 @@ pub risen_more : (ps : List PlacedParts) (few : List ℕ) (next k : ℕ) → Ris
     k < length ps → RisenTo ps (few ++ k ∷ []) (k + 1)
 risen_more ps few next k h le lt = record {
   within = All-push (λ i. i < length ps) few k h.within lt;
-  rising = rise_more 0 k few h.rising (λ j m. let below = All-contains (λ i. i < next) few j h.below m in omega (arith, le, below)) (omega arith);
-  below = All-push (λ i. i < k + 1) few k (All-weaker (λ i. i < next) (λ i. i < k + 1) (λ i below. omega (arith, le, below)) few h.below) (omega arith);
+  rising = rise_more 0 k few h.rising
+      (λ j m. let below = All-contains (λ i. i < next) few j h.below m in omega (arith, le, below)) (omega arith);
+  below = All-push (λ i. i < k + 1) few k (All-weaker (λ i. i < next) (λ i. i < k + 1)
+      (λ i below. omega (arith, le, below)) few h.below) (omega arith);
 }

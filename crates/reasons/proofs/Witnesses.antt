@@ -1,5 +1,6 @@
 -- Why edits are refused: at one input, what the turned body gives is not what the clause says.
-use Rattle.std.proofs.Common.{◌≡◌, ◌∙◌, List, ℕ, [], ◌∷◌, None, Some, ap, arith, codes, inl, inr, lit<, map, refl, subst, sym}
+use Rattle.std.proofs.Common.{◌≡◌, ◌∙◌, List, ℕ, [], ◌∷◌, None, Some, ap, arith, codes}
+use Rattle.std.proofs.Common.{inl, inr, lit<, map, refl, subst, sym}
 use Rattle.pep_clause.specs.Cut.{end}
 use Rattle.pep_require.proofs.Members.{in_either, in_none}
 use Rattle.pep_marker.specs.Environment.{EnvironmentParts}

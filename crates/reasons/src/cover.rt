@@ -257,8 +257,8 @@ fn mark_all(marks: &mut Marks, parts: &[Part], fresh: &mut Vec<usize>) -> Result
     Ok(())
 }
 
-/// Of so many claims a few that may leave out all up to the last cut, none of which may be left away; or none. The parts
-/// stand in the order of their claims.
+/// Of so many claims a few that may leave out all up to the last cut, none of which may be left away; or none. The
+/// parts stand in the order of their claims.
 pub(crate) fn covering(
     alloc: Global,
     parts: &[Part],
