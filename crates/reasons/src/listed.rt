@@ -5,7 +5,6 @@ ghost use Rattle.pep_require.specs.Requirement.{IsAscending};
 ghost use Rattle.pep_require.specs.View.{requirement_parts};
 ghost use Rattle.inputs.specs.Refusal.{no_memory};
 ghost use Rattle.inputs.specs.declared.input.Kind.TheVariants as kind;
-ghost use Rattle.inputs.specs.Lists.{content, is_skipped};
 ghost use Rattle.reasons.specs.Asked.{AllGain, asked_parts, names_in, with_found};
 ghost use Rattle.reasons.specs.ClaimSearch.{AreClaimsBy, FindsApplying, FindsCounted, FindsOnLine};
 ghost use Rattle.reasons.specs.Places.{StandsIn};
@@ -14,10 +13,11 @@ use crate::asked::{Asked, is_asked, with_claim};
 use crate::claims::{Claim, PlacedClaim};
 use documents::project_requirements;
 use faults::Fault;
+use inputs::text_on;
 use pep_marker::{Environment, Name};
 use pep_require::Requirement;
 use std::alloc::Global;
-use texts::{first_part, without_outer_blanks};
+use texts::first_part;
 
 // The requirement, if it applies.
 fn applying(
@@ -55,24 +55,6 @@ fn counted(
     }
 }
 
-// The line without a carriage return at its end, and then without white space at both ends.
-fn content(line: &[u8]) -> &[u8]
-    ensures { result.now ≡ content line.now }
-{
-    let line = match line {
-        [front @ .., b'\r'] => front,
-        _ => line,
-    };
-    without_outer_blanks(line)
-}
-
-// Whether a line with this content is empty or a comment.
-fn is_skipped(content: &[u8]) -> bool
-    ensures { result ≡ is_skipped content.now }
-{
-    content.is_empty() || content.starts_with(b"#")
-}
-
 // The requirement on a line of a list that is accepted, if it counts: the name is read first, and the
 // rest where its package is asked about. Since the list was read before, nothing but memory can be wanting.
 fn requirement_on(
@@ -86,12 +68,11 @@ fn requirement_on(
         (option_map requirement_parts found)) }
     ensures faults { IfErr result (λ fault. fault ≡ no_memory) }
 {
-    let content = content(line);
-    if is_skipped(content) {
-        return Ok(None);
-    }
-    let Ok(text) = std::str::from_utf8(content) else {
+    let Ok(found) = text_on(line) else {
         return Err(Fault::no_memory());
+    };
+    let Some(text) = found else {
+        return Ok(None);
     };
     let Ok(start) = Requirement::start(alloc, text) else {
         return Err(Fault::no_memory());
