@@ -1,5 +1,5 @@
 -- Points that are sorted by their cuts.
-use Rattle.std.proofs.Common.{◌≡◌, ℕ, ◌<◌, ◌≤◌, Bool, true, false, List, get_or, length}
+use Rattle.std.proofs.Common.{◌≡◌, ℕ, ◌+◌, ◌<◌, ◌≤◌, Bool, true, false, List, get_or, length}
 use Rattle.std.proofs.Common.{arith, refl, sym, subst, ◌∙◌, inl, inr}
 use Rattle.std.specs.Cmp.{IsStrictWeakOrder}
 use Rattle.std.specs.List.Sorted.{IsPartitionedBy}
@@ -8,7 +8,7 @@ use Rattle.std.specs.Prelude.{◌≢◌, ◌&&◌, not}
 use Rattle.std.proofs.lemmas.Bool.Decides.{leb_tells}
 use Rattle.std.proofs.lemmas.List.{get_or_read}
 use Rattle.std.proofs.lemmas.List.Folds.{list_any_at}
-use Rattle.std.proofs.lemmas.List.Sorted.{ranks_by}
+use Rattle.std.proofs.lemmas.List.Sorted.{ranks_by, sorted_far}
 use Rattle.pep_clause.specs.Cut.{Cut, cut_cmp}
 use Rattle.pep_clause.specs.Laws.{cut_total}
 use Rattle.pep_clause.specs.VersionSet.{IsPoint, Range}
@@ -68,3 +68,30 @@ others_more ranges points own from to i r lt is front low high within k d inside
           point_of ranges i r (get_or points k d).cut lt is (high k d inside) (low k d after (omega arith) other)
       | inr (e, before) ↦ front k d before other
     ]
+
+-- ---- one after the other
+
+-- up to an index no point stands below the one before it
+abbrev pub RisesTo : List Point → ℕ → Type 0
+RisesTo points i = (k : ℕ) (d : Point) → k + 1 < i →
+    is_lt (cut_cmp (get_or points (k + 1) d).cut (get_or points k d).cut) ≡ false
+
+pub rises_more : (points : List Point) (i j : ℕ) (x y : Point) → j + 1 ≡ i → i < length points →
+    x ≡ get_or points i x → y ≡ get_or points j y → is_lt (cut_cmp x.cut y.cut) ≡ false → RisesTo points i →
+    RisesTo points (i + 1)
+rises_more points i j x y next lt is was rises before k d below = elim (leb_tells i (k + 1)) [
+  | inl (e, after) ↦
+      let same : j ≡ k = omega (arith, below, after, next) in
+      let above : i ≡ k + 1 = omega (arith, below, after) in
+      subst (λ (n : ℕ). is_lt (cut_cmp (get_or points (k + 1) d).cut (get_or points n d).cut) ≡ false) same
+      (subst (λ (n : ℕ). is_lt (cut_cmp (get_or points n d).cut (get_or points j d).cut) ≡ false) above
+      (subst (λ (p : Point). is_lt (cut_cmp p.cut (get_or points j d).cut) ≡ false) (get_or_read points i x lt is d)
+      (subst (λ (p : Point). is_lt (cut_cmp x.cut p.cut) ≡ false)
+      (get_or_read points j y (omega (arith, next, lt)) was d) rises)))
+  | inr (e, sooner) ↦ before k d sooner
+]
+
+pub rises_all : (points : List Point) (i : ℕ) → length points ≤ i → RisesTo points i → AreRising points
+rises_all points i all rises =
+    sorted_far (λ (x y : Point). is_lt (cut_cmp x.cut y.cut)) (ranks_by cut_total (λ (p : Point). p.cut)) points
+    (λ k d low lt. rises k d (omega (arith, all, lt)))

@@ -30,11 +30,16 @@ pub(crate) struct Point {
     pub(crate) owner: usize,
 }
 
-/// Sorts the points by their cuts.
-pub(crate) fn sort_points(points: &mut Vec<Point>)
-    ensures { AreRising points.new.items }
+/// Whether no point stands below the one before it.
+pub(crate) fn are_rising(points: &[Point]) -> bool
+    ensures { IsTrue result → AreRising points.now }
 {
-    points.sort_unstable_by(|a, b| a.cut.cmp(&b.cut));
+    for index in 1..points.len() {
+        if points[index].cut < points[index - 1].cut {
+            return false;
+        }
+    }
+    true
 }
 
 /// For each of so many claims where a point of it stands, if there is one. No clause says that it does.

@@ -38,7 +38,7 @@ ghost use Rattle.reasons.specs.ClashSearch.{
 };
 ghost use Rattle.reasons.specs.View.{claim_parts, claims_at, placed_parts};
 
-use crate::apart::{Point, is_apart, sort_points, turns_of};
+use crate::apart::{Point, are_rising, is_apart, turns_of};
 use crate::claims::{Claim, PlacedClaim};
 use crate::likely::{Hint, clashing_urls, clashing_versions};
 use demands::{Entry, PackageDemands, Sorted, TableFault, Verdict};
@@ -258,18 +258,16 @@ impl Trial<'_> {
     }
 
     // Whether the points tell that each of the claims at these indices is needed.
-    fn are_needed(&self, picked: &[usize], points: Vec<Point>) -> Result<bool, TableFault>
+    fn are_needed(&self, picked: &[usize], points: &[Point]) -> Result<bool, TableFault>
         requires within { AreWithin (map placed_parts self.now.claims.now) picked.now }
         ensures { IfOk result (λ b. IsTrue b → AreNeeded self.now.name.now self.now.verdict []
             (claims_at (map placed_parts self.now.claims.now) picked.now)) }
     {
-        if self.verdict != Verdict::Nothing {
+        if self.verdict != Verdict::Nothing || !are_rising(points) {
             return Ok(false);
         }
-        let mut points = points;
-        sort_points(&mut points);
-        let turns = turns_of(self.alloc, points.as_slice(), picked.len())?;
-        match self.are_apart(picked, points.as_slice(), turns.as_slice()) {
+        let turns = turns_of(self.alloc, points, picked.len())?;
+        match self.are_apart(picked, points, turns.as_slice()) {
             Ok(apart) => Ok(apart),
             Err(_) => Err(TableFault::NoMemory),
         }
@@ -285,7 +283,7 @@ impl Trial<'_> {
         let nothing = PackageDemands::bare().entry(self.alloc)?;
         let Hint { few, points } = self.hint()?;
         let picked = self.enough(&nothing, few.as_slice())?;
-        if self.are_needed(picked.as_slice(), points)? {
+        if self.are_needed(picked.as_slice(), points.as_slice())? {
             return Ok(picked);
         }
         let found = self.needed(&nothing, picked.as_slice())?;

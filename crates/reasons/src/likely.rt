@@ -2,7 +2,7 @@
 
 use crate::apart::Point;
 use crate::claims::{Claim, PlacedClaim};
-use crate::cover::covering;
+use crate::cover::{Needed, covering};
 use crate::ends::{Ends, Numbered, Standing, push_cuts, push_others, push_places};
 use demands::Entry;
 use pep_clause::{Clause, ClauseFault, Cut};
@@ -268,6 +268,35 @@ fn between_cuts(alloc: Global, claims: &[PlacedClaim]) -> Result<Numbered<Cut>, 
     Ok(ends.numbered(alloc, Cut::least(alloc)?, Cut::end())?)
 }
 
+// A point for each claim that is needed, in the order of the cuts.
+fn points_of<T: Standing>(
+    alloc: Global,
+    numbered: &Numbered<T>,
+    needed: &[Needed],
+) -> Result<Vec<Point>, ClauseFault> {
+    let mut places = Vec::with_capacity(alloc, needed.len())?;
+    for (owner, one) in needed.iter().enumerate() {
+        places.push((one.at, owner))?;
+    }
+    places.sort_unstable();
+    points_at(alloc, numbered, places.as_slice())
+}
+
+// Points at the cuts with these numbers, each with its owner.
+fn points_at<T: Standing>(
+    alloc: Global,
+    numbered: &Numbered<T>,
+    places: &[(usize, usize)],
+) -> Result<Vec<Point>, ClauseFault> {
+    let mut points = Vec::with_capacity(alloc, places.len())?;
+    for &(at, owner) in places {
+        if let Some(cut) = numbered.cut(alloc, at)? {
+            points.push(Point { cut, owner })?;
+        }
+    }
+    Ok(points)
+}
+
 // The claims of a cover that are needed, and for each a point.
 fn hint_of<T: Standing>(
     alloc: Global,
@@ -275,13 +304,10 @@ fn hint_of<T: Standing>(
     claims: usize,
 ) -> Result<Hint, ClauseFault> {
     let needed = covering(alloc, numbered.parts.as_slice(), numbered.last(), claims)?;
-    let mut few = Vec::new(alloc);
-    let mut points = Vec::new(alloc);
-    for (owner, one) in needed.iter().enumerate() {
+    let points = points_of(alloc, numbered, needed.as_slice())?;
+    let mut few = Vec::with_capacity(alloc, needed.len())?;
+    for one in &needed {
         few.push(one.claim)?;
-        if let Some(cut) = numbered.cut(alloc, one.at)? {
-            points.push(Point { cut, owner })?;
-        }
     }
     Ok(Hint { few, points })
 }
@@ -300,10 +326,10 @@ pub(crate) fn clashing_versions(
     alloc: Global,
     claims: &[PlacedClaim],
 ) -> Result<Hint, ClauseFault> {
-    if let Some(pair) = text_apart(alloc, claims)? {
+    if let Some(pair) = narrowest(claims) {
         return Ok(Hint::of_pair(alloc, pair)?);
     }
-    if let Some(pair) = narrowest(claims) {
+    if let Some(pair) = text_apart(alloc, claims)? {
         return Ok(Hint::of_pair(alloc, pair)?);
     }
     covered(alloc, claims)

@@ -16,7 +16,7 @@ enough-requires-clause-nothing c = nothing_yet (goal.at.enough-requires-clause-n
 
 pub needed-requires-clause-within : goal.needed-requires-clause-within
 needed-requires-clause-within c =
-    subst (AreWithin (map placed_parts c.args.self.now.claims.now)) (sym c.as_slice-3.ensures.value)
+    subst (AreWithin (map placed_parts c.args.self.now.claims.now)) (sym c.as_slice-4.ensures.value)
     c.in_ok-picked.ensures.within
 
 pub returns-then-branch : goal.returns-then-branch
@@ -43,7 +43,7 @@ returns c =
     let picked = c.in_ok-picked.picked.items in
     let found = c.in_ok-found.found.items in
     found_among name w ps picked found c.in_ok-picked.ensures
-    (subst (ArePicked found) c.as_slice-3.ensures.value c.in_ok-found.ensures.picked)
+    (subst (ArePicked found) c.as_slice-4.ensures.value c.in_ok-found.ensures.picked)
     (λ clash. c.in_ok-found.ensures.least [] (none_among ps)
     (nothing_yet (goal.at.returns c).In_ok-nothing)
-    (subst (λ (ks : List ℕ). Clashing name w (claims_at ps ks)) (sym c.as_slice-3.ensures.value) clash))
+    (subst (λ (ks : List ℕ). Clashing name w (claims_at ps ks)) (sym c.as_slice-4.ensures.value) clash))
