@@ -4,17 +4,17 @@
  * calls it. Link dist/libtubrambutan.so, or libpep_c.a ("rt lib" in crates/pep_c makes it in out/) with c/liblibc_c.a of the kit. The allocator is
  * malloc, realloc and free of the program.
  *
- * What goes out. A call returns a reply. Where its `status` is TUBRAMBUTAN_ANSWERED, its `answer` is that of a call that asks
- * something, and 0 of any other; and `size` is the length of the text that goes out, 0 where none does. Where the room has as many
- * bytes, they are the text and those behind it stay; where it has fewer, no byte of it is changed: call again with room for `size`
- * bytes. No zero byte ends a text. Where the status is TUBRAMBUTAN_REFUSED, the text is the line that the program tells, with its
- * line feed ("refused input 1 line 2 code 57 33 12"; docs/CODES.md says what the codes mean). TUBRAMBUTAN_MISCUT is told of
- * a kind that is none, of parts that aren't those of the bytes, or of a group that is asked for of no project file; nothing goes out then.
+ * What goes out. A call returns a reply. If its `status` is TUBRAMBUTAN_ANSWERED, `answer` is set by calls that return one, and is
+ * else 0; and `size` is the length of the text that goes out, 0 if none does. If the room has as many bytes, they are the text, and the
+ * bytes after them stay. If it has fewer, no byte of it is changed: call again with room for `size` bytes. No zero byte ends a text. If
+ * the status is TUBRAMBUTAN_REFUSED, the text is the line that the program prints, with its line feed ("refused input 1 line 2 code
+ * 57 33 12"; docs/CODES.md says what the codes mean). TUBRAMBUTAN_MISCUT means an unknown kind, parts that don't add up to
+ * byte_count, or a group for something other than a project file; nothing goes out then.
  *
- * Many texts in one. A zero byte stands between two of them, so no bytes are one empty text.
+ * Many texts in one. A zero byte stands between two of them. Zero bytes mean one empty text.
  *
  * What a caller owes. Where it breaks one of these, nothing is promised.
- * - A pointer isn't null, also beside a length of 0, and as many bytes (parts) can be read there as the length behind it says, fewer than
+ * - A pointer isn't null, even if the length is 0, and as many bytes (parts) can be read there as the length behind it says, fewer than
  *   2^63 bytes in all. Nothing changes them while the call runs. Parts stand where a tubrambutan_part may stand.
  * - The room's bytes can be read and written, and lie in nothing else that is handed to the call. Nothing else reads or writes them while it runs.
  *   They have been written before (calloc, not malloc). The same holds of the room for numbers, which stands where a uint64_t may stand.
