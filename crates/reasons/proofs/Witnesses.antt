@@ -1,7 +1,7 @@
 -- Why edits are refused: at one input, what the turned body gives is not what the clause says.
-use Rattle.std.proofs.Common.{◌≡◌, ◌∙◌, List, ℕ, [], ◌∷◌, None, Some, ap, arith, codes}
+use Rattle.std.proofs.Common.{◌≡◌, ◌∙◌, List, ℕ, [], ◌∷◌, None, Some, ap, arith, codes, false, true}
 use Rattle.std.proofs.Common.{inl, inr, lit<, map, refl, subst, sym}
-use Rattle.pep_clause.specs.Cut.{end}
+use Rattle.pep_clause.specs.Cut.{end, least}
 use Rattle.pep_require.proofs.Members.{in_either, in_none}
 use Rattle.pep_marker.specs.Environment.{EnvironmentParts}
 use Rattle.pep_require.specs.Requirement.{RequirementParts, bounds}
@@ -11,7 +11,7 @@ use Rattle.demands.specs.Gathering.{bare_entry}
 use Rattle.demands.specs.Table.{EntryDemands, EntryParts, TableDemands}
 use Rattle.demands.specs.Verdict.{IsVerdict}
 use Rattle.reasons.proofs.FoundClashes.{some_version}
-use Rattle.reasons.specs.Apart.{AreApart, HasOwn}
+use Rattle.reasons.specs.Apart.{AreApart, AreRising, HasOwn}
 use Rattle.reasons.specs.Asked.{AskedParts, with_claim}
 use Rattle.reasons.specs.Claims.{ClaimDemands, PlacedParts, entered}
 use Rattle.reasons.specs.ClaimSearch.{FindsApplying, FindsCounted}
@@ -126,6 +126,12 @@ has_own-point_of_another h = elim (in_either (record { cut = end; owner = 0 }) [
       let never : 0 ≡ 1 = ap (λ (p : Point). p.owner) same ∙ h.2 in absurd (omega (arith, never))
   | inr more ↦ in_none h.0 more
 ]
+
+-- the end, and behind it the least cut
+pub are_rising-points_that_fall : ¬ AreRising
+    (record { cut = end; owner = 0 } ∷ record { cut = least; owner = 1 } ∷ [])
+are_rising-points_that_fall h =
+    let never : true ≡ false = h 0 1 (record { cut = end; owner = 0 }) (omega arith) (omega arith) in cc never
 
 -- a claim, and no points
 pub are_apart-without_the_last : ¬ AreApart (third_one ∷ []) [] 1
