@@ -1,5 +1,5 @@
 -- Points that are sorted by their cuts.
-use Rattle.std.proofs.Common.{◌≡◌, ℕ, ◌+◌, ◌<◌, ◌≤◌, Bool, true, false, List, get_or, length}
+use Rattle.std.proofs.Common.{◌≡◌, ℕ, ◌+◌, ◌-◌, ◌<◌, ◌≤◌, Bool, true, false, List, get_or, length}
 use Rattle.std.proofs.Common.{arith, refl, sym, subst, ◌∙◌, inl, inr}
 use Rattle.std.specs.Cmp.{IsStrictWeakOrder}
 use Rattle.std.specs.List.Sorted.{IsPartitionedBy}
@@ -34,6 +34,16 @@ pub below_first : (points : List Point) (cut : Cut) → AreRising points →
     IsPartitionedBy (λ (p : Point). is_lt (cut_cmp p.cut cut)) points
 below_first points cut rising i j d le lt below =
     below_too (get_or points i d).cut (get_or points j d).cut cut (rising i j d le lt) below
+
+-- .. so where the last one does, all do
+pub all_below : (points : List Point) (cut : Cut) (x : Point) → AreRising points → 0 < length points →
+    x ≡ get_or points (length points - 1) x → is_lt (cut_cmp x.cut cut) ≡ true → AreBelow points (length points) cut
+all_below points cut x rising some is below k d lt =
+    let last = length points - 1 in
+    let inside : last < length points = omega (arith, some) in
+    let le : k ≤ last = omega (arith, lt) in
+    below_first points cut rising k last d le inside
+    (subst (λ (p : Point). is_lt (cut_cmp p.cut cut) ≡ true) (get_or_read points last x inside is d) below)
 
 -- where one doesn't stand below a cut, none behind it does
 pub none_below : (points : List Point) (cut : Cut) (from at own : ℕ) (x : Point) → AreRising points →

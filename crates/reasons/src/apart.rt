@@ -57,12 +57,26 @@ pub(crate) fn turns_of(
     Ok(turns)
 }
 
+// Whether the last of the points stands below the cut, and so all do.
+fn are_below(points: &[Point], cut: &Cut) -> bool
+    requires rising { AreRising points.now }
+    ensures { IsTrue result → AreBelow points.now (length points.now) cut.now }
+{
+    match points.last() {
+        Some(last) => last.cut < *cut,
+        None => false,
+    }
+}
+
 // How many points stand below the cut.
 fn count_below(points: &[Point], cut: &Cut) -> usize
     requires rising { AreRising points.now }
     ensures within { result ≤ length points.now }
     ensures below { AreBelow points.now result cut.now }
 {
+    if are_below(points, cut) {
+        return points.len();
+    }
     points.partition_point(|point| point.cut < *cut)
 }
 
