@@ -1,15 +1,15 @@
 //! Which claims on a package clash: as many as the verdict needs, and none that it doesn't need.
 //!
 //! A hint says which claims may clash by themselves: two with different URLs, a demanded text and a claim that leaves
-//! its version out, two bounds, or claims that leave out all versions together. Nothing rests on the hint, since what it
-//! says is tried: whether the claims are enough, and whether each is needed, by points. A point is a cut that one of them
-//! alone leaves out. Each claim is tried clause by clause, against the points beside what the clause leaves out. So k
-//! claims cost k times a logarithm of k.
+//! its version out, two bounds, or claims that leave out all versions together. Nothing rests on the hint, since what
+//! it says is tried: whether the claims are enough, and whether each is needed, by points. A point is a cut that one
+//! of them alone leaves out. Each claim is tried clause by clause, against the points beside what the clause leaves
+//! out. So k claims cost k times a logarithm of k.
 //!
 //! Where that tells nothing, as of demanded texts and URLs, the search divides. What the claims in hand demand is an
-//! entry, and each half of the others is searched beside it: first the second half beside all of the first one, and then
-//! the first half beside those that were found in the second. What isn't needed falls away with its half. A hint leaves
-//! it two claims.
+//! entry, and each half of the others is searched beside it: first the second half beside all of the first one, and
+//! then the first half beside those that were found in the second. What isn't needed falls away with its half. A hint
+//! leaves it two claims.
 
 ghost use Rattle.std.specs.Prelude.{◌≡◌, ◌++◌, IfErr, IfOk, IsTrue, List, [], length, map};
 ghost use Rattle.demands.specs.Gathering.{bare_entry};
