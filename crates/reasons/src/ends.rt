@@ -79,6 +79,17 @@ impl<T: Standing> Ends<T> {
         Ok(())
     }
 
+    /// How many parts there are.
+    pub(crate) fn count(&self) -> usize {
+        self.parts.len()
+    }
+
+    /// Keeps the first so many parts alone.
+    pub(crate) fn keep(&mut self, count: usize) {
+        self.parts.truncate(count);
+        self.ends.truncate(count.saturating_mul(2));
+    }
+
     // Puts a cut behind the others where nothing begins or ends.
     fn push_cut(&mut self, cut: T) -> Result<(), AllocError> {
         self.ends.push(End {
@@ -166,20 +177,22 @@ impl<T: Standing> Numbered<T> {
 
 // ---- between places
 
-/// Puts what the clause leaves out behind the rest, where places tell it.
+/// Puts what the clause leaves out behind the rest, and says whether places tell it.
 pub(crate) fn push_places(
     ends: &mut Ends<Place>,
     claim: usize,
     clause: &Clause,
-) -> Result<(), AllocError> {
+) -> Result<bool, AllocError> {
     if let Some(admitted) = Bounds::of(clause) {
         ends.push(claim, Place::least(), admitted.low)?;
-        return ends.push(claim, admitted.high, Place::end());
+        ends.push(claim, admitted.high, Place::end())?;
+        return Ok(true);
     }
-    match Bounds::left_out(clause) {
-        Some(out) => ends.push(claim, out.low, out.high),
-        None => Ok(()),
-    }
+    let Some(out) = Bounds::left_out(clause) else {
+        return Ok(false);
+    };
+    ends.push(claim, out.low, out.high)?;
+    Ok(true)
 }
 
 // ---- between cuts

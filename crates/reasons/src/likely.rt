@@ -216,17 +216,35 @@ fn text_apart(
 
 // ---- a cover of all versions by what claims leave out
 
+// Whether places tell all that the clauses leave out. It is put behind the rest as far as they do.
+fn push_clauses(
+    ends: &mut Ends<Place>,
+    index: usize,
+    clauses: &[Clause],
+) -> Result<bool, AllocError> {
+    for clause in clauses {
+        if !push_places(ends, index, clause)? {
+            return Ok(false);
+        }
+    }
+    Ok(true)
+}
+
+// Puts what the claim leaves out behind the rest, if places tell it all: else a point of another one may be left out.
 fn push_claim_places(
     ends: &mut Ends<Place>,
     index: usize,
     claim: &Claim,
 ) -> Result<(), AllocError> {
-    if let Claim::Required(requirement) = claim {
-        if let Target::Bounds(clauses) = requirement.target() {
-            for clause in clauses {
-                push_places(ends, index, clause)?;
-            }
-        }
+    let Claim::Required(requirement) = claim else {
+        return Ok(());
+    };
+    let Target::Bounds(clauses) = requirement.target() else {
+        return Ok(());
+    };
+    let before = ends.count();
+    if !push_clauses(ends, index, clauses.as_slice())? {
+        ends.keep(before);
     }
     Ok(())
 }

@@ -22,7 +22,7 @@ const LINES: Part = (
 );
 
 // The inputs, the name, and the line.
-const ROWS: [(&str, &[Part], &str, &str); 24] = [
+const ROWS: [(&str, &[Part], &str, &str); 25] = [
     ("no claim", &[(Kind::List, "django\n")], "flask", "open"),
     (
         "two bounds, behind a comment",
@@ -65,6 +65,12 @@ const ROWS: [(&str, &[Part], &str, &str); 24] = [
         )],
         "flask",
         "none | 1:1 flask!=1!0.* | 1:2 flask>=1!1.0 * | 1:3 flask!=1!1.* * | 1:4 flask<1!2 *",
+    ),
+    (
+        "a clause without a place behind one that has two",
+        &[(Kind::List, "flask>=1.0\nflask!=1.*,>0.5\nflask<2\n")],
+        "flask",
+        "none | 1:1 flask>=1.0 * | 1:2 flask!=1.*,>0.5 * | 1:3 flask<2 *",
     ),
     (
         "a != that closes the gap between an entry and a bound",
