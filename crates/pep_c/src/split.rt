@@ -11,8 +11,8 @@ use std::alloc::Global;
 
 /// The shard of the requirement on each line of a list among so many, from 0, whether or not its marker holds: lines
 /// with one name have one shard, on each machine. A line that is empty or a comment has the count itself. A count of 0
-/// stands for 1. There is one number more than there are line feeds, and the size of the reply counts them. The list may
-/// be of any size.
+/// stands for 1. There is one number more than there are line feeds, and the size of the reply counts them. The list
+/// may be of any size.
 ///
 /// A refusal is that of the first line of input 1 that is too long, 57 with 38, isn't UTF-8, 57 with 51, or begins with
 /// no name, 57 with 37 or 31; or 60. Then the line goes into the room. See [`shards_of`].

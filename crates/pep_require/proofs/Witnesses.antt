@@ -8,6 +8,7 @@ use Rattle.pep_marker.specs.Environment.{environment_of}
 use Rattle.pep_marker.specs.Marker.{MarkerParts, compare, text, variable, version_operator}
 use Rattle.pep_marker.specs.declared.environment.Variable.TheVariants.{Extra}
 use Rattle.pep_marker.specs.declared.fault.MarkerFault.TheVariants as marker_fault
+use Rattle.pep_require.specs.CommonUrl.{IsCommonUrl}
 use Rattle.pep_require.specs.Code.{IsSameFault, require_inner_code}
 use Rattle.pep_require.specs.LineParts.{RefusesLine, RefusesWritten, StartsLine, bad_beginning}
 use Rattle.pep_require.specs.Requirement.{MarkerSays, UrlParts, bounds}
@@ -61,6 +62,12 @@ Requirement_text-without_the_marker e = cc e
 pub UrlText_read-control_character_as_overflow : ¬ RefusesWritten (1 ∷ []) fault.UrlOverflow
 UrlText_read-control_character_as_overflow (inl h) = cc h.0
 UrlText_read-control_character_as_overflow (inr h) = cc h.1
+
+-- `http://a/`
+pub UrlText_read-common_url_as_overflow : ¬ (IsCommonUrl (codes "http://a/")
+    → fault.UrlOverflow ≡ fault.NoMemory)
+UrlText_read-common_url_as_overflow h =
+    cc (h (record { rest = codes "a/"; scheme = inr refl; goes = refl }))
 
 abbrev url : UrlParts
 url = record { written = codes "https://X.test"; text = codes "https://x.test/" }

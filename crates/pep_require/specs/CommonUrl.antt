@@ -1,4 +1,4 @@
--- URLs of the common form, which the URL Standard prints as they are written: how they are recognized. The law
+-- URLs of the common form, which the crate `url` prints as they are written: how they are recognized. The law
 -- `common_url_is_its_text` says what they are.
 use Rattle.std.specs.Prelude.{◌≡◌, ℕ, ◌⊎◌, Bool, true, false, ◌||◌, ◌==◌, List, [], ◌∷◌, ◌++◌, codes}
 use Rattle.std.specs.Prelude.{Option, Some, None, Ok, String, string_bytes, if◌then◌else◌}

@@ -1,7 +1,7 @@
-// URLs of the common form, which the URL Standard prints as they are written: `http://` or `https://`, a host in lower
-// case whose last label begins with a letter, and a path, a query and a fragment in which nothing is escaped.
+// URLs of the common form, which the crate `url` prints as they are written: `http://` or `https://`, a host in lower
+// case whose last label begins with a letter, and a path, a query and a fragment in which nothing has to be escaped.
 
-ghost use Rattle.std.specs.Prelude.{◌≡◌, IfSome, true};
+ghost use Rattle.std.specs.Prelude.{◌≡◌, IfNone, IfSome, List, false, true, ℕ};
 ghost use Rattle.pep_require.specs.CommonUrl.{
   IsBehindScheme,
   IsCommonUrl,
@@ -47,7 +47,7 @@ fn is_label_byte(byte: u8) -> bool
     matches!(byte, b'a'..=b'z' | b'0'..=b'9' | b'-')
 }
 
-// Whether a segment of a path may hold the byte: none that is escaped there, in a query or in a fragment.
+// Whether a segment of a path may hold the byte: none that has to be escaped there, in a query or in a fragment.
 fn is_path_byte(byte: u8) -> bool
     ensures { result ≡ is_path_byte byte }
 {
@@ -137,7 +137,8 @@ fn goes_on(bytes: &[u8]) -> bool
 
 // What stands behind `http://` or `https://`.
 fn behind_scheme(bytes: &[u8]) -> Option<&[u8]>
-    ensures { IfSome result (λ rest. IsBehindScheme bytes.now rest.now) }
+    ensures some { IfSome result (λ rest. IsBehindScheme bytes.now rest.now) }
+    ensures none { IfNone result ((rest : List ℕ) → ¬ IsBehindScheme bytes.now rest) }
 {
     if bytes.starts_with(b"https://") {
         Some(&bytes[8..])
@@ -148,9 +149,10 @@ fn behind_scheme(bytes: &[u8]) -> Option<&[u8]>
     }
 }
 
-// Whether the text is a URL of the common form. No clause says that each of these is found.
+// Whether the text is a URL of the common form.
 pub(crate) fn is_common(text: &str) -> bool
-    ensures { result ≡ true → IsCommonUrl text.now }
+    ensures yes { result ≡ true → IsCommonUrl text.now }
+    ensures no { result ≡ false → ¬ IsCommonUrl text.now }
 {
     match behind_scheme(text.as_bytes()) {
         Some(rest) => goes_on(rest),
