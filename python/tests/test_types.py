@@ -158,8 +158,9 @@ class Types(unittest.TestCase):
         self.assertEqual(SpecifierSet("!=1.0").ranges, (Range(Cut("before 0.dev0"), Cut("before 1")), Range(Cut("before 1.post0.dev0"), Cut("end"))))
         empty = [">=2,<1", ">1.0a5,<1.0a6.dev0", "===1.0,===1.00", "===x"]
         self.assertEqual([SpecifierSet(it).is_empty() for it in [*empty, "", ">=1", "===1.0"]], [True] * 4 + [False] * 3)
-        within = [("==1.5", ">=1"), ("===1.5", ">=1"), (">=2,<1", "==7"), (">=1", ""), ("~=1.4", ">=1.4,==1.*"), ("===1.0", "===1.0")]
-        outside = [(">=1", "==1.5"), ("", ">=0"), (">=1", "===1.0"), ("===0.5", ">=1"), ("!=1.0", "!=1.0,!=2.0")]
+        many = ">=1,<9,!=2,!=3,!=4,!=5.*,~=1.0"
+        within = [("==1.5", ">=1"), ("===1.5", ">=1"), (">=2,<1", "==7"), (">=1", ""), ("~=1.4", ">=1.4,==1.*"), ("===1.0", "===1.0"), (many, many), ("===1,===1", "===1,===1,>=0")]
+        outside = [(">=1", "==1.5"), ("", ">=0"), (">=1", "===1.0"), ("===0.5", ">=1"), ("!=1.0", "!=1.0,!=2.0"), (many, f"{many},!=1.7")]
         self.assertEqual([SpecifierSet(low) <= SpecifierSet(high) for low, high in [*within, *outside]], [True] * len(within) + [False] * len(outside))
         self.assertTrue(SpecifierSet(">=1") >= SpecifierSet(">=2"))
 
