@@ -44,9 +44,9 @@ enum { TUBRAMBUTAN_ANSWERED = 0, TUBRAMBUTAN_MISCUT = 1, TUBRAMBUTAN_REFUSED = 2
 /* The kind of an input: a list of requirements, a pyproject.toml, or a printed table. docs/INPUTS.md says what each may hold. */
 enum { TUBRAMBUTAN_LIST = 0, TUBRAMBUTAN_PROJECT = 1, TUBRAMBUTAN_TABLE = 2 };
 
-/* An input in a buffer in which all stand one behind the other: its kind, how many bytes it has, and how many bytes in front of them are the
- * name of the dependency group that is asked for of a project file, in place of its dependencies (PEP 735). The last is 0 where no group
- * is asked for, as of each list and table. An extra is a variable of the environment. */
+/* An input in a buffer that holds all one after another: its kind, its size, and the size of the dependency group's name just before it
+ * (PEP 735): 0 for no group, and for lists and tables. With a group, a project file's dependencies don't count. An extra is a variable of
+ * the environment. */
 typedef struct {
     uint32_t kind;
     size_t size;
@@ -88,7 +88,7 @@ tubrambutan_reply tubrambutan_check_each(const uint8_t *environment, size_t envi
 /* Why the package with this name has its verdict on what such inputs demand, as lines: "NAME VERDICT", where the verdict is "open", "none" or
  * "conflict"; "claim I N TEXT" for each requirement on it that applies, and for each entry of a table on it, in order, where I is the number
  * of the input, N that of the line there (of an entry its first, of a project file that of the text), both counted from 1, and TEXT the
- * requirement's normal text, of an entry the name; and "clash I N TEXT" for each of these that clash: without any one of them the others don't. */
+ * requirement's normal text, of an entry the name; and "clash I N TEXT" for each of these that clash: if any one is dropped, this clash is gone. */
 tubrambutan_reply tubrambutan_why(const uint8_t *environment, size_t environment_size, const tubrambutan_part *parts,
                                   size_t part_count, const uint8_t *bytes, size_t byte_count, const uint8_t *name, size_t name_size,
                                   uint8_t *room, size_t room_size);
@@ -112,8 +112,8 @@ tubrambutan_reply tubrambutan_admits(const uint8_t *clause, size_t clause_size, 
 tubrambutan_reply tubrambutan_compare(const uint8_t *first, size_t first_size, const uint8_t *second, size_t second_size,
                                       uint8_t *room, size_t room_size);
 
-/* The key of a version: of two versions the one whose key is below the other's in byte order (memcmp, and of keys that begin alike the
- * shorter) is below it, and versions that are the same in order have one key. */
+/* The key of a version. Keys in byte order (memcmp; a prefix comes first) are versions in order, and versions that are equal in order have
+ * one key. */
 tubrambutan_reply tubrambutan_key(const uint8_t *version, size_t version_size, uint8_t *room, size_t room_size);
 
 /* The keys of many versions, whose texts have a zero byte between two: of each its length as eight bytes, the most significant first,
