@@ -25,7 +25,7 @@ MEANINGS: dict[tuple[int, ...], str] = {
     (57, 37): "the line begins with `-`",
     (57, 38): "a line or text has more than 65,536 bytes",
     (57, 39): "the URL is too long for the reader of URLs",
-    (57, 41): "the line can't stand in a table, or in its header, behind the lines before it",
+    (57, 41): "the line can't follow those before it in a table or its header",
     (57, 43): "the table was printed in another environment",
     (57, 51): "the line isn't UTF-8",
     (58,): "a file can't be opened, or reading failed",
