@@ -12,6 +12,9 @@ from ._refused import Refused
 from ._shards import MOST, lines_by_shard
 from ._table import Table
 
+# A table costs a merge, and lines that many times its size cost more.
+_PAYS = 4
+
 # A path, or the bytes of a list.
 Input = Union[str, "os.PathLike[str]", bytes]
 # The kind of an input, and its bytes.
@@ -91,9 +94,9 @@ def _size(pieces: Iterable[Piece]) -> int:
 
 
 def smaller(shards: list[list[Piece]], judged: Judged) -> list[list[Piece]]:
-    """Returns for each shard what is in it, or its table where that is smaller. That is tried on the shard with most bytes: if its table isn't smaller, no other is made."""
+    """Returns for each shard what is in it, or its table where that is much smaller. That is tried on the shard with most bytes: if its table isn't, no other is made."""
     at = max(range(len(shards)), key=lambda it: _size(shards[it]))
-    if _size(tables_of(judged.merged(shards[at]))) >= _size(shards[at]):
+    if _size(tables_of(judged.merged(shards[at]))) * _PAYS > _size(shards[at]):
         return shards
     return [min(it, tables_of(judged.merged(it)), key=_size) for it in shards]
 

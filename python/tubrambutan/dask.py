@@ -55,7 +55,7 @@ def merge(
 ) -> list[Shard]:
     r"""Merges a bag of inputs on a cluster, and returns the shards of their table, which stay there: `result()` brings one here. Joined they are the table of one merge.
 
-    Each partition of the bag is a part, which one task reads and splits. It sends its lines to the shards, or their tables where these are smaller. A task holds the inputs of
+    Each partition of the bag is a part, which one task reads and splits. It sends its lines to the shards, or their tables where these are much smaller. A task holds the inputs of
     a part, or what is sent to one shard, and no more. So a bag has some parts for each worker, and the count is such that a shard is no larger than a part.
 
     >>> import dask.bag, distributed, tubrambutan.dask
