@@ -8,7 +8,7 @@ use Rattle.pep_clause.specs.Cut.{Cut, IsCut, cut_cmp}
 use Rattle.pep_clause.specs.OperatorTable.{range}
 use Rattle.pep_clause.specs.VersionSet.{IsNormal, Range}
 use Rattle.pep_clause.proofs.NormalJoined.{IsNormal-range}
-use Rattle.demands.specs.Finished.{bounded_entry, ranges_entry}
+use Rattle.demands.specs.Finished.{ranges_entry}
 use Rattle.demands.specs.Table.{EntryDemands, IsValidEntry}
 use Rattle.demands.specs.Verdict.{IsVerdict}
 use Rattle.demands.specs.declared.verdict.Verdict.TheVariants.{Possible, Nothing}
@@ -50,7 +50,7 @@ some_spans (b ∷ rest) other e = cc e
 pub one_range : (l h : Cut) → cut_cmp l h ≡ Less → range l h ≡ record { low = l; high = h } ∷ []
 one_range l h e = rw e refl
 
-some_range : (l h : Cut) → cut_cmp l h ≡ Less → range l h ≢ []
+pub some_range : (l h : Cut) → cut_cmp l h ≡ Less → range l h ≢ []
 some_range l h e = λ none. cc (sym (one_range l h e) ∙ none)
 
 pub no_range : (l h : Cut) → cut_cmp l h ≢ Less → range l h ≡ []
@@ -61,11 +61,3 @@ no_range l h other = by (cut_cmp l h) other
     by Less f = absurd (f refl)
     by Equal f = refl
     by Greater f = refl
-
-pub possible_between : (l h : Cut) → IsCut l → IsCut h → cut_cmp l h ≡ Less →
-    IsVerdict (EntryDemands (bounded_entry l h)) Possible
-possible_between l h f g e = possible_in (range l h) (IsNormal-range l h f g) (some_range l h e)
-
-pub none_between : (l h : Cut) → IsCut l → IsCut h → cut_cmp l h ≢ Less →
-    IsVerdict (EntryDemands (bounded_entry l h)) Nothing
-none_between l h f g e = nothing_in (range l h) (IsNormal-range l h f g) (no_range l h e)

@@ -1,4 +1,5 @@
 pub mod KeptSets
+pub mod CollectedTexts
 pub mod ValidEntries
 pub mod TakenClauses
 pub mod PartialJoins

@@ -9,22 +9,12 @@ ghost use Rattle.demands.specs.Finished.{kept_ranges};
 ghost use Rattle.demands.specs.Join.{IsIntersection};
 
 use crate::fault::TableFault;
+use crate::kept_ranges::{KeptRanges, set_of};
 use crate::partial_joins::{common, joined_of, narrow};
-use pep_clause::{Range, VersionSet};
+use pep_clause::VersionSet;
 use places::{Bounds, LeftOut, Place, PlaceRanges};
 use std::alloc::Global;
 use std::marker::Model;
-
-/// The versions that are kept, in the form that holds them.
-#[derive(Drop)]
-pub(crate) enum KeptRanges {
-    /// Those between two places.
-    Bounded(Bounds),
-    /// Those in ranges between places.
-    Placed(PlaceRanges),
-    /// Those of a set.
-    Set(VersionSet),
-}
 
 /// Versions that are left out between two places at a time, and sets, in each of which a version has to be. Clauses
 /// see the ranges of the versions that are left.
@@ -47,34 +37,6 @@ impl Model for Beside {
     ghost invariant = { λ v. IsNormal v.left_out × AreNormal v.sets.items };
 }
 
-// The set of the versions between two places.
-fn set_between(alloc: Global, bounds: Bounds) -> Result<VersionSet, TableFault>
-    ensures range { IfOk result (λ s. s ≡ range bounds.low bounds.high) }
-    ensures faults { IfErr result (λ e. e ≡ TableFault.NoMemory) }
-{
-    let (Ok(low), Ok(high)) = (bounds.low.cut(alloc), bounds.high.cut(alloc)) else {
-        return Err(TableFault::NoMemory);
-    };
-    let Some(range) = Range::of(low, high) else {
-        return Ok(VersionSet::none(alloc));
-    };
-    match VersionSet::of_ranges(Vec::from_array(alloc, [range])?) {
-        Some(versions) => Ok(versions),
-        None => unreachable!(),
-    }
-}
-
-// The versions in some ranges between places as a set.
-fn set_of(alloc: Global, ranges: PlaceRanges) -> Result<VersionSet, TableFault>
-    ensures same { IfOk result (λ s. s ≡ ranges) }
-    ensures faults { IfErr result (λ e. e ≡ TableFault.NoMemory) }
-{
-    match ranges.into_set(alloc) {
-        Ok(versions) => Ok(versions),
-        Err(_) => Err(TableFault::NoMemory),
-    }
-}
-
 // The versions between two places that are left over.
 fn left_between(alloc: Global, left_out: LeftOut, bounds: Bounds) -> Result<PlaceRanges, TableFault>
     ensures ranges { IfOk result (λ r. r ≡ joined (range bounds.low bounds.high) left_out) }
@@ -83,20 +45,6 @@ fn left_between(alloc: Global, left_out: LeftOut, bounds: Bounds) -> Result<Plac
     match left_out.between(alloc, bounds) {
         Ok(ranges) => Ok(ranges),
         Err(_) => Err(TableFault::NoMemory),
-    }
-}
-
-impl KeptRanges {
-    /// The versions as a set. The only fault is `NoMemory`.
-    pub(crate) fn into_set(self, alloc: Global) -> Result<VersionSet, TableFault>
-        ensures same { IfOk result (λ s. s ≡ kept_ranges self) }
-        ensures faults { IfErr result (λ e. e ≡ TableFault.NoMemory) }
-    {
-        match self {
-            KeptRanges::Bounded(bounds) => set_between(alloc, bounds),
-            KeptRanges::Placed(ranges) => set_of(alloc, ranges),
-            KeptRanges::Set(versions) => Ok(versions),
-        }
     }
 }
 
@@ -157,7 +105,7 @@ impl Beside {
             return Ok(KeptRanges::Set(joined));
         }
         let ranges = left_between(alloc, left_out, bounds)?;
-        let both = common(alloc, joined, set_of(alloc, ranges)?)?;
+        let both = common(alloc, joined, set_of(alloc, &ranges)?)?;
         Ok(KeptRanges::Set(both))
     }
 }

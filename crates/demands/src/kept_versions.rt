@@ -11,8 +11,9 @@ ghost use Rattle.demands.specs.Gathering.{MeetsClauses, target_clauses};
 ghost use Rattle.demands.specs.Join.{IsIntersection};
 ghost use Rattle.demands.specs.PartialJoins.{beside_versions};
 
-use crate::beside::{Beside, KeptRanges};
+use crate::beside::Beside;
 use crate::fault::TableFault;
+use crate::kept_ranges::KeptRanges;
 use crate::line_versions::LineVersions;
 use pep_clause::{Clause, VersionSet};
 use pep_require::Target;

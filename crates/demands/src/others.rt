@@ -1,6 +1,6 @@
 // What requirements demand of a package besides its versions.
 
-ghost use Rattle.std.specs.Prelude.{◌≡◌, ◌∷◌, [], All, IfErr, IsTrue, OnOk, false};
+ghost use Rattle.std.specs.Prelude.{◌≡◌, ◌∷◌, [], All, IfErr, IfOk, IsTrue, OnOk, false};
 ghost use Rattle.pep_require.specs.View.{requirement_parts, target_parts};
 ghost use Rattle.demands.specs.Gathering.{bare_entry, target_clauses, target_urls, texts_of};
 ghost use Rattle.demands.specs.Join.{IsUnion};
@@ -16,19 +16,20 @@ ghost use Rattle.demands.specs.Table.{IsValidEntry, is_url_text};
 use crate::collected::Collected;
 use crate::entry::Entry;
 use crate::fault::TableFault;
+use crate::sorted::Sorted;
 use pep_clause::{Clause, VersionSet};
-use pep_marker::Name;
 use pep_require::{Requirement, Target, UrlText};
 use std::alloc::Global;
 use std::marker::Model;
+use texts::Arena;
 
 /// The extras, URLs and texts that requirements demand of one package. Most packages have none. They
 /// come one by one, which the sorted lists of an [`Entry`] would not take well.
 #[derive(Drop)]
 pub(crate) struct Others {
-    extras: Collected<Name>,
-    urls: Collected<String>,
-    texts: Collected<String>,
+    extras: Collected,
+    urls: Collected,
+    texts: Collected,
 }
 
 impl Model for Others {
@@ -43,21 +44,10 @@ impl Model for Others {
     } };
 }
 
-// Takes a copy of the text, unless it is found.
-fn put_text(alloc: Global, texts: &mut Collected<String>, text: &str) -> Result<(), TableFault>
-    ensures put { OnOk result (IsUnion texts.old (text.now ∷ []) texts.new) }
-    ensures faults { IfErr result (λ e. e ≡ TableFault.NoMemory) }
-{
-    if texts.has(text) {
-        return Ok(());
-    }
-    texts.put(String::from_str(alloc, text)?)
-}
-
 // Takes the text that a clause demands, where it demands one.
 fn take_text(
     alloc: Global,
-    texts: &mut Collected<String>,
+    texts: &mut Collected,
     clause: &Clause,
 ) -> Result<(), TableFault>
     ensures texts { OnOk result (IsUnion texts.old (texts_of (clause.now ∷ [])) texts.new) }
@@ -65,7 +55,7 @@ fn take_text(
 {
     texts.in_order();
     match clause.exact_text() {
-        Some(text) => put_text(alloc, texts, text),
+        Some(text) => texts.put(alloc, text),
         None => Ok(()),
     }
 }
@@ -73,7 +63,7 @@ fn take_text(
 // Takes the texts that clauses demand.
 fn take_texts(
     alloc: Global,
-    texts: &mut Collected<String>,
+    texts: &mut Collected,
     clauses: &[Clause],
 ) -> Result<(), TableFault>
     ensures texts { OnOk result (IsUnion texts.old (texts_of clauses.now) texts.new) }
@@ -87,12 +77,12 @@ fn take_texts(
 }
 
 // Takes the text of a URL.
-fn take_url(alloc: Global, urls: &mut Collected<String>, url: &UrlText) -> Result<(), TableFault>
+fn take_url(alloc: Global, urls: &mut Collected, url: &UrlText) -> Result<(), TableFault>
     ensures urls { OnOk result (IsUnion urls.old (url.now.text ∷ []) urls.new) }
     ensures valid { IsTrue (is_url_text url.now.text) }
     ensures faults { IfErr result (λ e. e ≡ TableFault.NoMemory) }
 {
-    put_text(alloc, urls, url.text())
+    urls.put(alloc, url.text())
 }
 
 // Whether one of the clauses demands a text.
@@ -184,21 +174,77 @@ impl Others {
         self.texts.put_all(alloc, entry.texts().items())
     }
 
-    /// The entry of these and of the versions.
-    pub(crate) fn entry(self, versions: VersionSet) -> Entry
-        requires { IsValidEntry (entry_with self versions) }
-        ensures { result ≡ entry_with self versions }
+    /// The same in order. The only fault is `NoMemory`.
+    pub(crate) fn finish(self, alloc: Global) -> Result<OtherTexts, TableFault>
+        ensures same { IfOk result (λ o. o ≡ self) }
+        ensures faults { IfErr result (λ e. e ≡ TableFault.NoMemory) }
     {
         let Others {
             extras,
             urls,
             texts,
         } = self;
-        Entry::of(
-            extras.into_sorted(),
-            urls.into_sorted(),
-            texts.into_sorted(),
+        Ok(OtherTexts {
+            extras: extras.into_texts(alloc)?,
+            urls: urls.into_texts(alloc)?,
+            texts: texts.into_texts(alloc)?,
+        })
+    }
+}
+
+/// The extras, URLs and demanded texts of one package, each list in order. Public for the crate of tables.
+#[derive(Drop)]
+pub struct OtherTexts {
+    extras: Arena,
+    urls: Arena,
+    texts: Arena,
+}
+
+impl Model for OtherTexts {
+    ghost use Rattle.demands.specs.Others.{OtherParts};
+
+    ghost Value = { OtherParts };
+
+    ghost view = { λ o. record {
+      extras = o.extras;
+      urls = o.urls;
+      texts = o.texts;
+    } };
+}
+
+impl OtherTexts {
+    /// The extras.
+    pub fn extras(&self) -> &Arena
+        ensures { result.now ≡ self.now.extras }
+    {
+        &self.extras
+    }
+
+    /// The texts of the URLs.
+    pub fn urls(&self) -> &Arena
+        ensures { result.now ≡ self.now.urls }
+    {
+        &self.urls
+    }
+
+    /// The texts that `===` demands.
+    pub fn texts(&self) -> &Arena
+        ensures { result.now ≡ self.now.texts }
+    {
+        &self.texts
+    }
+
+    /// The entry of these and of the versions. The only fault is `NoMemory`.
+    pub(crate) fn entry(&self, alloc: Global, versions: VersionSet) -> Result<Entry, TableFault>
+        requires { IsValidEntry (entry_with self.now versions) }
+        ensures same { IfOk result (λ e. e ≡ entry_with self.now versions) }
+        ensures faults { IfErr result (λ e. e ≡ TableFault.NoMemory) }
+    {
+        Ok(Entry::of(
+            Sorted::of_texts(alloc, &self.extras)?,
+            Sorted::of_texts(alloc, &self.urls)?,
+            Sorted::of_texts(alloc, &self.texts)?,
             versions,
-        )
+        ))
     }
 }

@@ -5,32 +5,20 @@ ghost use Rattle.pep_require.specs.View.{requirement_parts};
 ghost use Rattle.demands.specs.Gathering.{HasValidParts, TakesEntry, bare_entry};
 ghost use Rattle.demands.specs.Join.{JoinsEntries};
 ghost use Rattle.demands.specs.Others.{JoinsOthers, TakesOthers, kept_others};
-ghost use Rattle.demands.specs.Finished.{finished_entry, kept_ranges, ranges_entry};
+ghost use Rattle.demands.specs.Finished.{ranges_entry};
 ghost use Rattle.demands.specs.Table.{IsValidEntry};
 
-use crate::beside::KeptRanges;
 use crate::entry::Entry;
 use crate::fault::TableFault;
+use crate::finished::Finished;
 use crate::kept_versions::KeptVersions;
 use crate::line_versions::LineVersions;
-use crate::others::{Others, demands_others};
+use crate::others::{OtherTexts, Others, demands_others};
 use crate::sorted::Sorted;
 use pep_clause::VersionSet;
 use pep_require::Requirement;
-use places::{Bounds, PlaceRanges};
 use std::alloc::Global;
 use std::marker::Model;
-
-/// What is demanded of one package in all.
-#[derive(Drop)]
-pub enum Finished {
-    /// The versions between two places, and nothing else.
-    Bounded(Bounds),
-    /// The versions in ranges between places, and nothing else.
-    Placed(PlaceRanges),
-    /// What the entry demands.
-    Listed(Entry),
-}
 
 /// What requirements and entries so far demand of one package. Clauses see the entry of it.
 #[derive(Drop)]
@@ -115,15 +103,20 @@ fn entry_of(alloc: Global, versions: VersionSet) -> Entry
     )
 }
 
-// What is demanded where it is these versions, and nothing else.
-fn versions_alone(alloc: Global, versions: KeptRanges) -> Finished
-    ensures { finished_entry result ≡ ranges_entry (kept_ranges versions) }
+// What is demanded besides versions, in order.
+fn finished_others(
+    alloc: Global,
+    others: Option<Box<Others>>,
+) -> Result<Option<Box<OtherTexts>>, TableFault>
+    ensures same { IfOk result (λ new. kept_others (option_map (λ b. b.value) new)
+        ≡ kept_others (option_map (λ b. b.value) others)) }
+    ensures faults { IfErr result (λ e. e ≡ TableFault.NoMemory) }
 {
-    match versions {
-        KeptRanges::Bounded(bounds) => Finished::Bounded(bounds),
-        KeptRanges::Placed(ranges) => Finished::Placed(ranges),
-        KeptRanges::Set(versions) => Finished::Listed(entry_of(alloc, versions)),
-    }
+    let Some(others) = others else {
+        return Ok(None);
+    };
+    let texts = Box::into_inner(others).finish(alloc)?;
+    Ok(Some(Box::new(alloc, texts)?))
 }
 
 impl PackageDemands {
@@ -183,20 +176,16 @@ impl PackageDemands {
         self.versions.meet_line(alloc, versions)
     }
 
-    /// What is gathered, which has to be an entry, as for `entry`: places, where nothing else was kept. The only
-    /// fault is `NoMemory`, 42.
+    /// What is gathered, which has to be an entry, as for `entry`. The only fault is `NoMemory`, 42.
     pub fn finish(self, alloc: Global) -> Result<Finished, TableFault>
         requires { IsValidEntry self }
-        ensures same { IfOk result (λ f. finished_entry f ≡ self) }
+        ensures same { IfOk result (λ f. f ≡ self) }
         ensures faults { IfErr result (λ e. e ≡ TableFault.NoMemory) }
     {
         let PackageDemands { versions, others } = self;
         let versions = versions.finish(alloc)?;
-        let Some(others) = others else {
-            return Ok(versions_alone(alloc, versions));
-        };
-        let versions = versions.into_set(alloc)?;
-        Ok(Finished::Listed(Box::into_inner(others).entry(versions)))
+        let others = finished_others(alloc, others)?;
+        Ok(Finished::of(others, versions))
     }
 
     /// The entry of what is gathered, which has to be one: what `take` and `join` made of `bare` is,
@@ -208,8 +197,8 @@ impl PackageDemands {
     {
         let PackageDemands { versions, others } = self;
         let versions = versions.finish(alloc)?.into_set(alloc)?;
-        match others {
-            Some(others) => Ok(Box::into_inner(others).entry(versions)),
+        match finished_others(alloc, others)? {
+            Some(others) => others.entry(alloc, versions),
             None => Ok(entry_of(alloc, versions)),
         }
     }

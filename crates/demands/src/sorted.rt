@@ -1,16 +1,17 @@
 //! Values in the order of their texts, each once.
 
-ghost use Rattle.std.specs.Prelude.{◌≡◌, ⊤, List, ℕ, IfErr, IfOk, [], map};
+ghost use Rattle.std.specs.Prelude.{◌≡◌, ◌++◌, ⊤, All, List, ℕ, IfErr, IfOk, OnOk, [], map};
 ghost use Rattle.std.specs.Cmp.Lexicographic.{slice_cmp};
 ghost use Rattle.std.specs.Ordering.{nat_cmp};
 ghost use Rattle.pep_require.specs.Requirement.{IsAscending};
+ghost use Rattle.demands.specs.Collected.{collected_texts};
 
-use crate::collected::Collected;
 use crate::fault::TableFault;
 use crate::join::Join;
 use pep_marker::Name;
 use std::alloc::Global;
 use std::marker::Model;
+use texts::Arena;
 
 /// What is kept in the order of its text.
 pub trait Kept: Ord + Drop {
@@ -19,6 +20,9 @@ pub trait Kept: Ord + Drop {
 
     /// Holds of every value.
     ghost is_value: { Self → Type 0 } = { λ _. ⊤ };
+
+    /// Holds of the text of every value, and of no other.
+    ghost is_text: { List ℕ → Type 0 } = { λ _. ⊤ };
 
     /// The text.
     fn as_text(&self) -> &str
@@ -34,6 +38,12 @@ pub trait Kept: Ord + Drop {
         ensures value { is_value self.now }
         ensures faults { IfErr result (λ e. e ≡ TableFault.NoMemory) };
 
+    /// The value with this text. The only fault is `NoMemory`, 42.
+    fn of_text(alloc: Global, spelled: &str) -> Result<Self, TableFault>
+        requires { is_text spelled.now }
+        ensures same { IfOk result (λ r. text r ≡ spelled.now) }
+        ensures faults { IfErr result (λ e. e ≡ TableFault.NoMemory) };
+
     /// Values are compared by their texts.
     ghost order: { (x y : Self) → Self.cmp x y ≡ slice_cmp nat_cmp (text x) (text y) };
 }
@@ -45,6 +55,8 @@ impl Kept for Name {
     ghost text = { λ n. n };
 
     ghost is_value = { IsNormalName };
+
+    ghost is_text = { IsNormalName };
 
     ghost order = { λ x y. refl };
 
@@ -58,6 +70,13 @@ impl Kept for Name {
 
     fn kept(&self, alloc: Global) -> Result<Name, TableFault> {
         match self.copied(alloc) {
+            Ok(name) => Ok(name),
+            Err(_) => Err(TableFault::NoMemory),
+        }
+    }
+
+    fn of_text(alloc: Global, spelled: &str) -> Result<Name, TableFault> {
+        match Name::read(alloc, spelled) {
             Ok(name) => Ok(name),
             Err(_) => Err(TableFault::NoMemory),
         }
@@ -80,6 +99,10 @@ impl Kept for String {
     fn kept(&self, alloc: Global) -> Result<String, TableFault> {
         Ok(String::from_str(alloc, self.as_str())?)
     }
+
+    fn of_text(alloc: Global, spelled: &str) -> Result<String, TableFault> {
+        Ok(String::from_str(alloc, spelled)?)
+    }
 }
 
 /// Values in the order of their texts, each once. Clauses see the texts.
@@ -99,6 +122,26 @@ impl<T: Kept> Model for Sorted<T> {
     ghost invariant = { λ s. IsAscending (map T.text s.items.items) };
 }
 
+// Puts copies of the values behind the others.
+fn push_copies<T: Kept>(alloc: Global, items: &mut Vec<T>, values: &[T]) -> Result<(), TableFault>
+    ensures pushed { OnOk result (map T.text items.new.items
+        ≡ map T.text items.old.items ++ map T.text values.now) }
+    ensures faults { IfErr result (λ e. e ≡ TableFault.NoMemory) }
+{
+    for value in values {
+        items.push(value.kept(alloc)?)?;
+    }
+    Ok(())
+}
+
+// Puts the values in the order of their texts, and keeps each once.
+fn put_in_order<T: Kept>(items: &mut Vec<T>)
+    ensures { map T.text items.new.items ≡ collected_texts (map T.text items.old.items) }
+{
+    items.sort_unstable();
+    items.dedup();
+}
+
 impl<T: Kept> Sorted<T> {
     /// No value.
     pub fn new(alloc: Global) -> Self
@@ -116,6 +159,20 @@ impl<T: Kept> Sorted<T> {
         ensures { result ≡ map T.text items.items }
     {
         Sorted { items }
+    }
+
+    /// The values with these texts, which are in order, each once. The only fault is `NoMemory`, 42.
+    pub(crate) fn of_texts(alloc: Global, texts: &Arena) -> Result<Self, TableFault>
+        requires ascending { IsAscending texts.now }
+        requires texts { All T.is_text texts.now }
+        ensures same { IfOk result (λ s. s ≡ texts.now) }
+        ensures faults { IfErr result (λ e. e ≡ TableFault.NoMemory) }
+    {
+        let mut items = Vec::with_capacity(alloc, texts.len())?;
+        for i in 0..texts.len() {
+            items.push(T::of_text(alloc, texts.text(i))?)?;
+        }
+        Ok(Sorted { items })
     }
 
     /// The values.
@@ -151,10 +208,11 @@ impl<T: Kept> Join for Sorted<T> {
     ghost laws = { IsJoin-IsUnion };
 
     fn joined(&self, alloc: Global, other: &Self) -> Result<Self, TableFault> {
-        let (items, others) = (self.items(), other.items());
-        let mut all = Collected::new(alloc);
-        all.put_all(alloc, items)?;
-        all.put_all(alloc, others)?;
-        Ok(all.into_sorted())
+        // Their clauses tell that the texts are in order.
+        let (_, others) = (self.items(), other.items());
+        let mut items = self.copied(alloc)?.items;
+        push_copies(alloc, &mut items, others)?;
+        put_in_order(&mut items);
+        Ok(Sorted::of_ascending(items))
     }
 }

@@ -20,11 +20,8 @@ ghost use Rattle.std.specs.Prelude.{
 };
 ghost use Rattle.pep_version.specs.Text.{normal_text};
 ghost use Rattle.pep_version.specs.Version.{is_pre_release};
-ghost use Rattle.std.specs.declared.cmp.Ordering.TheVariants.{Less};
-ghost use Rattle.pep_clause.specs.Cut.{cut_cmp};
 ghost use Rattle.pep_clause.specs.VersionSet.{In, is_in};
 ghost use Rattle.demands.specs.Answer.{IsAnswer};
-ghost use Rattle.demands.specs.Finished.{bounded_entry, ranges_entry};
 ghost use Rattle.demands.specs.Table.{EntryDemands, IsValidEntry};
 ghost use Rattle.demands.specs.Verdict.{
   FitsEntry,
@@ -38,9 +35,7 @@ use crate::entry::Entry;
 use crate::fault::TableFault;
 use pep_clause::VersionSet;
 use pep_version::{Key, Version, VersionFault};
-use places::{Bounds, PlaceRanges};
 use std::alloc::Global;
-use std::cmp::Ordering;
 
 /// Whether a package can be had at all, by the demands on it.
 #[derive(Clone, Copy, Debug, PartialEq, Eq)]
@@ -77,8 +72,8 @@ pub enum Answer {
     Conflict,
 }
 
-// Whether a version in the set has this as its normal text.
-fn has_version(alloc: Global, text: &str, versions: &VersionSet) -> Result<bool, TableFault>
+/// Whether a version in the set has this as its normal text. The only fault is `NoMemory`.
+pub(crate) fn has_version(alloc: Global, text: &str, versions: &VersionSet) -> Result<bool, TableFault>
     ensures found { IfOk result (λ b. IsTrue b ↔ HasVersionOfText versions.now text.now) }
     ensures faults { IfErr result (λ e. e ≡ TableFault.NoMemory) }
 {
@@ -136,32 +131,6 @@ pub fn is_wanted(version: &Version, want_pre: bool) -> bool
     ensures { IsTrue result ↔ ((want_pre ≡ true) ⊎ (is_pre_release version.now ≡ false)) }
 {
     want_pre || !version.is_pre()
-}
-
-/// The verdict where the versions between two places are demanded, and nothing else.
-pub fn verdict_between(bounds: &Bounds) -> Verdict
-    ensures demands { IsVerdict (EntryDemands (bounded_entry bounds.now.low bounds.now.high))
-        result }
-    ensures possible { (result ≡ Verdict.Possible)
-        ↔ (cut_cmp bounds.now.low bounds.now.high ≡ Less) }
-{
-    if bounds.low.cmp(&bounds.high) == Ordering::Less {
-        Verdict::Possible
-    } else {
-        Verdict::Nothing
-    }
-}
-
-/// The verdict where the versions in these ranges are demanded, and nothing else.
-pub fn verdict_in(ranges: &PlaceRanges) -> Verdict
-    ensures demands { IsVerdict (EntryDemands (ranges_entry ranges.now)) result }
-    ensures possible { (result ≡ Verdict.Possible) ↔ (ranges.now ≢ []) }
-{
-    if ranges.as_slice().is_empty() {
-        Verdict::Nothing
-    } else {
-        Verdict::Possible
-    }
 }
 
 impl Entry {

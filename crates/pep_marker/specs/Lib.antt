@@ -1,5 +1,4 @@
 pub mod Name
-pub mod NameHead
 pub mod NameText
 pub mod Environment
 pub mod Pairs

@@ -24,5 +24,5 @@ pub mod ReadTables
 pub mod RangeWords
 pub mod TableBytes
 pub mod SameLemmas
-pub mod BoundedLines
+pub mod EntryLines
 mod Witnesses

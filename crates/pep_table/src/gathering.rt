@@ -11,8 +11,8 @@ ghost use Rattle.demands.specs.declared.verdict.Verdict.{Verdict};
 ghost use Rattle.pep_table.specs.TableText.{IsTableText, Shows, entry_text};
 
 use crate::table::Table;
-use crate::text::{header_of, push_bounded, push_entry, push_placed};
-use demands::{Entry, Finished, Kept, LineVersions, PackageDemands, TableFault};
+use crate::text::{header_of, push_finished};
+use demands::{Entry, Kept, LineVersions, PackageDemands, TableFault};
 use pep_marker::{Environment, MarkerFault, Name};
 use pep_require::Requirement;
 use std::alloc::Global;
@@ -48,11 +48,7 @@ fn push_gathered(
         ++ entry_text name.now verdict gathered)) }
     ensures faults { IfErr result (λ e. e ≡ TableFault.NoMemory) }
 {
-    match gathered.finish(alloc)? {
-        Finished::Bounded(bounds) => push_bounded(text, name, bounds),
-        Finished::Placed(ranges) => push_placed(text, name, &ranges),
-        Finished::Listed(entry) => push_entry(alloc, text, name, &entry),
-    }
+    push_finished(alloc, text, name, &gathered.finish(alloc)?)
 }
 
 impl Gathering {

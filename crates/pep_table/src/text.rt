@@ -1,7 +1,8 @@
 // The text of a table.
 
-ghost use Rattle.std.specs.Prelude.{◌≡◌, ◌++◌, codes, string_bytes, IfErr, IfOk, OnOk, map};
+ghost use Rattle.std.specs.Prelude.{◌≡◌, ◌++◌, codes, string_bytes, IfErr, IfOk, OnOk, map, option_map};
 ghost use Rattle.pep_clause.specs.Cut.{cut_text};
+ghost use Rattle.pep_clause.specs.OperatorTable.{range};
 ghost use Rattle.pep_marker.specs.Header.{header};
 ghost use Rattle.pep_table.specs.TableText.{
   IsTableText,
@@ -9,18 +10,22 @@ ghost use Rattle.pep_table.specs.TableText.{
   entry_text,
   kind_lines,
   line,
+  other_lines,
   range_text,
 };
-ghost use Rattle.demands.specs.Finished.{bounded_entry, ranges_entry};
+ghost use Rattle.demands.specs.Finished.{kept_ranges};
+ghost use Rattle.demands.specs.Others.{kept_others};
 ghost use Rattle.places.specs.LeftOut.{spans};
 ghost use Rattle.demands.specs.Verdict.{verdict_word};
 
 use crate::table::Table;
-use demands::{Entry, Kept, TableFault, Verdict, verdict_between, verdict_in};
+use demands::{Entry, Finished, Kept, KeptRanges, OtherTexts, TableFault, Verdict};
 use pep_clause::{Cut, Range};
 use pep_marker::{Environment, Name};
-use places::{Bounds, Place, PlaceRanges};
+use places::{Bounds, Place};
 use std::alloc::Global;
+use std::cmp::Ordering;
+use texts::Arena;
 
 fn push_line(text: &mut String, kind: &str, value: &str) -> Result<(), TableFault>
     ensures ok { OnOk result (string_bytes text.new ≡ string_bytes text.old
@@ -42,6 +47,18 @@ fn push_kind<T: Kept>(text: &mut String, kind: &str, values: &[T]) -> Result<(),
 {
     for value in values {
         push_line(text, kind, value.as_text())?;
+    }
+    Ok(())
+}
+
+// Appends a line for each of the texts.
+fn push_texts(text: &mut String, kind: &str, texts: &Arena) -> Result<(), TableFault>
+    ensures ok { OnOk result (string_bytes text.new ≡ string_bytes text.old
+        ++ kind_lines kind.now texts.now) }
+    ensures faults { IfErr result (λ e. e ≡ TableFault.NoMemory) }
+{
+    for i in 0..texts.len() {
+        push_line(text, kind, texts.text(i))?;
     }
     Ok(())
 }
@@ -165,20 +182,16 @@ fn push_bounds(text: &mut String, bounds: Bounds) -> Result<(), TableFault>
     Ok(())
 }
 
-/// Appends the lines of a name of which the versions between two places are demanded, and nothing else.
-pub(crate) fn push_bounded(text: &mut String, name: &Name, bounds: Bounds) -> Result<(), TableFault>
-    ensures ok { OnOk result ((verdict : Verdict)
-        × Shows (bounded_entry bounds.low bounds.high) verdict
-        × (string_bytes text.new ≡ string_bytes text.old
-        ++ entry_text name.now verdict (bounded_entry bounds.low bounds.high))) }
+// Appends the line of the range between two places, where a version lies between them.
+fn push_between(text: &mut String, bounds: Bounds) -> Result<(), TableFault>
+    ensures ok { OnOk result (string_bytes text.new ≡ string_bytes text.old
+        ++ kind_lines (codes "range") (map range_text (range bounds.low bounds.high))) }
     ensures faults { IfErr result (λ e. e ≡ TableFault.NoMemory) }
 {
-    let verdict = verdict_between(&bounds);
-    push_head(text, name.text(), verdict)?;
-    if verdict == Verdict::Possible {
-        push_bounds(text, bounds)?;
+    if bounds.low.cmp(&bounds.high) != Ordering::Less {
+        return Ok(());
     }
-    Ok(())
+    push_bounds(text, bounds)
 }
 
 // Appends the lines of ranges between places.
@@ -193,20 +206,49 @@ fn push_spans(text: &mut String, ranges: &[Bounds]) -> Result<(), TableFault>
     Ok(())
 }
 
-/// Appends the lines of a name of which the versions in some ranges are demanded, and nothing else.
-pub(crate) fn push_placed(
-    text: &mut String,
-    name: &Name,
-    ranges: &PlaceRanges,
-) -> Result<(), TableFault>
-    ensures ok { OnOk result ((verdict : Verdict) × Shows (ranges_entry ranges.now) verdict
-        × (string_bytes text.new ≡ string_bytes text.old
-        ++ entry_text name.now verdict (ranges_entry ranges.now))) }
+// Appends the lines of the ranges.
+fn push_kept(text: &mut String, versions: &KeptRanges) -> Result<(), TableFault>
+    ensures ok { OnOk result (string_bytes text.new ≡ string_bytes text.old
+        ++ kind_lines (codes "range") (map range_text (kept_ranges versions.now))) }
     ensures faults { IfErr result (λ e. e ≡ TableFault.NoMemory) }
 {
-    let verdict = verdict_in(ranges);
+    match versions {
+        KeptRanges::Bounded(bounds) => push_between(text, *bounds),
+        KeptRanges::Placed(ranges) => push_spans(text, ranges.as_slice()),
+        KeptRanges::Set(versions) => push_ranges(text, versions.ranges()),
+    }
+}
+
+// Appends the lines of what is demanded besides versions.
+fn push_others(text: &mut String, others: Option<&OtherTexts>) -> Result<(), TableFault>
+    ensures ok { OnOk result (string_bytes text.new ≡ string_bytes text.old
+        ++ other_lines (kept_others (option_map (λ o. o.now) others))) }
+    ensures faults { IfErr result (λ e. e ≡ TableFault.NoMemory) }
+{
+    let Some(others) = others else {
+        return Ok(());
+    };
+    push_texts(text, "extra", others.extras())?;
+    push_texts(text, "url", others.urls())?;
+    push_texts(text, "text", others.texts())
+}
+
+/// Appends the lines of a name of which this is demanded.
+pub(crate) fn push_finished(
+    alloc: Global,
+    text: &mut String,
+    name: &Name,
+    finished: &Finished,
+) -> Result<(), TableFault>
+    ensures ok { OnOk result ((verdict : Verdict) × Shows finished.now verdict
+        × (string_bytes text.new ≡ string_bytes text.old
+        ++ entry_text name.now verdict finished.now)) }
+    ensures faults { IfErr result (λ e. e ≡ TableFault.NoMemory) }
+{
+    let verdict = finished.verdict(alloc)?;
     push_head(text, name.text(), verdict)?;
-    push_spans(text, ranges.as_slice())
+    push_others(text, finished.others())?;
+    push_kept(text, finished.versions())
 }
 
 /// The header of the environment.

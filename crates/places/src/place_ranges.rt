@@ -59,8 +59,8 @@ impl PlaceRanges {
     }
 
     /// The same versions as a set. The only fault is `NoMemory`.
-    pub fn into_set(self, alloc: Global) -> Result<VersionSet, ClauseFault>
-        ensures same { IfOk result (λ s. s ≡ self) }
+    pub fn to_set(&self, alloc: Global) -> Result<VersionSet, ClauseFault>
+        ensures same { IfOk result (λ s. s ≡ self.now) }
         ensures faults { IfErr result (λ e. e ≡ ClauseFault.NoMemory) }
     {
         let mut ranges = Vec::with_capacity(alloc, self.ranges.len())?;

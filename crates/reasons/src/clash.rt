@@ -8,8 +8,7 @@
 //!
 //! Where that tells nothing, as of demanded texts and URLs, the search divides. What the claims in hand demand is an
 //! entry, and each half of the others is searched beside it: first the second half beside all of the first one, and
-//! then the first half beside those that were found in the second. What isn't needed falls away with its half. A hint
-//! leaves it two claims.
+//! then the first half beside those that were found in the second. What isn't needed falls away with its half.
 
 ghost use Rattle.std.specs.Prelude.{◌≡◌, ◌++◌, IfErr, IfOk, IsTrue, List, [], length, map};
 ghost use Rattle.demands.specs.Gathering.{bare_entry};

@@ -5,4 +5,6 @@ pub mod SpaceLemmas
 pub mod RunLemmas
 pub mod CutLists
 pub mod LineLemmas
+pub mod HeadLemmas
+pub mod ArenaLemmas
 mod Witnesses

@@ -5,3 +5,5 @@ pub mod Split
 pub mod Runs
 pub mod Limits
 pub mod Lines
+pub mod Heads
+pub mod Arena

@@ -1,18 +1,22 @@
 //! What several crates of this repository share of texts: classes of bytes, runs of one class,
-//! white space at the ends, a text split at a byte, and the longest line and input. It is public
+//! white space at the ends, a text split at a byte, texts in one list of bytes, and the longest line and input. It is public
 //! for them alone.
 
 #![tactic(auto)]
 
+mod arena;
 mod bytes;
+mod heads;
 mod limits;
 mod runs;
 mod space;
 mod split;
 
+pub use crate::arena::Arena;
 pub use crate::bytes::{
     is_blank_byte, is_clause_byte, is_letter_or_digit, is_name_byte, is_separator, is_white_space,
 };
+pub use crate::heads::head_of;
 pub use crate::limits::{INPUT_LIMIT, LINE_LIMIT};
 pub use crate::runs::{
     blank_end, blank_run, clause_run, has_clause_bytes, name_run, without_leading_blanks,

@@ -165,7 +165,7 @@ fn ranges_between(
 }
 
 fn text_of_set(alloc: Global, ranges: PlaceRanges) -> Result<String, ClauseFault> {
-    set_text(alloc, &ranges.into_set(alloc)?)
+    set_text(alloc, &ranges.to_set(alloc)?)
 }
 
 // Ranges by their places, and by the set of them.

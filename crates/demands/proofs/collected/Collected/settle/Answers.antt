@@ -1,10 +1,10 @@
-use Rattle.std.proofs.Common.{◌∙◌, ap, map}
+use Rattle.std.proofs.Common.{◌∙◌, ap}
 use Rattle.demands.specs.Collected.{collected_texts}
 use Rattle.demands.proofs.KeptSets.{collected_again}
 use Rattle.demands.proofs.collected.Collected.settle.Goals as goal
 
 -- what is kept once is collected as all of it
-pub returns : goal.returns
-returns g c =
-    ap collected_texts c.put_in_order.ensures
-    ∙ collected_again (map g.T.Kept.text c.self.inside.items.items) ∙ c.self.view_is
+pub returns-clause-same : goal.returns-clause-same
+returns-clause-same c =
+    ap collected_texts (c.in_ok-self-inside.ensures.once ∙ ap collected_texts c.replace-texts.ensures.value)
+    ∙ collected_again c.self.inside.texts ∙ c.self.view_is

@@ -1,18 +1,21 @@
-use Rattle.std.proofs.Common.{[], subst, sym}
+use Rattle.std.proofs.Common.{◌∙◌, ◌++◌, ap, map, subst, sym}
+use Rattle.pep_require.specs.Requirement.{IsAscending}
+use Rattle.demands.specs.Collected.{collected_texts}
 use Rattle.demands.specs.Join.{IsUnion}
-use Rattle.demands.proofs.KeptSets.{union_of_two}
+use Rattle.demands.proofs.CollectedTexts.{union_collected}
+use Rattle.demands.proofs.KeptSets.{collected_rise}
 use Rattle.demands.proofs.sorted.SortedJoin.joined.Goals as goal
+
+pub of_ascending-requires : goal.of_ascending-requires
+of_ascending-requires g c =
+    subst IsAscending (sym c.put_in_order.ensures)
+    (collected_rise (map g.T.Kept.text c.push_copies.new.items.items))
 
 pub returns-clause-joins : goal.returns-clause-joins
 returns-clause-joins g c =
     let xs = c.args.self.now in
     let ys = c.args.other.now in
-    let us = c.put_all.new.self in
-    let vs = c.put_all-2.new.self in
-    let first : IsUnion [] xs us =
-    subst (λ l. IsUnion l xs us) c.new-all.ensures
-    (subst (λ l. IsUnion c.new-all.result l us) c.items-items.ensures.texts
-    c.in_ok-put_all.ensures.put) in
-    let behind : IsUnion us ys vs =
-    subst (λ l. IsUnion us l vs) c.items-others.ensures.texts c.in_ok-put_all-2.ensures.put in
-    subst (IsUnion xs ys) (sym c.into_sorted.ensures) (union_of_two xs ys us vs first behind)
+    let own = c.items-2.view_is ∙ c.in_ok-items.ensures.same in
+    let all = c.in_ok-push_copies.ensures.pushed ∙ (λ i. own i ++ c.items-others.ensures.texts i) in
+    subst (IsUnion xs ys) (sym (c.of_ascending.ensures ∙ c.put_in_order.ensures ∙ ap collected_texts all))
+    (union_collected xs ys)

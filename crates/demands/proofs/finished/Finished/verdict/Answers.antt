@@ -1,0 +1,24 @@
+use Rattle.std.proofs.Common.{◌<◌, ◌≤◌, length, inl, rules}
+use Rattle.std.proofs.lemmas.Result.{IfOk-weaker}
+use Rattle.demands.specs.Table.{EntryDemands}
+use Rattle.demands.specs.Verdict.{IsEntryVerdict, IsVerdict}
+use Rattle.demands.specs.declared.verdict.Verdict.TheVariants.{Conflict, Nothing}
+use Rattle.demands.proofs.Verdicts.{verdict_of_entry}
+use Rattle.demands.proofs.finished.Finished.verdict.Goals as goal
+
+pub returns-then-url_count-gt1-clause-demands : goal.returns-then-url_count-gt1-clause-demands
+returns-then-url_count-gt1-clause-demands c =
+    let two : 2 ≤ length c.args.self.now.urls = search rules in
+    verdict_of_entry c.args.self.now Conflict c.url_count.ensures.valid two
+
+pub returns-then-is_empty-clause-demands : goal.returns-then-is_empty-clause-demands
+returns-then-is_empty-clause-demands c =
+    let few : length c.args.self.now.urls < 2 = search rules in
+    verdict_of_entry c.args.self.now Nothing c.url_count.ensures.valid (few, inl (search rules))
+
+pub returns-clause-demands : goal.returns-clause-demands
+returns-clause-demands c =
+    IfOk-weaker c.text_verdict.result (IsEntryVerdict c.args.self.now)
+    (IsVerdict (EntryDemands c.args.self.now))
+    (λ w shows. verdict_of_entry c.args.self.now w c.url_count.ensures.valid shows)
+    c.text_verdict.ensures.entry
