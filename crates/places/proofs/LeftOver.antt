@@ -87,12 +87,12 @@ one_behind true false true false = refl
 one_behind false true true false = refl
 one_behind false false true false = refl
 
-pub points-behind : (old new : List Bounds) (b : Bounds) → new ≡ old ++ b ∷ [] → (c : Cut) →
+pub points-behind : (old new : List Bounds) (b : Bounds) →
+    ((c : Cut) → is_left_out new c ≡ (is_left_out old c || is_inside b c)) → (c : Cut) →
     is_point (left_over new) c ≡ (is_point (left_over old) c && is_point (outside b.low b.high) c)
-points-behind old new b e c =
+points-behind old new b more c =
     left_points new c
-    ∙ (λ i. is_below c end && not (is_left_out (e i) c))
-    ∙ (λ i. is_below c end && not (left_out-behind old b c i))
+    ∙ (λ i. is_below c end && not (more c i))
     ∙ one_behind (is_below c b.low) (is_below c b.high) (is_below c end) (is_left_out old c)
     ∙ (λ i. sym (left_points old c) i && sym (outside_points b.low b.high c) i)
 

@@ -1,12 +1,9 @@
 -- The sweep that gives the ranges of what parts leave over from a cut on.
-use Rattle.std.proofs.Common.{◌≡◌, ℕ, ◌&&◌, ◌||◌, Bool, true, false, not, List, [], ◌∷◌, ◌++◌, refl, sym, ap, ◌∙◌, ◌<◌, arith, get_or, length, length-append}
-use Rattle.std.specs.Prelude.{All, Some}
+use Rattle.std.proofs.Common.{◌≡◌, ◌&&◌, ◌||◌, Bool, true, false, not, List, [], ◌∷◌, ◌++◌, refl, sym, ap, ◌∙◌, get_or}
+use Rattle.std.specs.Prelude.{All}
 use Rattle.std.specs.Ordering.{is_lt}
 use Rattle.std.specs.declared.cmp.Ordering.TheVariants.{Less}
-use Rattle.std.proofs.lemmas.List.{get_or_append_left}
-use Rattle.std.proofs.lemmas.List.Elements.{All-pop}
 use Rattle.std.proofs.lemmas.List.Folds.{list_any_none}
-use Rattle.std.proofs.Math.Seq.{get_or-append_seam}
 use Rattle.std.specs.Prelude.{if◌then◌else◌}
 use Rattle.texts.proofs.Connectives.{and-false, and-true, or-false}
 use Rattle.pep_clause.specs.Cut.{Cut, IsCut, cut_cmp, end}
@@ -20,36 +17,13 @@ use Rattle.pep_clause.proofs.LeastCut.{end-below_none}
 use Rattle.pep_clause.proofs.NormalJoined.{Apart-range, IsNormal-joined, IsNormal-range, Spelled-range, above_by}
 use Rattle.pep_clause.proofs.NormalLists.{AllAbove-append, Apart, IsNormal-from, Spelled, Spelled-append, Under}
 use Rattle.pep_clause.proofs.OneList.{same_points}
-use Rattle.places.specs.LeftOut.{IsFalling, IsPart, is_left_out, left_over}
+use Rattle.places.specs.LeftOut.{IsPart, is_left_out, left_over}
 use Rattle.places.specs.declared.bounds.Bounds.{Bounds}
-use Rattle.places.proofs.LeftOver.{is_below, is_inside, left_normal, left_out-behind, left_points}
+use Rattle.places.proofs.LeftOver.{is_below, is_inside, left_normal, left_points}
 
--- ---- parts that fall
+-- ---- parts of which none begins below a cut
 
-pub falling-front : (parts front : List Bounds) (b : Bounds) → parts ≡ front ++ b ∷ [] → IsFalling parts →
-    IsFalling front
-falling-front parts front b e h i j d le lt =
-    let short : length front < length parts = rw e (omega (arith, length-append {A = Bounds})) in
-    ap is_lt (λ k. cut_cmp (sym (at i (omega (arith, le, lt))) k).low (sym (at j lt) k).low)
-    ∙ h i j d le (omega (arith, lt, short))
-  where
-    at : (k : ℕ) → k < length front → get_or parts k d ≡ get_or front k d
-    at k lt = ap (λ xs. get_or xs k d) e ∙ get_or_append_left front (b ∷ []) d k lt
-
--- no part of the others begins below the last
-pub falling-last : (parts front : List Bounds) (b : Bounds) → parts ≡ front ++ b ∷ [] → IsFalling parts →
-    All (λ p. is_below p.low b.low ≡ false) front
-falling-last parts front b e h k d lt =
-    let short : length front < length parts = rw e (omega (arith, length-append {A = Bounds})) in
-    ap is_lt (λ i. cut_cmp (sym other i).low (sym last i).low) ∙ h k (length front) d (omega (arith, lt)) short
-  where
-    other : get_or parts k d ≡ get_or front k d
-    other = ap (λ xs. get_or xs k d) e ∙ get_or_append_left front (b ∷ []) d k lt
-
-    last : get_or parts (length front) d ≡ b
-    last = ap (λ xs. get_or xs (length front) d) e ∙ get_or-append_seam front b [] d
-
--- so no cut below the last one is in any of them
+-- no cut below that is in any of them
 none-left : (front : List Bounds) (low c : Cut) → All (λ p. is_below p.low low ≡ false) front →
     is_below c low ≡ true → is_left_out front c ≡ false
 none-left front low c h t =
@@ -106,19 +80,15 @@ pub record SweptTo (low : Cut) (all left : List Bounds) (ranges : List Range) (f
   pub under : AllUnder from ranges
   pub spelled : Spelled ranges
   pub from_cut : IsCut from
-  pub falling : IsFalling left
-  pub parts : All IsPart left
 
-pub swept-first : (low : Cut) (parts : List Bounds) (ranges : List Range) → ranges ≡ [] → IsCut low → All IsPart parts →
-    IsFalling parts → SweptTo low parts parts ranges low
-swept-first low parts ranges e is are falling = rw e (record {
+pub swept-first : (low : Cut) (parts : List Bounds) (ranges : List Range) → ranges ≡ [] → IsCut low →
+    SweptTo low parts parts ranges low
+swept-first low parts ranges e is = rw e (record {
   points = λ c. refl;
   apart = tt;
   under = tt;
   spelled = tt;
   from_cut = is;
-  falling = falling;
-  parts = are;
 })
 
 turn : (found from low high whole left : Bool) → (low ≡ true → left ≡ false) → (low ≡ true → whole ≡ true) →
@@ -138,30 +108,26 @@ turn false false false false true true h g = refl
 turn false false false false true false h g = refl
 
 pub swept-next : (low : Cut) (all left rest : List Bounds) (ranges new : List Range) (from next : Cut) (b : Bounds) →
-    SweptTo low all left ranges from → left ≡ rest ++ b ∷ [] → new ≡ ranges ++ range from b.low →
+    SweptTo low all left ranges from → ((c : Cut) → is_left_out left c ≡ (is_left_out rest c || is_inside b c)) → IsPart b →
+    All (λ p. is_below p.low b.low ≡ false) rest → new ≡ ranges ++ range from b.low →
     next ≡ later cut_cmp from b.high → SweptTo low all rest new next
-swept-next low all left rest ranges new from next b h e f g =
-    let parts = All-pop IsPart left rest (Some b) e h.parts in
-    let behind = falling-last left rest b e h.falling in
+swept-next low all left rest ranges new from next b h taken part behind f g =
     rw (f, g) (record {
       points = λ c. (λ i. is_point-append ranges (range from b.low) c i || ((is_below c end && at_later c i) && not (is_left_out rest c)))
           ∙ (λ i. (is_point ranges c || is_point-range from b.low c i)
           || ((is_below c end && (not (is_below c from) && not (is_below c b.high))) && not (is_left_out rest c)))
           ∙ turn (is_point ranges c) (is_below c from) (is_below c b.low) (is_below c b.high) (is_below c end)
           (is_left_out rest c) (none-left rest b.low c behind) (below-end c b.low)
-          ∙ (λ i. is_point ranges c || ((is_below c end && not (is_below c from)) && not (sym (left_out-behind rest b c) i)))
-          ∙ (λ i. is_point ranges c || ((is_below c end && not (is_below c from)) && not (is_left_out (sym e i) c)))
+          ∙ (λ i. is_point ranges c || ((is_below c end && not (is_below c from)) && not (sym (taken c) i)))
           ∙ h.points c;
       apart = apart-more ranges from b.low h.apart h.under;
       under = under-append (later cut_cmp from b.high) ranges (range from b.low)
           (under-later from b.high ranges h.under)
           (under-range (later cut_cmp from b.high) from b.low
-          (below-later_second cut_total b.low from b.high parts.1.in_order));
+          (below-later_second cut_total b.low from b.high part.in_order));
       spelled = Spelled-append ranges (range from b.low) h.spelled
-          (Spelled-range from b.low h.from_cut parts.1.low);
-      from_cut = later-keeps IsCut (is_below from b.high) from b.high h.from_cut parts.1.high;
-      falling = falling-front left rest b e h.falling;
-      parts = parts.0;
+          (Spelled-range from b.low h.from_cut part.low);
+      from_cut = later-keeps IsCut (is_below from b.high) from b.high h.from_cut part.high;
     })
   where
     at_later : (c : Cut) → not (is_below c (later cut_cmp from b.high)) ≡ (not (is_below c from) && not (is_below c b.high))
@@ -169,7 +135,7 @@ swept-next low all left rest ranges new from next b h e f g =
 
 -- where no part is left
 pub swept-whole : (low : Cut) (all left : List Bounds) (ranges new : List Range) (from : Cut) → IsCut low →
-    All IsPart all → SweptTo low all left ranges from → length left ≡ 0 → new ≡ ranges ++ range from end →
+    All IsPart all → SweptTo low all left ranges from → left ≡ [] → new ≡ ranges ++ range from end →
     new ≡ joined (range low end) (left_over all)
 swept-whole low all [] ranges new from is are h e f =
     f ∙ same_points (ranges ++ range from end) (joined (range low end) (left_over all))
@@ -186,7 +152,7 @@ swept-whole low all [] ranges new from is are h e f =
     joined_twice : (e f g : Bool) → ((e && f) && g) ≡ ((e && f) && (e && g))
     joined_twice true f g = refl
     joined_twice false f g = refl
-swept-whole low all (b ∷ rest) ranges new from is are h e f = absurd (omega (arith, e))
+swept-whole low all (b ∷ rest) ranges new from is are h e f = cc e
 
 -- ---- up to a cut
 

@@ -1,5 +1,6 @@
--- Ranges between places, and what is left of all versions where those between two places are left out, part by part.
-use Rattle.std.specs.Prelude.{◌≡◌, ◌<◌, ◌≤◌, ◌&&◌, ℕ, Bool, false, not, List, [], ◌∷◌, get_or, length, map}
+-- Ranges between places, and what is left of all versions where those between two places are left out, part by part. How parts are
+-- kept, as single places or as two, is told from `single` on: no public clause names that.
+use Rattle.std.specs.Prelude.{◌≡◌, ◌+◌, ◌++◌, ◌<◌, ◌≤◌, ◌&&◌, ◌||◌, ℕ, All, Bool, false, not, List, [], ◌∷◌, get_or, length, map}
 use Rattle.std.specs.List.{list_any}
 use Rattle.std.specs.Ordering.{is_lt}
 use Rattle.std.specs.declared.cmp.Ordering.TheVariants.{Less}
@@ -7,6 +8,7 @@ use Rattle.pep_clause.specs.Cut.{Cut, IsCut, cut_cmp}
 use Rattle.pep_clause.specs.Joined.{joined}
 use Rattle.pep_clause.specs.OperatorTable.{outside}
 use Rattle.pep_clause.specs.VersionSet.{Range, all_versions}
+use Rattle.places.specs.Place.{IsPlace, place_word, right_behind}
 use Rattle.places.specs.declared.bounds.Bounds.{Bounds}
 
 -- the range between two places
@@ -35,11 +37,48 @@ pub record IsPart (b : Bounds) : Type 0 where
   pub low : IsCut b.low
   pub high : IsCut b.high
 
--- no part begins above one that stands before it in the list
-abbrev pub IsFalling : List Bounds → Type 0
-IsFalling parts = (i j : ℕ) (d : Bounds) → i ≤ j → j < length parts →
-    is_lt (cut_cmp (get_or parts i d).low (get_or parts j d).low) ≡ false
-
 -- whether the second, which begins no earlier, begins in the first or at its end
 abbrev pub meets : Bounds → Bounds → Bool
 meets a b = not (is_lt (cut_cmp b.low a.low)) && not (is_lt (cut_cmp a.high b.low))
+
+-- ---- how parts are kept
+
+-- the versions between a place and the one right behind it, as `!=` and a version leave out
+abbrev pub single : Cut → Bounds
+single c = record { low = c; high = right_behind c }
+
+-- .. which is a place
+pub record IsSingle (c : Cut) : Type 0 where
+  pub part : IsPart (single c)
+  pub behind : IsPlace (place_word c + 1)
+
+-- the parts that single places and two places tell
+abbrev pub all_parts : List Cut → List Bounds → List Bounds
+all_parts singles parts = map single singles ++ parts
+
+abbrev pub place_of : Cut → Cut
+place_of c = c
+
+abbrev pub low_of : Bounds → Cut
+low_of b = b.low
+
+-- no element begins above one that stands before it in the list
+abbrev pub IsFalling : {X : Type 0} → (X → Cut) → List X → Type 0
+IsFalling {X} begin xs = (i j : ℕ) (d : X) → i ≤ j → j < length xs →
+    is_lt (cut_cmp (begin (get_or xs i d)) (begin (get_or xs j d))) ≡ false
+
+-- both lists fall, and have parts
+pub record AreFalling (singles : List Cut) (parts : List Bounds) : Type 0 where
+  pub singles_fall : IsFalling place_of singles
+  pub parts_fall : IsFalling low_of parts
+  pub singles_are : All IsSingle singles
+  pub parts_are : All IsPart parts
+
+-- a part is taken away from both lists, and none of the others begins below it
+pub record TakesFirst (singles : List Cut) (parts : List Bounds) (others : List Cut) (rest : List Bounds) (b : Bounds) : Type 0 where
+  pub points : (c : Cut) → is_left_out (all_parts singles parts) c
+      ≡ (is_left_out (all_parts others rest) c || lies_between b.low b.high c)
+  pub part : IsPart b
+  pub first : All (λ p. is_lt (cut_cmp p.low b.low) ≡ false) (all_parts others rest)
+  pub left : AreFalling others rest
+  pub fewer : length others + length rest < length singles + length parts

@@ -139,6 +139,10 @@ version_at w = record {
 abbrev pub cut_at : ℕ → Cut
 cut_at w = if w == end_word then end else before (version_at w)
 
+-- the place right behind another: that of the next number
+abbrev pub right_behind : Cut → Cut
+right_behind c = cut_at (place_word c + 1)
+
 -- the number is that of the cut that is read from it, which is in its one spelling
 pub record IsPlace (w : ℕ) : Type 0 where
   pub short : HasPlace (cut_at w)

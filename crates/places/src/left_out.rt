@@ -1,20 +1,49 @@
 //! Versions that are left out of all, between two places at a time.
 
-ghost use Rattle.std.specs.Prelude.{◌≡◌, ◌↔◌, ◌&&◌, ◌||◌, ◌++◌, All, IfErr, IfOk, IsTrue, OnOk};
+ghost use Rattle.std.specs.Prelude.{
+  ◌≡◌,
+  ◌↔◌,
+  ◌&&◌,
+  ◌||◌,
+  ◌++◌,
+  ◌∷◌,
+  ◌<◌,
+  All,
+  IfErr,
+  IfOk,
+  IfSome,
+  IsTrue,
+  List,
+  None,
+  OnOk,
+  [],
+  false,
+  length,
+  map,
+};
+ghost use Rattle.std.specs.Ordering.{is_lt};
 ghost use Rattle.std.specs.List.Sorted.{IsPermutation};
-ghost use Rattle.pep_clause.specs.Cut.{Cut, IsCut, end};
+ghost use Rattle.pep_clause.specs.Cut.{Cut, IsCut, cut_cmp, end};
 ghost use Rattle.pep_clause.specs.Joined.{joined};
 ghost use Rattle.pep_clause.specs.OperatorTable.{outside, range};
 ghost use Rattle.pep_clause.specs.VersionSet.{IsNormal, all_versions, is_point};
 ghost use Rattle.places.specs.LeftOut.{
+  AreFalling,
   IsFalling,
   IsPart,
+  IsSingle,
+  TakesFirst,
+  all_parts,
   is_left_out,
   left_over,
   lies_between,
+  low_of,
   meets,
+  place_of,
+  single,
   spans,
 };
+ghost use Rattle.places.specs.Place.{right_behind};
 
 use crate::bounds::Bounds;
 use crate::place::Place;
@@ -25,34 +54,62 @@ use std::cmp::Ordering;
 use std::marker::Model;
 use std::mem::replace;
 
-// So many parts are kept as they come.
+// So many are kept as they come.
 const FEW: usize = 4;
+
+// Of fewer, no memory is given back.
+const LARGE: usize = 4096;
 
 /// Versions that are left out of all, between two places at a time. Clauses see what is left over.
 #[derive(Drop)]
 pub struct LeftOut {
+    // What lies between a place and the one right behind it is left out, as `!=` and a version demand.
+    singles: Vec<Place>,
+    // Where there are as many, they are put in order, and repeats dropped: so what repeats takes at most as
+    // much room again, and that of a few.
+    most_singles: usize,
+    // The parts of other forms.
     parts: Vec<Bounds>,
-    // Where there are as many parts, those that meet are joined: so what repeats takes at most as much
-    // room again, and that of a few parts.
-    limit: usize,
+    // Where there are as many parts, those that meet are joined.
+    most_parts: usize,
 }
 
 impl Model for LeftOut {
     ghost use Rattle.std.specs.Prelude.{All, List};
     ghost use Rattle.pep_clause.specs.VersionSet.{Range};
-    ghost use Rattle.places.specs.LeftOut.{IsPart, left_over};
+    ghost use Rattle.places.specs.LeftOut.{IsPart, IsSingle, all_parts, left_over};
 
     ghost Value = { List Range };
 
-    ghost view = { λ v. left_over v.parts.items };
+    ghost view = { λ v. left_over (all_parts v.singles.items v.parts.items) };
 
-    ghost invariant = { λ v. All IsPart v.parts.items };
+    ghost invariant = { λ v. All IsSingle v.singles.items × All IsPart v.parts.items };
+}
+
+// How many there may be before they are put in order again.
+fn doubled(count: usize) -> usize {
+    count.saturating_mul(2).saturating_add(FEW)
+}
+
+// Sorts single places so that the last one is the least, each once. The sort merges what is in order already with what
+// is new.
+fn order_singles(singles: &mut Vec<Place>) -> Result<(), ClauseFault>
+    requires { All IsSingle singles.old.items }
+    ensures falling { OnOk result (IsFalling place_of singles.new.items) }
+    ensures points { (c : Cut) → is_left_out (map single singles.new.items) c
+        ≡ is_left_out (map single singles.old.items) c }
+    ensures singles { All IsSingle singles.new.items }
+    ensures faults { IfErr result (λ e. e ≡ ClauseFault.NoMemory) }
+{
+    singles.sort_by(|a, b| b.cmp(a))?;
+    singles.dedup();
+    Ok(())
 }
 
 // Sorts the parts so that the last one begins first.
 fn sort_falling(parts: &mut Vec<Bounds>)
     ensures permutation { IsPermutation parts.old.items parts.new.items }
-    ensures falling { IsFalling parts.new.items }
+    ensures falling { IsFalling low_of parts.new.items }
 {
     parts.sort_unstable_by(|a, b| b.low.cmp(&a.low));
 }
@@ -119,21 +176,69 @@ fn push_range(ranges: &mut Vec<Bounds>, low: Place, high: Place) -> Result<(), C
     Ok(())
 }
 
+// Whether no single place stands before the part that begins first.
+fn part_is_first(singles: &[Place], parts: &[Bounds]) -> bool
+    requires { AreFalling singles.now parts.now }
+    ensures part { IsTrue result → (b : Bounds) (rest : List Bounds) → parts.now ≡ rest ++ b ∷ []
+        → All (λ c. is_lt (cut_cmp c b.low) ≡ false) singles.now }
+    ensures single { result ≡ false → (c : Cut) (others : List Cut) → singles.now ≡ others ++ c ∷ []
+        → All (λ b. is_lt (cut_cmp b.low c) ≡ false) parts.now }
+    ensures none { IsTrue result → length parts.now ≡ 0 → length singles.now ≡ 0 }
+    ensures some { result ≡ false → 0 < length singles.now }
+{
+    match (singles.last(), parts.last()) {
+        (Some(place), Some(part)) => part.low < *place,
+        (Some(_), None) => false,
+        (None, _) => true,
+    }
+}
+
+// Takes the part that begins first, the last one of either list.
+fn take_first(singles: &mut Vec<Place>, parts: &mut Vec<Bounds>) -> Option<Bounds>
+    requires { AreFalling singles.old.items parts.old.items }
+    ensures first { IfSome result (TakesFirst singles.old.items parts.old.items
+        singles.new.items parts.new.items) }
+    ensures none { result ≡ None → all_parts singles.old.items parts.old.items ≡ [] }
+{
+    if part_is_first(singles.as_slice(), parts.as_slice()) {
+        return parts.pop();
+    }
+    let low = singles.pop()?;
+    let high = low.right_behind();
+    Some(Bounds { low, high })
+}
+
+// Gives memory back where there is much, and most of it is no longer needed.
+fn give_back(singles: &mut Vec<Place>)
+    ensures same { singles.new.items ≡ singles.old.items }
+{
+    let capacity = singles.capacity();
+    if capacity > LARGE && capacity / 2 > singles.len() {
+        singles.shrink_to_fit();
+    }
+}
+
 // The ranges from a place on of what the parts leave over, by one sweep.
-fn swept(alloc: Global, low: Place, parts: Vec<Bounds>) -> Result<Vec<Bounds>, ClauseFault>
+fn swept(
+    alloc: Global,
+    low: Place,
+    singles: Vec<Place>,
+    parts: Vec<Bounds>,
+) -> Result<Vec<Bounds>, ClauseFault>
     requires low { IsCut low }
-    requires parts { All IsPart parts.items }
-    requires falling { IsFalling parts.items }
+    requires falling { AreFalling singles.items parts.items }
     ensures ranges { IfOk result (λ r. spans r.items
-        ≡ joined (range low end) (left_over parts.items)) }
+        ≡ joined (range low end) (left_over (all_parts singles.items parts.items))) }
     ensures faults { IfErr result (λ e. e ≡ ClauseFault.NoMemory) }
 {
-    let mut left = parts;
-    let mut ranges = Vec::new(alloc);
+    let most = singles.len().saturating_add(parts.len()).saturating_add(1);
+    let mut ranges = Vec::with_capacity(alloc, most)?;
+    let (mut places, mut left) = (singles, parts);
     let mut from = low;
-    'parts: while let Some(part) = left.pop() {
+    'parts: while let Some(part) = take_first(&mut places, &mut left) {
         push_range(&mut ranges, from, part.low)?;
         from = from.later(part.high);
+        give_back(&mut places);
     }
     push_range(&mut ranges, from, Place::end())?;
     Ok(ranges)
@@ -166,8 +271,10 @@ impl LeftOut {
         ensures normal { IsNormal result }
     {
         LeftOut {
+            singles: Vec::new(alloc),
+            most_singles: FEW,
             parts: Vec::new(alloc),
-            limit: FEW,
+            most_parts: FEW,
         }
     }
 
@@ -175,21 +282,61 @@ impl LeftOut {
     pub fn is_none(&self) -> bool
         ensures { IsTrue result ↔ (self.now ≡ all_versions) }
     {
-        self.parts.is_empty()
+        self.singles.is_empty() && self.parts.is_empty()
     }
 
-    // Joins the parts that meet, where there are many.
-    fn settle(&mut self, alloc: Global) -> Result<(), ClauseFault>
+    // Puts the single places in order, where there are many.
+    fn settle_singles(&mut self) -> Result<(), ClauseFault>
         ensures points { OnOk result ((c : Cut) → is_point self.new c ≡ is_point self.old c) }
         ensures normal { IsNormal self.new }
         ensures faults { IfErr result (λ e. e ≡ ClauseFault.NoMemory) }
     {
-        if self.parts.len() < self.limit {
+        if self.singles.len() < self.most_singles {
+            return Ok(());
+        }
+        order_singles(&mut self.singles)?;
+        self.most_singles = doubled(self.singles.len());
+        Ok(())
+    }
+
+    // Joins the parts that meet, where there are many.
+    fn settle_parts(&mut self, alloc: Global) -> Result<(), ClauseFault>
+        ensures points { OnOk result ((c : Cut) → is_point self.new c ≡ is_point self.old c) }
+        ensures normal { IsNormal self.new }
+        ensures faults { IfErr result (λ e. e ≡ ClauseFault.NoMemory) }
+    {
+        if self.parts.len() < self.most_parts {
             return Ok(());
         }
         let parts = replace(&mut self.parts, Vec::new(alloc));
         self.parts = merged(alloc, parts)?;
-        self.limit = self.parts.len().saturating_mul(2).saturating_add(FEW);
+        self.most_parts = doubled(self.parts.len());
+        Ok(())
+    }
+
+    // Leaves out what lies between a place and the one right behind it, too.
+    fn leave_single(&mut self, place: Place) -> Result<(), ClauseFault>
+        requires { IsSingle place }
+        ensures points { OnOk result ((c : Cut) → is_point self.new c
+            ≡ (is_point self.old c && is_point (outside place (right_behind place)) c)) }
+        ensures normal { IsNormal self.new }
+        ensures faults { IfErr result (λ e. e ≡ ClauseFault.NoMemory) }
+    {
+        self.settle_singles()?;
+        self.singles.push(place)?;
+        Ok(())
+    }
+
+    // The same of what lies between two places.
+    fn leave_part(&mut self, alloc: Global, part: Bounds) -> Result<(), ClauseFault>
+        requires { IsPart part }
+        ensures points { OnOk result ((c : Cut) → is_point self.new c
+            ≡ (is_point self.old c && is_point (outside part.low part.high) c)) }
+        ensures normal { IsNormal self.new }
+        ensures faults { IfErr result (λ e. e ≡ ClauseFault.NoMemory) }
+    {
+        self.settle_parts(alloc)?;
+        self.parts.push(part)?;
         Ok(())
     }
 
@@ -206,9 +353,10 @@ impl LeftOut {
         if bounds.low.cmp(&bounds.high) != Ordering::Less {
             return Ok(());
         }
-        self.settle(alloc)?;
-        self.parts.push(bounds)?;
-        Ok(())
+        if bounds.high.is_right_behind(bounds.low) {
+            return self.leave_single(bounds.low);
+        }
+        self.leave_part(alloc, bounds)
     }
 
     /// The versions between two places that are left over. The only fault is `NoMemory`.
@@ -218,9 +366,15 @@ impl LeftOut {
     {
         // Its clauses tell that both cuts are in their one spelling.
         let _ = bounds.low.cmp(&bounds.high);
-        let mut parts = closed(self.parts, bounds.high)?;
+        let LeftOut {
+            mut singles,
+            parts,
+            ..
+        } = self;
+        order_singles(&mut singles)?;
+        let mut parts = closed(parts, bounds.high)?;
         sort_falling(&mut parts);
-        let ranges = swept(alloc, bounds.low, parts)?;
+        let ranges = swept(alloc, bounds.low, singles, parts)?;
         Ok(PlaceRanges::of(ranges))
     }
 }

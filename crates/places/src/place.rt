@@ -2,6 +2,7 @@
 
 ghost use Rattle.std.specs.Prelude.{
   ◌≡◌,
+  ◌+◌,
   ◌++◌,
   ◌↔◌,
   ◌<◌,
@@ -31,8 +32,11 @@ ghost use Rattle.pep_clause.specs.Laws.{cut_total};
 ghost use Rattle.pep_clause.specs.OperatorTable.{before_dev, before_place};
 ghost use Rattle.places.specs.Place.{
   AreShortNumbers,
+  IsPlace,
   IsShortVersion,
+  place_word,
   release_alone,
+  right_behind,
   word_before,
 };
 ghost use Rattle.texts.specs.Lists.{is_empty};
@@ -170,6 +174,24 @@ impl Place {
     {
         let word = suffixed(word_of(numbers)?, None, None, Some(0))?;
         Some(Place { word })
+    }
+
+    /// Whether the place is the one right behind another: its number is the next.
+    pub(crate) fn is_right_behind(self, other: Place) -> bool
+        ensures behind { IsTrue result → self ≡ right_behind other }
+        ensures place { IsTrue result → IsPlace (place_word other + 1) }
+    {
+        other.word < u128::MAX && other.word + 1 == self.word
+    }
+
+    /// The place right behind this one, where its number is that of one.
+    pub(crate) fn right_behind(self) -> Place
+        requires { IsPlace (place_word self + 1) }
+        ensures { result ≡ right_behind self }
+    {
+        Place {
+            word: self.word + 1,
+        }
     }
 
     /// The cut. The only fault is `NoMemory`.

@@ -1,10 +1,13 @@
-use Rattle.std.proofs.Common.{length}
-use Rattle.places.specs.LeftOut.{spans}
+use Rattle.std.proofs.Common.{◌+◌, length}
+use Rattle.places.specs.LeftOut.{AreFalling, all_parts, spans}
 use Rattle.places.proofs.Swept.{SweptTo}
 use Rattle.places.proofs.left_out.swept.Given as goal
 
 abbrev pub invariant-parts : goal.invariant-parts
-invariant-parts l = SweptTo l.fn.low l.fn.parts.items l.left.items (spans l.ranges.items) l.from
+invariant-parts l =
+    SweptTo l.fn.low (all_parts l.fn.singles.items l.fn.parts.items) (all_parts l.places.items l.left.items)
+    (spans l.ranges.items) l.from
+    × AreFalling l.places.items l.left.items
 
 abbrev pub decreases-parts : goal.decreases-parts
-decreases-parts l = length l.left.items
+decreases-parts l = length l.places.items + length l.left.items
