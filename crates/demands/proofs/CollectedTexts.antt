@@ -147,7 +147,7 @@ once_same xs i up below some other =
     (i - 1, omega arith, get_or-take i xs (i - 1) p (omega arith) ∙ sym (get_or_default xs (i - 1) [] p (omega arith))) in
     ap collected_texts (taken_next xs i below)
     ∙ one_more front (collected_texts front) t (union_there (collected_texts front) t (collected_rise front)
-      ((members_collected front t).1 (subst (Contains front) same there)))
+    ((members_collected front t).1 (subst (Contains front) same there)))
 
 -- ---- in another order
 

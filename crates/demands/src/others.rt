@@ -45,11 +45,7 @@ impl Model for Others {
 }
 
 // Takes the text that a clause demands, where it demands one.
-fn take_text(
-    alloc: Global,
-    texts: &mut Collected,
-    clause: &Clause,
-) -> Result<(), TableFault>
+fn take_text(alloc: Global, texts: &mut Collected, clause: &Clause) -> Result<(), TableFault>
     ensures texts { OnOk result (IsUnion texts.old (texts_of (clause.now ∷ [])) texts.new) }
     ensures faults { IfErr result (λ e. e ≡ TableFault.NoMemory) }
 {
@@ -61,11 +57,7 @@ fn take_text(
 }
 
 // Takes the texts that clauses demand.
-fn take_texts(
-    alloc: Global,
-    texts: &mut Collected,
-    clauses: &[Clause],
-) -> Result<(), TableFault>
+fn take_texts(alloc: Global, texts: &mut Collected, clauses: &[Clause]) -> Result<(), TableFault>
     ensures texts { OnOk result (IsUnion texts.old (texts_of clauses.now) texts.new) }
     ensures faults { IfErr result (λ e. e ≡ TableFault.NoMemory) }
 {

@@ -73,7 +73,11 @@ pub enum Answer {
 }
 
 /// Whether a version in the set has this as its normal text. The only fault is `NoMemory`.
-pub(crate) fn has_version(alloc: Global, text: &str, versions: &VersionSet) -> Result<bool, TableFault>
+pub(crate) fn has_version(
+    alloc: Global,
+    text: &str,
+    versions: &VersionSet,
+) -> Result<bool, TableFault>
     ensures found { IfOk result (λ b. IsTrue b ↔ HasVersionOfText versions.now text.now) }
     ensures faults { IfErr result (λ e. e ≡ TableFault.NoMemory) }
 {

@@ -222,7 +222,7 @@ fn push_kept(text: &mut String, versions: &KeptRanges) -> Result<(), TableFault>
 // Appends the lines of what is demanded besides versions.
 fn push_others(text: &mut String, others: Option<&OtherTexts>) -> Result<(), TableFault>
     ensures ok { OnOk result (string_bytes text.new ≡ string_bytes text.old
-        ++ other_lines (kept_others (option_map (λ o. o.now) others))) }
+        ++ other_lines (kept_others (option_map (λ o. o.now) others.entry))) }
     ensures faults { IfErr result (λ e. e ≡ TableFault.NoMemory) }
 {
     let Some(others) = others else {

@@ -114,7 +114,7 @@ texts_pushed bytes text new ps more p e f h s l =
     ap (λ b. map (text_at b) more) e ∙ ap (map (text_at (bytes ++ text))) f
     ∙ map_last (text_at (bytes ++ text)) ps p
     ∙ ap (λ x. map (text_at (bytes ++ text)) ps ++ x ∷ [])
-      (ap (λ n. take p.len (drop n (bytes ++ text))) s ∙ text_behind bytes text 0 p.len l)
+    (ap (λ n. take p.len (drop n (bytes ++ text))) s ∙ text_behind bytes text 0 p.len l)
     ∙ ap (λ x. x ++ text ∷ []) (texts_kept bytes text ps h)
 
 -- ---- the order of pieces
@@ -153,7 +153,7 @@ piece_cmp-is bytes p q u h g =
           other_heads p.head q.head (text_cmp x y) apart
           ∙ (λ i. nat_cmp (h.head i) (g.head i))
           ∙ head_cmp x y (small_at bytes p u h) (small_at bytes q u g)
-            (λ e. apart (h.head ∙ e ∙ sym g.head))
+          (λ e. apart (h.head ∙ e ∙ sym g.head))
     ]
 
 -- pieces in order are texts in order

@@ -138,7 +138,11 @@ impl Arena {
         requires second { second < length self.now }
         ensures { result ≡ text_cmp (get_or self.now first []) (get_or self.now second []) }
     {
-        compare(self.bytes.as_bytes(), &self.pieces[first], &self.pieces[second])
+        compare(
+            self.bytes.as_bytes(),
+            &self.pieces[first],
+            &self.pieces[second],
+        )
     }
 
     /// Whether the text is among them. It looks at each one.

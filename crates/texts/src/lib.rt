@@ -1,6 +1,6 @@
 //! What several crates of this repository share of texts: classes of bytes, runs of one class,
-//! white space at the ends, a text split at a byte, texts in one list of bytes, and the longest line and input. It is public
-//! for them alone.
+//! white space at the ends, a text split at a byte, texts in one list of bytes, and the longest line
+//! and input. It is public for them alone.
 
 #![tactic(auto)]
 

@@ -9,8 +9,11 @@ returns-else-branch-clause-entry c =
     let some : 0 < length e.texts = search rules in
     let same : c.in_ok-set.field-0 ≡ e.versions = c.in_ok-set.ensures.same ∙ ap (λ x. x.versions) c.self.view_is in (
       c.requires.few,
-      inr (some, λ v is fits.
-          let both = (fits_one e v c.args.text.now c.requires.one).0 fits in
-          let there = subst (λ r. In r v) (sym same) both.1 in
-          cc (sym c.if-branch.false ∙ c.in_ok-has_version.ensures.found.1 (v, is, both.0, there))),
+      inr (
+        some,
+        λ v is fits.
+            let both = (fits_one e v c.args.text.now c.requires.one).0 fits in
+            let there = subst (λ r. In r v) (sym same) both.1 in
+            cc (sym c.if-branch.false ∙ c.in_ok-has_version.ensures.found.1 (v, is, both.0, there)),
+      ),
     )
