@@ -63,11 +63,12 @@ const LARGE: usize = 4096;
 /// Versions that are left out of all, between two places at a time. Clauses see what is left over.
 #[derive(Drop)]
 pub struct LeftOut {
-    // What lies between a place and the one right behind it is left out, as `!=` and a version demand.
+    // Places of which each leaves out what lies between it and the one right behind it, as `!=` and a version
+    // demand: in order, and each once.
     singles: Vec<Place>,
-    // Where there are as many, they are put in order, and repeats dropped: so what repeats takes at most as
-    // much room again, and that of a few.
-    most_singles: usize,
+    // New ones. Where they are as many and a few more, they are put in order too, and merged with the others:
+    // so what repeats takes at most as much room again.
+    fresh: Vec<Place>,
     // The parts of other forms.
     parts: Vec<Bounds>,
     // Where there are as many parts, those that meet are joined.
@@ -75,24 +76,19 @@ pub struct LeftOut {
 }
 
 impl Model for LeftOut {
-    ghost use Rattle.std.specs.Prelude.{All, List};
+    ghost use Rattle.std.specs.Prelude.{◌++◌, All, List};
     ghost use Rattle.pep_clause.specs.VersionSet.{Range};
     ghost use Rattle.places.specs.LeftOut.{IsPart, IsSingle, all_parts, left_over};
 
     ghost Value = { List Range };
 
-    ghost view = { λ v. left_over (all_parts v.singles.items v.parts.items) };
+    ghost view = { λ v. left_over (all_parts (v.singles.items ++ v.fresh.items) v.parts.items) };
 
-    ghost invariant = { λ v. All IsSingle v.singles.items × All IsPart v.parts.items };
+    ghost invariant = { λ v. All IsSingle v.singles.items × All IsSingle v.fresh.items
+        × All IsPart v.parts.items };
 }
 
-// How many there may be before they are put in order again.
-fn doubled(count: usize) -> usize {
-    count.saturating_mul(2).saturating_add(FEW)
-}
-
-// Sorts single places so that the last one is the least, each once. The sort merges what is in order already with what
-// is new.
+// Sorts single places so that the last one is the least, and keeps each once. The sort merges runs that are in order.
 fn order_singles(singles: &mut Vec<Place>) -> Result<(), ClauseFault>
     requires { All IsSingle singles.old.items }
     ensures falling { OnOk result (IsFalling place_of singles.new.items) }
@@ -103,6 +99,24 @@ fn order_singles(singles: &mut Vec<Place>) -> Result<(), ClauseFault>
 {
     singles.sort_by(|a, b| b.cmp(a))?;
     singles.dedup();
+    Ok(())
+}
+
+// Puts single places in order, and merges them with others that are.
+fn take_in(singles: &mut Vec<Place>, fresh: Vec<Place>) -> Result<(), ClauseFault>
+    requires singles { All IsSingle singles.old.items }
+    requires fresh { All IsSingle fresh.items }
+    ensures falling { OnOk result (IsFalling place_of singles.new.items) }
+    ensures points { OnOk result ((c : Cut) → is_left_out (map single singles.new.items) c
+        ≡ is_left_out (map single (singles.old.items ++ fresh.items)) c) }
+    ensures singles { All IsSingle singles.new.items }
+    ensures faults { IfErr result (λ e. e ≡ ClauseFault.NoMemory) }
+{
+    let mut new = fresh;
+    new.sort_unstable_by(|a, b| b.cmp(a));
+    singles.append(&mut new)?;
+    drop(new);
+    order_singles(singles)?;
     Ok(())
 }
 
@@ -272,7 +286,7 @@ impl LeftOut {
     {
         LeftOut {
             singles: Vec::new(alloc),
-            most_singles: FEW,
+            fresh: Vec::new(alloc),
             parts: Vec::new(alloc),
             most_parts: FEW,
         }
@@ -282,20 +296,26 @@ impl LeftOut {
     pub fn is_none(&self) -> bool
         ensures { IsTrue result ↔ (self.now ≡ all_versions) }
     {
-        self.singles.is_empty() && self.parts.is_empty()
+        if !self.singles.is_empty() {
+            return false;
+        }
+        if !self.fresh.is_empty() {
+            return false;
+        }
+        self.parts.is_empty()
     }
 
-    // Puts the single places in order, where there are many.
-    fn settle_singles(&mut self) -> Result<(), ClauseFault>
+    // Puts the new single places in order, where there are many.
+    fn settle_singles(&mut self, alloc: Global) -> Result<(), ClauseFault>
         ensures points { OnOk result ((c : Cut) → is_point self.new c ≡ is_point self.old c) }
         ensures normal { IsNormal self.new }
         ensures faults { IfErr result (λ e. e ≡ ClauseFault.NoMemory) }
     {
-        if self.singles.len() < self.most_singles {
+        if self.fresh.len() < self.singles.len().saturating_add(FEW) {
             return Ok(());
         }
-        order_singles(&mut self.singles)?;
-        self.most_singles = doubled(self.singles.len());
+        let fresh = replace(&mut self.fresh, Vec::new(alloc));
+        take_in(&mut self.singles, fresh)?;
         Ok(())
     }
 
@@ -310,20 +330,20 @@ impl LeftOut {
         }
         let parts = replace(&mut self.parts, Vec::new(alloc));
         self.parts = merged(alloc, parts)?;
-        self.most_parts = doubled(self.parts.len());
+        self.most_parts = self.parts.len().saturating_mul(2).saturating_add(FEW);
         Ok(())
     }
 
     // Leaves out what lies between a place and the one right behind it, too.
-    fn leave_single(&mut self, place: Place) -> Result<(), ClauseFault>
+    fn leave_single(&mut self, alloc: Global, place: Place) -> Result<(), ClauseFault>
         requires { IsSingle place }
         ensures points { OnOk result ((c : Cut) → is_point self.new c
             ≡ (is_point self.old c && is_point (outside place (right_behind place)) c)) }
         ensures normal { IsNormal self.new }
         ensures faults { IfErr result (λ e. e ≡ ClauseFault.NoMemory) }
     {
-        self.settle_singles()?;
-        self.singles.push(place)?;
+        self.settle_singles(alloc)?;
+        self.fresh.push(place)?;
         Ok(())
     }
 
@@ -354,7 +374,7 @@ impl LeftOut {
             return Ok(());
         }
         if bounds.high.is_right_behind(bounds.low) {
-            return self.leave_single(bounds.low);
+            return self.leave_single(alloc, bounds.low);
         }
         self.leave_part(alloc, bounds)
     }
@@ -368,10 +388,11 @@ impl LeftOut {
         let _ = bounds.low.cmp(&bounds.high);
         let LeftOut {
             mut singles,
+            fresh,
             parts,
             ..
         } = self;
-        order_singles(&mut singles)?;
+        take_in(&mut singles, fresh)?;
         let mut parts = closed(parts, bounds.high)?;
         sort_falling(&mut parts);
         let ranges = swept(alloc, bounds.low, singles, parts)?;
