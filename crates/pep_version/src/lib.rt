@@ -16,5 +16,5 @@ mod version;
 pub use crate::fault::VersionFault;
 pub use crate::key::{Key, KeyBytes, behind_release};
 pub use crate::parts::{Label, Phase};
-pub use crate::text::push_public;
+pub use crate::text::{push_public, put_public};
 pub use crate::version::Version;

@@ -27,57 +27,55 @@ ghost use Rattle.pep_version.specs.Text.{
   segment_text,
 };
 ghost use Rattle.pep_version.specs.View.{segment_of};
+ghost use Rattle.texts.specs.TextOut.{Extends};
 
 use crate::fault::VersionFault;
 use crate::parts::{Label, Phase};
 use itoa::Buffer;
+use texts::TextOut;
 
-fn push_number(text: &mut String, n: u64) -> Result<(), VersionFault>
-    ensures ok { OnOk result (string_bytes text.new ≡ string_bytes text.old ++ decimal n) }
-    ensures faults { IfErr result (λ e. e ≡ VersionFault.NoMemory) }
-    ensures kept { OnErr result (KeepsFront (string_bytes text.old) (string_bytes text.new)) }
+fn put_number<T: TextOut>(text: &mut T, n: u64) -> Result<(), T::Fault>
+    ensures ok { OnOk result (T.tells → T.written text.new ≡ T.written text.old ++ decimal n) }
+    ensures kept { OnErr result (T.tells → Extends (T.written text.old) (T.written text.new)) }
 {
     let mut buffer = Buffer::new();
-    text.push_str(buffer.format(n))?;
+    text.put_str(buffer.format(n))?;
     Ok(())
 }
 
 // The dot before a part, unless the part is the first.
-fn push_dot(text: &mut String, position: usize) -> Result<(), VersionFault>
-    ensures ok { OnOk result (string_bytes text.new ≡ string_bytes text.old
+fn put_dot<T: TextOut>(text: &mut T, position: usize) -> Result<(), T::Fault>
+    ensures ok { OnOk result (T.tells → T.written text.new ≡ T.written text.old
         ++ (if position == 0 then [] else codes ".")) }
-    ensures faults { IfErr result (λ e. e ≡ VersionFault.NoMemory) }
-    ensures kept { OnErr result (KeepsFront (string_bytes text.old) (string_bytes text.new)) }
+    ensures kept { OnErr result (T.tells → Extends (T.written text.old) (T.written text.new)) }
 {
     if position > 0 {
-        text.push_str(".")?;
+        text.put_str(".")?;
     }
     Ok(())
 }
 
 /// Appends the epoch, unless it is 0.
-pub(crate) fn push_epoch(text: &mut String, epoch: u64) -> Result<(), VersionFault>
-    ensures ok { OnOk result (string_bytes text.new ≡ string_bytes text.old ++ epoch_text epoch) }
-    ensures faults { IfErr result (λ e. e ≡ VersionFault.NoMemory) }
-    ensures kept { OnErr result (KeepsFront (string_bytes text.old) (string_bytes text.new)) }
+pub(crate) fn put_epoch<T: TextOut>(text: &mut T, epoch: u64) -> Result<(), T::Fault>
+    ensures ok { OnOk result (T.tells → T.written text.new ≡ T.written text.old ++ epoch_text epoch) }
+    ensures kept { OnErr result (T.tells → Extends (T.written text.old) (T.written text.new)) }
 {
     if epoch != 0 {
-        push_number(text, epoch)?;
-        text.push_str("!")?;
+        put_number(text, epoch)?;
+        text.put_str("!")?;
     }
     Ok(())
 }
 
 /// Appends the release.
-pub(crate) fn push_release(text: &mut String, release: &[u64]) -> Result<(), VersionFault>
-    ensures ok { OnOk result (string_bytes text.new ≡ string_bytes text.old
+pub(crate) fn put_release<T: TextOut>(text: &mut T, release: &[u64]) -> Result<(), T::Fault>
+    ensures ok { OnOk result (T.tells → T.written text.new ≡ T.written text.old
         ++ release_text release.now) }
-    ensures faults { IfErr result (λ e. e ≡ VersionFault.NoMemory) }
-    ensures kept { OnErr result (KeepsFront (string_bytes text.old) (string_bytes text.new)) }
+    ensures kept { OnErr result (T.tells → Extends (T.written text.old) (T.written text.new)) }
 {
     for (i, n) in release.iter().enumerate() {
-        push_dot(text, i)?;
-        push_number(text, *n)?;
+        put_dot(text, i)?;
+        put_number(text, *n)?;
     }
     Ok(())
 }
@@ -93,32 +91,30 @@ fn phase_text(phase: Phase) -> &'static str
 }
 
 /// Appends the pre-release part.
-pub(crate) fn push_pre(text: &mut String, pre: Option<(Phase, u64)>) -> Result<(), VersionFault>
-    ensures ok { OnOk result (string_bytes text.new ≡ string_bytes text.old ++ pre_text pre) }
-    ensures faults { IfErr result (λ e. e ≡ VersionFault.NoMemory) }
-    ensures kept { OnErr result (KeepsFront (string_bytes text.old) (string_bytes text.new)) }
+pub(crate) fn put_pre<T: TextOut>(text: &mut T, pre: Option<(Phase, u64)>) -> Result<(), T::Fault>
+    ensures ok { OnOk result (T.tells → T.written text.new ≡ T.written text.old ++ pre_text pre) }
+    ensures kept { OnErr result (T.tells → Extends (T.written text.old) (T.written text.new)) }
 {
     if let Some((phase, n)) = pre {
-        text.push_str(phase_text(phase))?;
-        push_number(text, n)?;
+        text.put_str(phase_text(phase))?;
+        put_number(text, n)?;
     }
     Ok(())
 }
 
 /// Appends the word and the number of a part, if the part is there.
-pub(crate) fn push_part(
-    text: &mut String,
+pub(crate) fn put_part<T: TextOut>(
+    text: &mut T,
     word: &str,
     number: Option<u64>,
-) -> Result<(), VersionFault>
-    ensures ok { OnOk result (string_bytes text.new ≡ string_bytes text.old
+) -> Result<(), T::Fault>
+    ensures ok { OnOk result (T.tells → T.written text.new ≡ T.written text.old
         ++ part_text word.now number) }
-    ensures faults { IfErr result (λ e. e ≡ VersionFault.NoMemory) }
-    ensures kept { OnErr result (KeepsFront (string_bytes text.old) (string_bytes text.new)) }
+    ensures kept { OnErr result (T.tells → Extends (T.written text.old) (T.written text.new)) }
 {
     if let Some(n) = number {
-        text.push_str(word)?;
-        push_number(text, n)?;
+        text.put_str(word)?;
+        put_number(text, n)?;
     }
     Ok(())
 }
@@ -139,38 +135,52 @@ pub fn push_public(
     ensures faults { IfErr result (λ e. e ≡ VersionFault.NoMemory) }
     ensures kept { OnErr result (KeepsFront (string_bytes text.old) (string_bytes text.new)) }
 {
-    push_release(text, release)?;
-    push_pre(text, pre)?;
-    push_part(text, ".post", post)?;
-    push_part(text, ".dev", dev)
+    put_public(text, release, pre, post, dev)?;
+    Ok(())
 }
 
-fn push_segment(text: &mut String, segment: &Label) -> Result<(), VersionFault>
-    ensures ok { OnOk result (string_bytes text.new ≡ string_bytes text.old
+/// The same as [`push_public`], wherever the text goes.
+pub fn put_public<T: TextOut>(
+    text: &mut T,
+    release: &[u64],
+    pre: Option<(Phase, u64)>,
+    post: Option<u64>,
+    dev: Option<u64>,
+) -> Result<(), T::Fault>
+    ensures ok { OnOk result (T.tells → T.written text.new ≡ T.written text.old
+        ++ normal_text (public_version release.now pre post dev)) }
+    ensures kept { OnErr result (T.tells → Extends (T.written text.old) (T.written text.new)) }
+{
+    put_release(text, release)?;
+    put_pre(text, pre)?;
+    put_part(text, ".post", post)?;
+    put_part(text, ".dev", dev)
+}
+
+fn put_segment<T: TextOut>(text: &mut T, segment: &Label) -> Result<(), T::Fault>
+    ensures ok { OnOk result (T.tells → T.written text.new ≡ T.written text.old
         ++ segment_text (segment_of segment.now)) }
-    ensures faults { IfErr result (λ e. e ≡ VersionFault.NoMemory) }
-    ensures kept { OnErr result (KeepsFront (string_bytes text.old) (string_bytes text.new)) }
+    ensures kept { OnErr result (T.tells → Extends (T.written text.old) (T.written text.new)) }
 {
     match segment {
-        Label::Number(n) => push_number(text, *n)?,
-        Label::Word(word) => text.push_str(word.as_str())?,
+        Label::Number(n) => put_number(text, *n)?,
+        Label::Word(word) => text.put_str(word.as_str())?,
     }
     Ok(())
 }
 
 /// Appends the label.
-pub(crate) fn push_label(text: &mut String, label: &[Label]) -> Result<(), VersionFault>
-    ensures ok { OnOk result (string_bytes text.new ≡ string_bytes text.old
+pub(crate) fn put_label<T: TextOut>(text: &mut T, label: &[Label]) -> Result<(), T::Fault>
+    ensures ok { OnOk result (T.tells → T.written text.new ≡ T.written text.old
         ++ label_text (map segment_of label.now)) }
-    ensures faults { IfErr result (λ e. e ≡ VersionFault.NoMemory) }
-    ensures kept { OnErr result (KeepsFront (string_bytes text.old) (string_bytes text.new)) }
+    ensures kept { OnErr result (T.tells → Extends (T.written text.old) (T.written text.new)) }
 {
     if !label.is_empty() {
-        text.push_str("+")?;
+        text.put_str("+")?;
     }
     for (i, segment) in label.iter().enumerate() {
-        push_dot(text, i)?;
-        push_segment(text, segment)?;
+        put_dot(text, i)?;
+        put_segment(text, segment)?;
     }
     Ok(())
 }

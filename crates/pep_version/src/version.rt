@@ -20,6 +20,7 @@ ghost use Rattle.pep_version.specs.Slices.{AreReadable, version_of_slices};
 ghost use Rattle.pep_version.specs.Segments.{VersionOf};
 ghost use Rattle.pep_version.specs.Spelling.{Reads};
 ghost use Rattle.pep_version.specs.Text.{KeepsFront, normal_text};
+ghost use Rattle.texts.specs.TextOut.{Extends};
 ghost use Rattle.pep_version.specs.Version.{
   IsSegment,
   IsVersion,
@@ -35,10 +36,10 @@ use crate::parts::{Label, Phase};
 use crate::release::release_numbers;
 use crate::segments::{label_segments, optional_number, pre_number, written_number};
 use crate::slices::{Slices, slices_of};
-use crate::text::{push_epoch, push_label, push_part, push_pre, push_release};
+use crate::text::{put_epoch, put_label, put_part, put_pre, put_release};
 use std::alloc::Global;
 use std::marker::Model;
-use texts::trimmed;
+use texts::{TextOut, trimmed};
 
 /// A Python version (PEP 440): an epoch, a release, and the parts that may follow the release. Each
 /// number is at most 18446744073709551615.
@@ -281,13 +282,22 @@ impl Version {
         ensures faults { IfErr result (λ e. e ≡ VersionFault.NoMemory) }
         ensures kept { OnErr result (KeepsFront (string_bytes text.old) (string_bytes text.new)) }
     {
-        push_epoch(text, self.epoch)?;
-        push_release(text, self.release.as_slice())?;
-        push_pre(text, self.pre)?;
-        push_part(text, ".post", self.post)?;
-        push_part(text, ".dev", self.dev)?;
-        push_label(text, self.label.as_slice())?;
+        self.put_text(text)?;
         Ok(())
+    }
+
+    /// The same as `push_text`, wherever the text goes.
+    pub fn put_text<T: TextOut>(&self, text: &mut T) -> Result<(), T::Fault>
+        ensures ok { OnOk result (T.tells → T.written text.new
+            ≡ T.written text.old ++ normal_text self.now) }
+        ensures kept { OnErr result (T.tells → Extends (T.written text.old) (T.written text.new)) }
+    {
+        put_epoch(text, self.epoch)?;
+        put_release(text, self.release.as_slice())?;
+        put_pre(text, self.pre)?;
+        put_part(text, ".post", self.post)?;
+        put_part(text, ".dev", self.dev)?;
+        put_label(text, self.label.as_slice())
     }
 
     /// An equal version in storage of its own. The only fault is `NoMemory`.

@@ -7,3 +7,4 @@ pub mod Limits
 pub mod Lines
 pub mod Heads
 pub mod Arena
+pub mod TextOut
