@@ -40,14 +40,16 @@ ghost use Rattle.places.specs.Place.{
   word_before,
 };
 ghost use Rattle.texts.specs.Lists.{is_empty};
+ghost use Rattle.texts.specs.TextOut.{Extends};
 
-use crate::read::{push_version_at, version_at};
+use crate::read::{put_version_at, version_at};
 use crate::word::{four, suffixed, word_of};
 use pep_clause::{ClauseFault, Cut};
 use pep_version::{Phase, Version};
 use std::alloc::Global;
 use std::cmp::Ordering;
 use std::marker::Model;
+use texts::TextOut;
 
 /// A cut as one number of sixteen bytes, which most cuts have: the end of all versions, and those before a version
 /// of epoch 0 without a label, whose release is written with at most four numbers, each of at most 25 bits, whose
@@ -216,12 +218,21 @@ impl Place {
         ensures faults { IfErr result (λ e. e ≡ ClauseFault.NoMemory) }
         ensures kept { OnErr result (KeepsFront (string_bytes text.old) (string_bytes text.new)) }
     {
+        self.put_text(text)?;
+        Ok(())
+    }
+
+    /// The same as `push_text`, wherever the text goes.
+    pub fn put_text<T: TextOut>(self, text: &mut T) -> Result<(), T::Fault>
+        ensures ok { OnOk result (T.tells → T.written text.new
+            ≡ T.written text.old ++ cut_text self) }
+        ensures kept { OnErr result (T.tells → Extends (T.written text.old) (T.written text.new)) }
+    {
         if self.word == u128::MAX {
-            text.push_str("end")?;
-            return Ok(());
+            return text.put_str("end");
         }
-        text.push_str("before ")?;
-        push_version_at(text, self.word)
+        text.put_str("before ")?;
+        put_version_at(text, self.word)
     }
 
     /// The later of two places.

@@ -1,7 +1,7 @@
 // The version before which the cut of a place stands, from its number.
 
-ghost use Rattle.std.specs.Prelude.{◌≡◌, ◌++◌, ◌<◌, ◌≤◌, ◌^◌, ◌%◌, take, IfErr, IfOk, OnErr, OnOk, string_bytes};
-ghost use Rattle.pep_version.specs.Text.{KeepsFront, normal_text, public_version};
+ghost use Rattle.std.specs.Prelude.{◌≡◌, ◌++◌, ◌<◌, ◌≤◌, ◌^◌, ◌%◌, take, IfErr, IfOk, OnErr, OnOk};
+ghost use Rattle.pep_version.specs.Text.{normal_text, public_version};
 ghost use Rattle.pep_version.specs.Order.{short_release};
 ghost use Rattle.places.specs.Place.{
   dev_at,
@@ -11,11 +11,13 @@ ghost use Rattle.places.specs.Place.{
   pre_at,
   version_at,
 };
+ghost use Rattle.texts.specs.TextOut.{Extends};
 
 use crate::word::{DIGIT, NUMBER};
 use pep_clause::ClauseFault;
-use pep_version::{Phase, Version, push_public};
+use pep_version::{Phase, Version, put_public};
 use std::alloc::Global;
+use texts::TextOut;
 
 // The pre-release of a stage.
 fn pre_at(stage: u64, number: u64) -> Option<(Phase, u64)>
@@ -133,16 +135,13 @@ pub(crate) fn version_at(alloc: Global, word: u128) -> Result<Version, ClauseFau
     }
 }
 
-/// Appends the normal text of the version with the release and the suffixes of the word. The only fault is `NoMemory`;
-/// a refusal leaves what stood in the text, with perhaps a part behind it.
-pub(crate) fn push_version_at(text: &mut String, word: u128) -> Result<(), ClauseFault>
-    ensures ok { OnOk result (string_bytes text.new ≡ string_bytes text.old
+/// Writes the normal text of the version with the release and the suffixes of the word.
+pub(crate) fn put_version_at<T: TextOut>(text: &mut T, word: u128) -> Result<(), T::Fault>
+    ensures ok { OnOk result (T.tells → T.written text.new ≡ T.written text.old
         ++ normal_text (version_at word)) }
-    ensures faults { IfErr result (λ e. e ≡ ClauseFault.NoMemory) }
-    ensures kept { OnErr result (KeepsFront (string_bytes text.old) (string_bytes text.new)) }
+    ensures kept { OnErr result (T.tells → Extends (T.written text.old) (T.written text.new)) }
 {
     let parts = parts_at(word);
     let release = &parts.numbers[..parts.count];
-    push_public(text, release, parts.pre, parts.post, parts.dev)?;
-    Ok(())
+    put_public(text, release, parts.pre, parts.post, parts.dev)
 }
