@@ -3,6 +3,7 @@
 mod bytes;
 mod read;
 mod short;
+mod text;
 
 ghost use Rattle.std.specs.Prelude.{
   ◌≡◌,

@@ -34,7 +34,7 @@ use crate::parts::{Label, Phase};
 use itoa::Buffer;
 use texts::TextOut;
 
-fn put_number<T: TextOut>(text: &mut T, n: u64) -> Result<(), T::Fault>
+pub(crate) fn put_number<T: TextOut>(text: &mut T, n: u64) -> Result<(), T::Fault>
     ensures ok { OnOk result (T.tells → T.written text.new ≡ T.written text.old ++ decimal n) }
     ensures kept { OnErr result (T.tells → Extends (T.written text.old) (T.written text.new)) }
 {
@@ -44,7 +44,7 @@ fn put_number<T: TextOut>(text: &mut T, n: u64) -> Result<(), T::Fault>
 }
 
 // The dot before a part, unless the part is the first.
-fn put_dot<T: TextOut>(text: &mut T, position: usize) -> Result<(), T::Fault>
+pub(crate) fn put_dot<T: TextOut>(text: &mut T, position: usize) -> Result<(), T::Fault>
     ensures ok { OnOk result (T.tells → T.written text.new ≡ T.written text.old
         ++ (if position == 0 then [] else codes ".")) }
     ensures kept { OnErr result (T.tells → Extends (T.written text.old) (T.written text.new)) }

@@ -36,7 +36,7 @@ use crate::version::Version;
 use std::alloc::Global;
 
 // The number in front, and the bytes behind it.
-fn take_number(bytes: &[u8]) -> (u64, &[u8])
+pub(crate) fn take_number(bytes: &[u8]) -> (u64, &[u8])
     ensures number { result.0 ≡ (read_number bytes.now).0 }
     ensures rest { result.1.now ≡ (read_number bytes.now).1 }
 {
@@ -91,7 +91,7 @@ fn take_release(alloc: Global, bytes: &[u8]) -> Result<(Vec<u64>, &[u8]), Versio
     Ok((numbers, rest))
 }
 
-fn take_stage(bytes: &[u8]) -> (Option<(Phase, u64)>, &[u8])
+pub(crate) fn take_stage(bytes: &[u8]) -> (Option<(Phase, u64)>, &[u8])
     ensures pre { result.0 ≡ (read_stage bytes.now).0 }
     ensures rest { result.1.now ≡ (read_stage bytes.now).1 }
 {
@@ -108,7 +108,7 @@ fn take_stage(bytes: &[u8]) -> (Option<(Phase, u64)>, &[u8])
     (Some((phase, number)), rest)
 }
 
-fn take_post(bytes: &[u8]) -> (Option<u64>, &[u8])
+pub(crate) fn take_post(bytes: &[u8]) -> (Option<u64>, &[u8])
     ensures post { result.0 ≡ (read_post bytes.now).0 }
     ensures rest { result.1.now ≡ (read_post bytes.now).1 }
 {
@@ -122,7 +122,7 @@ fn take_post(bytes: &[u8]) -> (Option<u64>, &[u8])
     (Some(number), rest)
 }
 
-fn take_dev(bytes: &[u8]) -> (Option<u64>, &[u8])
+pub(crate) fn take_dev(bytes: &[u8]) -> (Option<u64>, &[u8])
     ensures dev { result.0 ≡ (read_dev bytes.now).0 }
     ensures rest { result.1.now ≡ (read_dev bytes.now).1 }
 {
@@ -143,7 +143,7 @@ fn word_count(bytes: &[u8]) -> usize
     bytes.iter().take_while(|b| **b != 0).count()
 }
 
-fn take_word(bytes: &[u8]) -> (&[u8], &[u8])
+pub(crate) fn take_word(bytes: &[u8]) -> (&[u8], &[u8])
     ensures word { result.0.now ≡ (read_word bytes.now).0 }
     ensures rest { result.1.now ≡ (read_word bytes.now).1 }
 {
