@@ -4,11 +4,13 @@ ghost use Rattle.std.specs.Prelude.{◌≡◌, ◌++◌, string_bytes, IfErr, If
 ghost use Rattle.pep_version.specs.KeyReading.{behind_place};
 ghost use Rattle.pep_version.specs.Text.{KeepsFront};
 ghost use Rattle.pep_clause.specs.CutView.{cut_word};
+ghost use Rattle.texts.specs.TextOut.{Extends};
 
 use crate::cut::Cut;
 use pep_version::{Version, behind_release};
 use specifiers::ClauseFault;
 use std::alloc::Global;
+use texts::TextOut;
 
 impl Cut {
     ghost use Rattle.pep_clause.specs.Cut.{cut_text};
@@ -33,15 +35,22 @@ impl Cut {
         ensures faults { IfErr result (λ e. e ≡ ClauseFault.NoMemory) }
         ensures kept { OnErr result (KeepsFront (string_bytes text.old) (string_bytes text.new)) }
     {
-        if self.bytes.is_none() {
-            return Ok(text.push_str("end")?);
-        }
-        let Some((version, rest)) = Version::at_front(*text.allocator(), self.bytes())? else {
-            unreachable!();
-        };
-        text.push_str(word(self.bytes(), rest))?;
-        version.push_text(text)?;
+        self.put_text(text)?;
         Ok(())
+    }
+
+    /// The same as `push_text`, wherever the text goes. No memory is wanted for it.
+    pub fn put_text<T: TextOut>(&self, text: &mut T) -> Result<(), T::Fault>
+        ensures ok { OnOk result (T.tells → T.written text.new
+            ≡ T.written text.old ++ cut_text self.now) }
+        ensures kept { OnErr result (T.tells → Extends (T.written text.old) (T.written text.new)) }
+    {
+        if self.bytes.is_none() {
+            return text.put_str("end");
+        }
+        let bytes = self.bytes();
+        text.put_str(word(bytes, Version::behind_front(bytes)))?;
+        Version::put_front(text, bytes)
     }
 }
 
