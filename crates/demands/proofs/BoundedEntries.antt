@@ -4,10 +4,9 @@ use Rattle.std.specs.Ordering.{is_lt}
 use Rattle.std.specs.Prelude.{◌≢◌, if◌then◌else◌}
 use Rattle.std.specs.declared.cmp.Ordering.{Ordering}
 use Rattle.std.specs.declared.cmp.Ordering.TheVariants.{Less, Equal, Greater}
-use Rattle.pep_clause.specs.Cut.{Cut, IsCut, cut_cmp}
+use Rattle.pep_clause.specs.Cut.{Cut, cut_cmp}
 use Rattle.pep_clause.specs.OperatorTable.{range}
 use Rattle.pep_clause.specs.VersionSet.{IsNormal, Range}
-use Rattle.pep_clause.proofs.NormalJoined.{IsNormal-range}
 use Rattle.demands.specs.Finished.{ranges_entry}
 use Rattle.demands.specs.Table.{EntryDemands, IsValidEntry}
 use Rattle.demands.specs.Verdict.{IsVerdict}

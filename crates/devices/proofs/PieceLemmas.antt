@@ -1,5 +1,5 @@
 -- What is told of a sink, and what is held for it.
-use Rattle.std.proofs.Common.{◌≡◌, ◌++◌, ◌∙◌, ◌+◌, ◌-◌, ◌≤◌, ℕ, List, Option, Some, None, IsSome, ap, append_assoc, arith, drop, length, refl, sym, take}
+use Rattle.std.proofs.Common.{◌≡◌, ◌++◌, ◌∙◌, ◌+◌, ◌-◌, ℕ, List, Option, Some, None, IsSome, ap, append_assoc, arith, drop, length, refl, sym, take}
 use Rattle.std.proofs.lemmas.List.{drop-drop, length-drop, take-append-drop, take_all}
 use Rattle.std.specs.Io.KnownBytes.{Appends, Keeps}
 use Rattle.devices.specs.Told.{known}

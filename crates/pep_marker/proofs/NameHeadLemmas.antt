@@ -1,5 +1,5 @@
 -- The first bytes of names as numbers are in the order of names.
-use Rattle.std.proofs.Common.{◌≡◌, ◌≢◌, ℕ, List, [], ◌∷◌, ap, subst, sym, ◌∙◌, arith, true}
+use Rattle.std.proofs.Common.{◌≡◌, ◌≢◌, ℕ, List, [], ◌∷◌, sym, ◌∙◌, arith, true}
 use Rattle.std.specs.List.{list_all}
 use Rattle.std.specs.Ordering.{nat_cmp}
 use Rattle.pep_marker.specs.Name.{IsNormalName, name_cmp}

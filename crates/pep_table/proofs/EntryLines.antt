@@ -1,5 +1,5 @@
 -- The lines of an entry: its head, what is demanded besides versions, and the ranges.
-use Rattle.std.proofs.Common.{◌≡◌, ◌++◌, ℕ, List, [], ap, append-nil, append_assoc, codes, map, sym, ◌∙◌}
+use Rattle.std.proofs.Common.{◌≡◌, ◌++◌, ℕ, List, ap, append-nil, append_assoc, codes, map, sym, ◌∙◌}
 use Rattle.std.specs.Prelude.{◌≢◌}
 use Rattle.std.specs.declared.cmp.Ordering.TheVariants.{Less}
 use Rattle.pep_clause.specs.Cut.{Cut, cut_cmp}

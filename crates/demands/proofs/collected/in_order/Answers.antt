@@ -1,4 +1,4 @@
-use Rattle.std.proofs.Common.{◌≡◌, ◌∙◌, rules}
+use Rattle.std.proofs.Common.{◌≡◌, ◌∙◌}
 use Rattle.std.proofs.lemmas.Result.{IfOk-weaker}
 use Rattle.demands.specs.Collected.{collected_texts}
 use Rattle.demands.proofs.CollectedTexts.{collected_moved, rising_moved}

@@ -1,6 +1,5 @@
-use Rattle.std.proofs.Common.{◌≡◌, ◌<◌, ◌≤◌, ◌∙◌, ℕ, suc, [], arith, get_or, length, rules, sym}
+use Rattle.std.proofs.Common.{◌≡◌, ◌∙◌, arith, rules, sym}
 use Rattle.std.specs.declared.cmp.Ordering.TheVariants.{Less}
-use Rattle.texts.specs.Arena.{text_cmp}
 use Rattle.demands.proofs.CollectedTexts.{ascending_by_index, rising_step}
 use Rattle.demands.proofs.collected.is_rising.Goals as goal
 

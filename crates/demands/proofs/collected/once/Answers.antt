@@ -1,6 +1,5 @@
-use Rattle.std.proofs.Common.{◌≡◌, ◌≢◌, ◌∙◌, ◌+◌, ◌++◌, ◌∷◌, ◌<◌, ◌-◌, ℕ, [], ap, arith, get_or, length, rules, subst, sym, take}
+use Rattle.std.proofs.Common.{◌≡◌, ◌≢◌, ◌∙◌, ◌+◌, ◌++◌, ◌∷◌, ◌<◌, ◌-◌, [], ap, get_or, length, rules, sym, take}
 use Rattle.std.specs.declared.cmp.Ordering.TheVariants.{Less}
-use Rattle.texts.specs.Arena.{text_cmp}
 use Rattle.demands.specs.Collected.{collected_texts}
 use Rattle.demands.proofs.CollectedTexts.{once_first, once_same, once_step}
 use Rattle.demands.proofs.collected.once.Goals.{else-i-eq0+else-eq, then-i-eq0+in_ok-push}

@@ -1,4 +1,4 @@
-use Rattle.std.proofs.Common.{◌<◌, arith}
+use Rattle.std.proofs.Common.{arith}
 use Rattle.std.proofs.lemmas.List.{length-drop, length-take}
 use Rattle.devices.proofs.Appended.{Appends-more}
 use Rattle.devices.proofs.pieces.push_rest.Goals as goal

@@ -1,6 +1,5 @@
 use Rattle.std.proofs.Common.{◌≡◌, rules}
 use Rattle.std.specs.Ordering.{is_lt}
-use Rattle.std.specs.List.Sorted.{IsSortedBy}
 use Rattle.std.proofs.lemmas.Fn.{always_returns_same}
 use Rattle.std.proofs.lemmas.Result.{on_ok_weaker}
 use Rattle.texts.proofs.ArenaLemmas.{piece_order}

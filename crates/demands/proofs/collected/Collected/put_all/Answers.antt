@@ -1,5 +1,5 @@
-use Rattle.std.proofs.Common.{◌+◌, refl, rules, take, arith}
-use Rattle.demands.proofs.KeptSets.{kept_next, next_taken, one_holds, union_none}
+use Rattle.std.proofs.Common.{◌+◌, refl, rules, take}
+use Rattle.demands.proofs.KeptSets.{kept_next, next_taken, one_holds}
 use Rattle.demands.proofs.collected.Collected.put_all.Goals as goal
 
 pub loop-value-preserved : goal.loop-value-preserved

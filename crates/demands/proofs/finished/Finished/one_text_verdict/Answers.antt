@@ -1,4 +1,4 @@
-use Rattle.std.proofs.Common.{◌≡◌, ◌∙◌, ◌<◌, ap, arith, inr, length, rules, subst, sym}
+use Rattle.std.proofs.Common.{◌≡◌, ◌∙◌, ◌<◌, ap, inr, length, rules, subst, sym}
 use Rattle.pep_clause.specs.VersionSet.{In}
 use Rattle.demands.proofs.EntryTexts.{fits_one}
 use Rattle.demands.proofs.finished.Finished.one_text_verdict.Goals as goal

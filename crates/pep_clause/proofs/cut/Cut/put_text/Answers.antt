@@ -1,9 +1,8 @@
-use Rattle.std.proofs.Common.{◌≡◌, ◌∙◌, ◌++◌, List, ap, append_assoc, rules, subst, sym, true, ℕ}
+use Rattle.std.proofs.Common.{◌≡◌, ◌∙◌, ◌++◌, List, ap, append_assoc, rules, subst, true, ℕ}
 use Rattle.std.proofs.lemmas.Result.{on_ok_weaker}
 use Rattle.std.specs.Prelude.{is_some}
 use Rattle.pep_version.specs.KeyReading.{behind_place, read_version}
 use Rattle.pep_version.specs.Text.{normal_text}
-use Rattle.pep_version.specs.Version.{IsVersion}
 use Rattle.pep_clause.specs.Cut.{end_rank}
 use Rattle.pep_clause.specs.CutView.{cut_word}
 use Rattle.pep_clause.proofs.CutsRead.{IsReadCut, read_cut, stored_rank}

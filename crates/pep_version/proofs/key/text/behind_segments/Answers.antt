@@ -1,4 +1,4 @@
-use Rattle.std.proofs.Common.{◌≡◌, ◌∙◌, ◌<◌, ◌++◌, ◌∷◌, [], arith, get_or, sym}
+use Rattle.std.proofs.Common.{◌∙◌, ◌<◌, ◌++◌, ◌∷◌, [], arith, get_or, sym}
 use Rattle.pep_version.specs.KeyReading.{read_segment, read_segments}
 use Rattle.pep_version.proofs.KeyLoops.{at_end, at_start, behind, none_left, one_more, segment_left}
 use Rattle.pep_version.proofs.key.text.behind_segments.Goals as goal

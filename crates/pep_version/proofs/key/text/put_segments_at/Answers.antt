@@ -1,8 +1,8 @@
-use Rattle.std.proofs.Common.{◌≡◌, ◌∙◌, ◌+◌, ◌<◌, ◌≤◌, ◌++◌, ◌∷◌, [], ap, append-nil, arith, get_or, length, refl, sym}
+use Rattle.std.proofs.Common.{◌∙◌, ◌+◌, ◌<◌, ◌++◌, ◌∷◌, [], ap, append-nil, arith, get_or, refl, sym}
 use Rattle.std.proofs.lemmas.List.{length-append}
 use Rattle.pep_version.specs.KeyReading.{read_segment, read_segments}
 use Rattle.pep_version.specs.Text.{segment_text}
-use Rattle.pep_version.specs.Version.{IsSegment, Segment}
+use Rattle.pep_version.specs.Version.{IsSegment}
 use Rattle.pep_version.proofs.KeyLoops.{at_end, at_start, is_next, none_left, one_more, segment_left}
 use Rattle.pep_version.proofs.KeyTexts.{at_err, extends_on, segments_more, segments_text}
 use Rattle.pep_version.proofs.TextLemmas.{dot_before, text-more}

@@ -1,8 +1,6 @@
-use Rattle.std.proofs.Common.{◌≡◌, ◌∙◌, ◌<◌, [], ap, arith, get_or, length, rules, subst, sym}
-use Rattle.std.specs.Prelude.{map, string_bytes}
+use Rattle.std.specs.Prelude.{string_bytes}
 use Rattle.std.proofs.lemmas.Str.{IsUtf8-string_bytes}
 use Rattle.texts.proofs.ArenaLemmas.{compared}
-use Rattle.texts.specs.Arena.{text_at, text_cmp}
 use Rattle.texts.proofs.arena.Arena.compare.Goals as goal
 
 pub returns : goal.returns

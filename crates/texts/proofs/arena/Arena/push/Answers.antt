@@ -1,4 +1,4 @@
-use Rattle.std.proofs.Common.{◌≡◌, ◌∙◌, ◌++◌, refl, rules}
+use Rattle.std.proofs.Common.{◌∙◌, rules}
 use Rattle.std.specs.Prelude.{string_bytes}
 use Rattle.texts.proofs.ArenaLemmas.{pieces_left, pieces_pushed, texts_pushed}
 use Rattle.texts.proofs.arena.Arena.push.Goals as goal
