@@ -1,8 +1,8 @@
 //! Devices that take bytes.
 
-ghost use Rattle.std.specs.Prelude.{◌≡◌, ◌<◌, List, ℕ, Option, None, IfOk, length, true};
+ghost use Rattle.std.specs.Prelude.{◌≡◌, ◌<◌, List, ℕ, Option, None, IfOk, length};
 ghost use Rattle.std.specs.Io.{WritesAtMost};
-ghost use Rattle.std.specs.Io.KnownBytes.{Keeps, WriteAppends};
+ghost use Rattle.std.specs.Io.KnownBytes.{WriteAppends};
 ghost use Rattle.devices.specs.Device.{Device, IsReady, CountsCall};
 
 use crate::device::{Counted, Failed};
@@ -24,11 +24,6 @@ pub trait Sink {
         ensures some { 0 < length buf.now → IfOk result (λ n. 0 < n) }
         ensures bytes { WriteAppends (written self.old) (written self.new) result buf.now }
         ensures counts { CountsCall (device self.old) (device self.new) result };
-
-    /// Gives the device up, as where a call has failed.
-    fn give_up(&mut self)
-        ensures failed { (device self.new).failed ≡ true }
-        ensures bytes { Keeps (written self.old) (written self.new) };
 
     /// How many calls there were.
     fn calls(&self) -> u64
@@ -53,10 +48,6 @@ impl<D: Write> Sink for Counted<D> {
                 Err(Failed)
             }
         }
-    }
-
-    fn give_up(&mut self) {
-        self.failed = true;
     }
 
     fn calls(&self) -> u64 {

@@ -205,10 +205,6 @@ impl Sink for Writer {
         Ok(count)
     }
 
-    fn give_up(&mut self) {
-        self.failed = true;
-    }
-
     fn calls(&self) -> u64 {
         self.calls
     }
