@@ -1,13 +1,17 @@
 """Requirements with their places, audits, and the package as a command."""
 
 import contextlib
+import importlib
 import io
 import itertools
 import json
+import os
 import pathlib
+import subprocess
+import sys
 import tempfile
 import unittest
-from typing import Iterator, Optional, Union
+from typing import Any, Iterator, Optional, Union
 from unittest import mock
 
 import tubrambutan
@@ -36,6 +40,19 @@ FILES = {
     "hash.txt": "a==1 --hash=sha256:0\n",
     "variable.txt": "a @ https://${TOKEN}@x.test\n",
     "cycle.txt": "-r cycle.txt\n",
+    "url.txt": "a\n-r HTTPS://x.test/r.txt\n",
+    "quote.txt": "-r 'a\n",
+    "two.txt": "-r a.txt b.txt\n",
+    "of_variable.txt": "-r ${A}.txt\n",
+}
+# Files that pip's parser and this package read alike.
+ALIKE = {
+    "in/c.txt": "y<3\n-r d.txt\n-r 'e f.txt'\n",
+    "in/d.txt": "x>1  # why\n-c../g.txt\n",
+    "in/e f.txt": "z\n",
+    "g.txt": "w<9",
+    "all.txt": "flask\\\n# c\n\\\nattrs\\\\\n[a]\\\n\ndjango\rurl @ https://x.test/#egg\x0cb\\\n  # d \\\nv>=1\\\n,<2\r\n# e\\\nu\\\n#\nt\\",
+    "first.txt": "-c in/c.txt\n--requirement all.txt\n--constraint='all.txt'\n-rin/d.txt\n",
 }
 # Distributions by their names, with versions and further lines of metadata.
 DISTRIBUTIONS = {
@@ -80,13 +97,32 @@ class Places(unittest.TestCase):
             with self.assertRaises(Refused) as caught:
                 merge(lists=["a", requirements_file(str(folder / "faulty.txt")).requirements], environment=STANDARD)
             self.assertEqual((caught.exception.subject, caught.exception.line, caught.exception.input), (str(folder / "faulty.txt"), 3, 2))
-            for name, message in (("option.txt", "option.txt, line 2: '--index"), ("hash.txt", "line 1"), ("variable.txt", "line 1"), ("cycle.txt", "includes itself")):
+            faults = [("option.txt", "option.txt, line 2: '--index"), ("hash.txt", "line 1"), ("variable.txt", "line 1"), ("cycle.txt", "line 1: .*includes itself")]
+            faults += [("url.txt", "line 2: HTTPS://x.test/r.txt is a URL, and nothing is fetched"), ("quote.txt", "line 1: No closing"), ("two.txt", "line 1"), ("of_variable.txt", "line 1")]
+            for name, message in faults:
                 with self.subTest(name), self.assertRaisesRegex(ValueError, message):
                     requirements_file(folder / name)
             with self.assertRaises(OSError):
                 requirements_file(folder / "none.txt")
             with self.assertRaisesRegex(ValueError, r"write merge\('pyproject.toml'\)"):
                 requirements_file("pyproject.toml")
+
+            with self.assertRaisesRegex(ValueError, "nothing is fetched"):
+                requirements_file("https://x.test/r.txt")
+
+    def test_requirements_files_beside_pip(self) -> None:
+        try:
+            parse = importlib.import_module("pip._internal.req.req_file").parse_requirements
+        except (ImportError, AttributeError):
+            self.skipTest("NOT COMPARED WITH pip, WHICH IS NOT THERE")
+        with folder_of(ALIKE) as folder:
+            for name in ALIKE:
+                path = str(folder / name)
+                theirs = [(it.requirement, it.comes_from.partition(" ")[2], it.constraint) for it in parse(path, session=None)]
+                found = requirements_file(path)
+                ours = [(it.text, f"{it.file} (line {it.number})", of is found.constraints) for of in found for it in of]
+                # (the first file is one of requirements)
+                self.assertEqual(ours, sorted(theirs, key=lambda it: bool(it[2])), name)
 
     def test_lines(self) -> None:
         lines = Lines([Line("a>=1", "x", 1), Line("b\n<2", "y", 9)])
@@ -103,12 +139,26 @@ class Audits(unittest.TestCase):
             found = audit([str(folder)])
         self.assertEqual(found.distributions, 5)
         self.assertEqual([(it.package, it.installed, [line.text for line in it.demands]) for it in found.missing], [("c", None, ["c"])])
-        self.assertEqual([(it.package, it.installed, [line.file for line in it.demands]) for it in found.refused[:2]], [("b", "1.5", ["a 1.0"]), ("f", "1.0rc1", ["b 1.5"])])
-        self.assertEqual([it.package for it in found.refused], ["b", "f", "python"])
+        refused = [("b", "1.5", ["a 1.0"]), ("e", "1", ["a 1.0", "b 1.5"]), ("f", "1.0rc1", ["b 1.5"])]
+        self.assertEqual([(it.package, it.installed, sorted(line.file for line in it.demands)) for it in found.refused[:3]], refused)
+        self.assertEqual([it.package for it in found.refused[3:]], ["python"])
         self.assertEqual([(it.package, {line.file for line in it.demands}) for it in found.clashes], [("e", {"a 1.0", "b 1.5"})])
         self.assertEqual([it.text for it in found.unread], ["f (broken", "x"])
         self.assertTrue(found)
         self.assertIn("not installed: c\n  c, of a 1.0\n", str(found))
+
+    def test_clashes(self) -> None:
+        demands = ("a>=2", "A <1", "a!=5", "zz>=2", "zz<1 ; python_version > '3'", "zz<1; extra == 'x'", "u @ https://x.test/1", "u @ https://x.test/2", "u>=1", "w @ https://x.test/1")
+        more = "".join(f"Requires-Dist: {it}\n" for it in demands)
+        versions = {"a": "1.5", "u": "1", "w": "1", "demo": "1"}
+        files = {f"{name}-{version}.dist-info/METADATA": f"Name: {name}\nVersion: {version}\n{more if name == 'demo' else ''}\n" for name, version in versions.items()}
+        with folder_of(files) as folder:
+            found = audit(folder)
+        clashes = [("a", "1.5", ["a>=2", "A <1"]), ("u", "1", ["u @ https://x.test/1", "u @ https://x.test/2"]), ("zz", None, ["zz>=2", "zz<1 ; python_version > '3'"])]
+        self.assertEqual([(it.package, it.installed, [line.text for line in it.demands]) for it in found.clashes], clashes)
+        self.assertEqual([(it.package, [line.text for line in it.demands]) for it in found.refused], [("a", ["a>=2", "A <1"])])
+        self.assertEqual([it.package for it in found.missing], ["zz"])
+        self.assertIn("can't be met together: zz\n  zz>=2, of demo 1\n", str(found))
 
     def test_what_is_installed_here(self) -> None:
         self.assertGreater(audit().distributions, 0)
@@ -129,6 +179,45 @@ def run(*words: str, given: bytes = b"", told: "Optional[io.StringIO]" = None) -
         except SystemExit as end:
             status = int(end.code or 0)
     return status, out.getvalue(), told.getvalue()
+
+
+class Short(io.RawIOBase):
+    """A stream that takes some bytes at a time, or none."""
+
+    def __init__(self, most: int) -> None:
+        super().__init__()
+        self.most, self.taken = most, b""
+
+    def writable(self) -> bool:
+        return True
+
+    def write(self, data: Any) -> int:
+        self.taken += bytes(data[: self.most])
+        return min(self.most, len(data))
+
+
+class Streams(unittest.TestCase):
+    def test_short_writes(self) -> None:
+        whole = run("env")[1]
+        for most, status, told in ((1, 0, ""), (7, 0, ""), (0, 2, "tubrambutan: [Errno 11] standard output takes no more\n")):
+            # (a stream of the interpreter with `PYTHONUNBUFFERED` is like this one)
+            to, words = Short(most), io.StringIO()
+            stream: Any = to
+            with contextlib.redirect_stdout(io.TextIOWrapper(stream, "utf-8", write_through=True)), contextlib.redirect_stderr(words):
+                self.assertEqual(main(["env"]), status)
+            self.assertEqual((to.taken.decode(), words.getvalue()), (whole if most else "", told))
+
+    def test_no_room(self) -> None:
+        with folder_of({"big.txt": "".join(f"name{number}\n" for number in range(2000))}) as folder:
+            command = f"'{sys.executable}' -m tubrambutan merge '{folder}/big.txt'"
+            runs = [(f"trap '' XFSZ; ulimit -f 8; exec {command} >'{folder}/cut.table'", "[Errno 27]"), (f"exec {command} >/dev/full", "[Errno 28]"), (f"exec {command} >&-", "[Errno 9]")]
+            for unbuffered in ("", "1"):
+                environment = {**os.environ, "PYTHONUNBUFFERED": unbuffered, "PYTHONPATH": os.path.dirname(tubrambutan.__path__[0])}
+                for shell, told in runs:
+                    with self.subTest(shell, unbuffered=unbuffered):
+                        done = subprocess.run(["bash", "-c", shell], env=environment, stdout=subprocess.PIPE, stderr=subprocess.PIPE, encoding="utf-8")
+                        self.assertEqual((done.returncode, done.stdout, done.stderr.count("\n")), (2, "", 1), done.stderr)
+                        self.assertIn(f"tubrambutan: {told}", done.stderr)
 
 
 class Commands(unittest.TestCase):

@@ -6,11 +6,13 @@ Its status tells whether something is wrong (`_STATUS`).
 from __future__ import annotations
 
 import argparse
+import contextlib
+import errno
 import json
 import os
 import pathlib
 import sys
-from typing import Any, Callable, Iterable, NamedTuple, Optional, Sequence
+from typing import Any, Callable, NamedTuple, Optional, Sequence
 
 from . import __version__
 from ._audit import Audit, Finding, audit
@@ -179,24 +181,55 @@ def _parser() -> argparse.ArgumentParser:
     return parser
 
 
-def _told(answer: _Answer, is_json: bool) -> Iterable[str]:
+def _print(text: str) -> None:
+    """Writes a text to standard output, all of it.
+
+    Raises:
+        OSError: a write fails, or takes nothing.
+    """
+    if sys.stdout is None:
+        raise OSError(errno.EBADF, "standard output is closed")
+    sys.stdout.flush()
+    buffer = getattr(sys.stdout, "buffer", None)
+    if buffer is None:
+        # (a stream in memory, which takes all)
+        sys.stdout.write(text)
+        return
+    left = memoryview(text.encode(sys.stdout.encoding, sys.stdout.errors or "strict"))
+    while left:
+        # (a stream without a buffer may write less than it is given, as with `PYTHONUNBUFFERED`)
+        count = buffer.write(left)
+        if not count:
+            raise OSError(errno.EAGAIN, "standard output takes no more")
+        left = left[count:]
+    buffer.flush()
+
+
+def _told(answer: _Answer, is_json: bool) -> str:
     """Returns what is printed."""
-    return [json.dumps(answer.data, indent=1), "\n"] if is_json else [answer.words]
+    return json.dumps(answer.data, indent=1) + "\n" if is_json else answer.words
+
+
+def _give_up_output() -> None:
+    """Sends what standard output still holds to nowhere, or the interpreter would write it at its end, and tell the fault once more."""
+    with contextlib.suppress(OSError, ValueError, AttributeError):
+        os.dup2(os.open(os.devnull, os.O_WRONLY), sys.stdout.fileno())
 
 
 def main(words: Optional[Sequence[str]] = None) -> int:
     """Runs a command, and returns its status."""
     given = _parser().parse_args(words)
+    is_printing = False
     try:
         answer: _Answer = given.run(given)
-        sys.stdout.writelines(_told(answer, given.json))
-        sys.stdout.flush()
-    except BrokenPipeError:
-        # (nobody reads on, and the interpreter would tell it once more at its end)
-        os.dup2(os.open(os.devnull, os.O_WRONLY), sys.stdout.fileno())
-        return 2
+        told, is_printing = _told(answer, given.json), True
+        _print(told)
     except (ValueError, OSError) as fault:
-        print(f"tubrambutan: {fault}", file=sys.stderr)
+        if is_printing:
+            _give_up_output()
+        # (where a pipe is broken nobody reads on)
+        if not isinstance(fault, BrokenPipeError):
+            print(f"tubrambutan: {fault}", file=sys.stderr)
         return 2
     return answer.status
 

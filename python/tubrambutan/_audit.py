@@ -16,6 +16,7 @@ from ._refused import InvalidName, InvalidRequirement, InvalidSpecifier, Invalid
 from ._requirement import Requirement
 from ._specifiers import SpecifierSet
 from ._version import Version
+from ._why import clashes
 
 
 class Finding(NamedTuple):
@@ -24,7 +25,7 @@ class Finding(NamedTuple):
     Attributes:
         package: its normalized name; `python` for the interpreter.
         installed: the version that is installed, or None.
-        demands: the requirements that aren't met, each with the distribution that has it.
+        demands: the requirements that aren't met, or that clash, each with the distribution that has it.
     """
 
     package: str
@@ -43,7 +44,8 @@ class Audit(NamedTuple):
         distributions: how many there are.
         missing: packages that are required and aren't installed.
         refused: packages of which another version is installed than is required.
-        clashes: packages of which no version whatever meets all requirements, or of which two different URLs are required.
+        clashes: packages of which no version whatever meets all requirements, or of which two different URLs are required, installed or not. Each has the
+            requirements that clash together, as `why` tells them.
         unread: requirements that can't be read, with the distributions that have them, and versions that are none.
     """
 
@@ -58,7 +60,7 @@ class Audit(NamedTuple):
 
     def __str__(self) -> str:
         told = [f"{self.distributions} distributions: {'something is wrong' if self else 'nothing is wrong'}"]
-        for what, findings in (("not installed", self.missing), ("not the version that is required", self.refused), ("no version meets all", self.clashes)):
+        for what, findings in (("not installed", self.missing), ("not the version that is required", self.refused), ("can't be met together", self.clashes)):
             told += [f"{what}: {it}" for it in findings]
         told += [f"can't be read: {it.text}, of {it.file}" for it in self.unread]
         return "\n".join(told)
@@ -167,8 +169,9 @@ def audit(path: Union[None, Path, Iterable[Path]] = None) -> Audit:
     unread += [Line(it.version, it.name, 1) for it in installed.values() if not _is_version(it.version)]
     environment = default_environment()
     table, demanded = merge(lists=[Lines(read)], environment=environment), _Demanded(read, environment)
-    clashes = [name for name, package in table.items() if package.verdict != "open"]
-    there = [name for name in table if name in installed and name not in clashes and _is_version(installed[name].version)]
+    at = {(line.file, line.number): line for line in read}
+    clashing = clashes(lists=[Lines(read)], environment=environment)
+    there = [name for name in table if name in installed and _is_version(installed[name].version)]
     met = table.admits_each(((name, installed[name].version) for name in there), prereleases=True)
     python = tuple(_of_python(installed.values(), environment["python_full_version"]))
 
@@ -176,10 +179,12 @@ def audit(path: Union[None, Path, Iterable[Path]] = None) -> Audit:
         return Finding(name, installed[name].version if name in installed else None, tuple(demands))
 
     refused = [finding(name, demanded.not_met(name, installed[name].version)) for name, is_met in zip(there, met) if not is_met]
+    # (of a package with two URLs all clauses may be met)
+    refused = [it for it in refused if it.demands]
     return Audit(
         len(installed),
         tuple(finding(name, (line for line, _ in demanded.on(name))) for name in table if name not in installed),
         (*refused, *([Finding("python", environment["python_full_version"], python)] if python else [])),
-        tuple(finding(name, (line for line, _ in demanded.on(name))) for name in clashes if name in installed),
+        tuple(finding(it.name, (at[claim.path or "", claim.line] for claim in it.clash)) for it in clashing),
         tuple(unread),
     )

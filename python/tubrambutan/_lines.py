@@ -5,11 +5,14 @@ from __future__ import annotations
 import email
 import os
 import re
+import shlex
 from typing import Iterable, Iterator, NamedTuple, Optional, Union
 
 _COMMENT = re.compile(r"(?:^|\s+)#.*$")
 _OPTION = re.compile(r"(?:^|\s)-")
 _INCLUDE = re.compile(r"(?:-r|-c|--requirement|--constraint)(?:\s+|=|(?<=-[rc]))(\S.*)")
+# How pip tells a URL from a path.
+_URL = re.compile(r"(?:https?|file):", re.I)
 _VARIABLE = re.compile(r"\$\{[A-Z0-9_]+\}")
 
 
@@ -92,7 +95,7 @@ class RequirementsFile(NamedTuple):
 
     Attributes:
         requirements: the requirements.
-        constraints: those of files that are included by `-c`: they hold for packages that something else requires.
+        constraints: those of files that `-c` includes: they hold for packages that something else requires. What `-r` includes in such a file is required.
     """
 
     requirements: Lines
@@ -101,51 +104,73 @@ class RequirementsFile(NamedTuple):
 
 def _logical(text: str) -> Iterator[tuple[int, str]]:
     """Returns the lines without comments, each with its number; a line that ends with a backslash goes on in the next one."""
-    front, begin = "", 0
-    for number, line in enumerate(text.split("\n"), 1):
-        begin = begin if front else number
-        if line.rstrip("\r").endswith("\\") and not line.lstrip().startswith("#"):
-            front += line.rstrip("\r")[:-1]
-            continue
-        kept = _COMMENT.sub("", front + line.rstrip("\r")).strip()
-        front = ""
-        if kept:
-            yield begin, kept
-    if _COMMENT.sub("", front).strip():
-        yield begin, _COMMENT.sub("", front).strip()
+    parts: list[str] = []
+    begin = 0
+    lines = text.splitlines()
+    for number, line in enumerate(lines, 1):
+        begin = begin if parts else number
+        is_comment = _COMMENT.match(line) is not None
+        goes_on = line.endswith("\\") and not is_comment
+        # (a comment is one behind a line that goes on, too)
+        parts.append(line.strip("\\") if goes_on else f" {line}" if is_comment else line)
+        if not goes_on or number == len(lines):
+            kept = _COMMENT.sub("", "".join(parts)).strip()
+            parts = []
+            if kept:
+                yield begin, kept
 
 
-def _read(path: str, above: tuple[str, ...]) -> Iterator[tuple[bool, Line]]:
-    """Returns the lines of a file and of those that it includes, and of each whether it is a constraint."""
-    if os.path.realpath(path) in above:
-        raise ValueError(f"{path} includes itself")
+def _included(name: str, path: str, number: int) -> str:
+    """Returns the path of a file that a line includes by a name, which may stand in quotes as in a shell.
+
+    Raises:
+        ValueError: there is no name, or more than one, or it is a URL.
+    """
+    try:
+        names = shlex.split(name)
+    except ValueError as fault:
+        raise ValueError(f"{path}, line {number}: {fault}") from None
+    if len(names) != 1:
+        raise ValueError(f"{path}, line {number}: {name!r} is not the name of one file")
+    if _URL.match(names[0]):
+        raise ValueError(f"{path}, line {number}: {names[0]} is a URL, and nothing is fetched: write the path of a file")
+    return os.path.join(os.path.dirname(path), names[0])
+
+
+def _read(path: str, is_constraint: bool, above: tuple[str, ...]) -> Iterator[tuple[bool, Line]]:
+    """Returns the lines of a file and of those that it includes, and of each whether it is a constraint: the last option on the way to it says so."""
+    above = (*above, os.path.realpath(path))
     with open(path, encoding="utf-8-sig", newline="") as it:
         text = it.read()
     for number, line in _logical(text):
-        include = _INCLUDE.fullmatch(line)
+        include = None if _VARIABLE.search(line) else _INCLUDE.fullmatch(line)
         if include:
-            inner = os.path.join(os.path.dirname(path), include[1].strip())
-            is_constraint = line.startswith(("-c", "--constraint"))
-            yield from ((is_constraint or held, found) for held, found in _read(inner, (*above, os.path.realpath(path))))
+            inner = _included(include[1], path, number)
+            if os.path.realpath(inner) in above:
+                raise ValueError(f"{path}, line {number}: {inner} includes itself")
+            yield from _read(inner, line.startswith(("-c", "--constraint")), above)
         elif _OPTION.search(line.partition(";")[0]) or _VARIABLE.search(line):
             raise ValueError(f"{path}, line {number}: {line!r} has an option or a variable that says nothing of requirements here")
         else:
-            yield False, Line(line, path, number)
+            yield is_constraint, Line(line, path, number)
 
 
 def requirements_file(path: Union[str, os.PathLike[str]]) -> RequirementsFile:
-    """Reads a requirements file as pip does: comments behind requirements, lines that go on, and files that `-r` and `-c` include. Nothing is left out.
+    """Reads a requirements file as pip does: comments behind requirements, lines that go on, and files that `-r` and `-c` include. Nothing is left out, and
+    nothing is fetched.
 
     Raises:
-        ValueError: a line has another option, or a variable; or a file includes itself. The message names the file and the line. Or the file is a project
-            file or a printed table by its name.
+        ValueError: a line has another option, a variable or a URL in place of a file; or a file includes itself. The message names the file and the line. Or
+            the file is a URL, a project file or a printed table by its name.
         OSError: a file can't be read.
         UnicodeDecodeError: a file isn't UTF-8.
     """
     name = os.fspath(path)
     if name.endswith((".toml", ".table")):
         raise ValueError(f"{name} is no requirements file by its name: write merge({name!r}) to read it")
-    found = list(_read(name, ()))
+    if _URL.match(name):
+        raise ValueError(f"{name} is a URL, and nothing is fetched: write the path of a file")
+    found = list(_read(name, False, ()))
     return RequirementsFile(_of_kind(found, False), _of_kind(found, True))
 
 
