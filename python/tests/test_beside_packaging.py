@@ -9,7 +9,7 @@ import sys
 import unittest
 from typing import Callable, Optional, TypeVar, Union
 
-from tubrambutan import Marker, Refused, Requirement, Specifier, Version, canonicalize_name
+from tubrambutan import Marker, Refused, Requirement, Specifier, SpecifierSet, Version, canonicalize_name
 from test_tables import STANDARD
 
 # (Debian's packages for the interpreter of the system, which a virtual environment doesn't see)
@@ -110,6 +110,16 @@ def is_near(text: str, version: packaging.version.Version) -> bool:
     return bound.epoch == version.epoch and padded[0] == padded[1]
 
 
+def wants_more(it: packaging.specifiers.Specifier) -> bool:
+    """Tells whether a clause is one with `<` or `>` that names a pre-release, which wants pre-releases in `packaging` from 24.2 on."""
+    return it.operator in ("<", ">") and it.prereleases is True
+
+
+def has_lost_epoch(it: packaging.specifiers.Specifier, version: packaging.version.Version) -> bool:
+    """Tells whether `packaging` 23 may find the prefix of a clause in a version with an epoch, as that of `~=0.4` in `1!2.0`."""
+    return bool(version.epoch) and (it.operator == "~=" or it.version.endswith(".*"))
+
+
 @unittest.skipUnless(IS_THERE, "NOT COMPARED WITH packaging, WHICH IS NOT INSTALLED (Debian: python3-packaging)")
 class BesidePackaging(unittest.TestCase):
     def compare(self, text: object, ours: object, theirs: object, explained: Callable[[], bool]) -> None:
@@ -140,7 +150,7 @@ class BesidePackaging(unittest.TestCase):
                 answers = ours.contains(version, prereleases=True), written.contains(version, prereleases=True)
                 self.compare((text, version), *answers, functools.partial(is_near, text, candidate))
                 if not text.startswith("==="):
-                    self.assertEqual((ours.operator, ours.prereleases), (theirs.operator, theirs.prereleases), text)
+                    self.assertEqual((ours.operator, ours.prereleases), (theirs.operator, theirs.prereleases and not wants_more(theirs)), text)
 
     def test_requirements(self) -> None:
         texts = Texts(3)
@@ -163,6 +173,41 @@ class BesidePackaging(unittest.TestCase):
             ours, theirs = told(lambda: Marker(text).evaluate(environment)), told(lambda: packaging.markers.Marker(text).evaluate(environment))
             # (of two sides `packaging` may judge one alone, and it refuses to compare a text that is no version with one that is)
             self.compare(text, ours, theirs, lambda: ours is None or theirs is None)
+
+    def test_installed(self) -> None:
+        texts = Texts(5)
+        for _ in range(COUNT // 4):
+            text, version = ",".join(texts.clause() for _ in range(texts.pick([1, 2]))), texts.version()
+            ours, theirs = told(lambda: SpecifierSet(text)), told(lambda: packaging.specifiers.SpecifierSet(text))
+            candidate = told(lambda: packaging.version.Version(version))
+            if ours is None or theirs is None or candidate is None or LARGE in version:
+                continue
+            written = packaging.specifiers.SpecifierSet(str(ours))
+            for wants in (None, True, False):
+                for installed in (None, True, False):
+                    asked = packaging.version.Version(candidate.base_version) if installed and candidate.is_prerelease else candidate
+                    answers = ours.contains(version, wants, installed), told(lambda: written.contains(version, wants, installed))
+                    explained = any(is_near(str(it), asked) or (wants is None and wants_more(it)) or has_lost_epoch(it, asked) for it in written)
+                    self.compare((text, version, wants, installed), *answers, lambda: explained or answers[1] is None)
+
+    def test_no_extra(self) -> None:
+        for text in ("extra == 'x'", "extra != 'x'", "'x' == extra", "extra == ''", "os_name == 'x' or extra == ''"):
+            environments: list[dict[str, Optional[str]]] = [{"extra": None}, {"extra": ""}, {"extra": "X"}]
+            for environment in environments:
+                theirs = packaging.markers.Marker(text).evaluate(environment)  # type: ignore[arg-type]  # (its type has no None)
+                self.assertEqual(Marker(text).evaluate(environment), theirs, (text, environment))
+
+    def test_white_space(self) -> None:
+        bodies = ("a", "a[x]>=1", "a (>=1)", "a>=1,<2", "a; os_name == 'x'", "a>=1 ; os_name == 'x'")
+        for space in ("", " ", "\t", "\n", "\r", "\r\n", "\v", "\f", "\x1c", "\x1f", "\x85", "\xa0", "\u2003", "\u3000", "\u200b", "\ufeff", "\0", " \n", "\n ", "\n\n"):
+            for body in bodies:
+                for text in (space + body, body + space):
+                    self.compare(text, told(lambda: Requirement(text)) is None, told(lambda: packaging.requirements.Requirement(text)) is None, lambda: False)
+            marker = space + "os_name == 'x'"
+            self.compare(marker, told(lambda: Marker(marker)) is None, told(lambda: packaging.markers.Marker(marker)) is None, lambda: False)
+            # (in a version and in clauses `packaging` takes more white space than that of ASCII)
+            for text in (space + "1.0", "1.0" + space):
+                self.compare(text, told(lambda: Version(text)) is None, told(lambda: packaging.version.Version(text)) is None, lambda: bool(set(text) & set("\x1c\x1f\x85\xa0\u2003\u3000")))
 
     def test_names(self) -> None:
         for text in ("A", "a--B_.c", "x1", "Zope.Interface"):

@@ -64,6 +64,7 @@ class Types(unittest.TestCase):
             (lambda: Requirement(5), "requirement"),  # type: ignore[arg-type]
             (lambda: Marker(5), "marker"),  # type: ignore[arg-type]
             (lambda: Marker("extra == 'a'").evaluate({"extra": 5}), "variable"),  # type: ignore[dict-item]
+            (lambda: Marker("extra == 'a'").evaluate({"os_name": None}), "variable"),
             (lambda: canonicalize_name(5), "name"),  # type: ignore[arg-type]
             (lambda: tubrambutan.requirement_text(5), "requirement"),  # type: ignore[arg-type]
             (lambda: tubrambutan.admits(5, "1"), "clause"),  # type: ignore[arg-type]
@@ -151,8 +152,10 @@ class Types(unittest.TestCase):
         for wrong in ("", ">=1,<2"):
             with self.subTest(wrong), self.assertRaises(InvalidSpecifier):
                 Specifier(wrong)
-        with self.assertRaises(InvalidVersion):
-            SpecifierSet(">=1").contains("x")
+        for installed in (False, True):
+            with self.assertRaises(InvalidVersion):
+                SpecifierSet(">=1").contains("x", True, installed)
+        self.assertEqual([SpecifierSet(">=2").contains(Version("2a1"), wants, True) for wants in (None, False, True)], [False, False, True])
 
     def test_sets(self) -> None:
         self.assertEqual(SpecifierSet("!=1.0").ranges, (Range(Cut("before 0.dev0"), Cut("before 1")), Range(Cut("before 1.post0.dev0"), Cut("end"))))
@@ -174,7 +177,8 @@ class Types(unittest.TestCase):
         self.assertEqual((str(it), pickle.loads(pickle.dumps(it))), ('a[y,z] @ HTTPS://x.test/1 ; extra == "x"', it))
         it.specifier.prereleases = True
         self.assertIs(pickle.loads(pickle.dumps(it)).specifier.prereleases, True)
-        for wrong in ("", "a>", "a[", "a;b", "-e ."):
+        self.assertEqual((str(Requirement(" \ta \n")), str(Marker("\tos_name == 'x'\n"))), ("a", 'os_name == "x"'))
+        for wrong in ("", "a>", "a[", "a;b", "-e .", "\na", "a\r\n", "\u00a0a", "a\n\n"):
             with self.subTest(wrong), self.assertRaises(InvalidRequirement):
                 Requirement(wrong)
 
@@ -183,6 +187,7 @@ class Types(unittest.TestCase):
         rows = [("python_version < '3.10'", True), ("os_name == 'nt'", False), ("extra == 'x' or os_name=='posix'", True), ("'3.8' in python_version", False)]
         self.assertEqual([Marker(text).evaluate(variables) for text, _ in rows], [wanted for _, wanted in rows])
         self.assertTrue(Marker("extra == 'A_b'").evaluate({"extra": "a-B"}))
+        self.assertEqual([Marker(f"extra {it} 'x'").evaluate({"extra": None}) for it in ("==", "!=")], [False, True])
         with self.assertRaises(UndefinedComparison):
             Marker("os_name ~= 'x'").evaluate(variables)
         for wrong in ("", "a", "os_name == 'x", "python_version >= '1' garbage"):

@@ -7,7 +7,7 @@ import os
 import platform
 import re
 import sys
-from typing import Any, Mapping
+from typing import Any, Mapping, Optional
 
 from ._texts import encoded, text_in
 
@@ -64,7 +64,11 @@ def _string(text: str) -> str:
     return '"' + _ESCAPED.sub(lambda it: f"\\u{ord(it[0]):04x}", text) + '"'
 
 
-def file_of(environment: Mapping[str, str]) -> bytes:
-    """Returns the environment file with these variables."""
+def file_of(environment: Mapping[str, Optional[str]]) -> bytes:
+    """Returns the environment file with these variables.
+
+    Raises:
+        TypeError: one has no text.
+    """
     pairs = ((text_in(name, "a variable's name"), text_in(text, "a variable's text")) for name, text in environment.items())
     return encoded("".join(f"{_string(name)} = {_string(text)}\n" for name, text in pairs))

@@ -12,6 +12,11 @@ from ._texts import encoded, text_in
 from ._version import Version, text_of
 
 
+def _trimmed(text: str) -> str:
+    """Returns a text without the white space that may stand around it: spaces and tabs, and one line feed at its end, as `packaging` has it."""
+    return text.removesuffix("\n").strip(" \t")
+
+
 class Marker:
     """An environment marker (PEP 508).
 
@@ -31,7 +36,7 @@ class Marker:
 
     def __init__(self, marker: str) -> None:
         try:
-            parts = _library.requirement_parts(b"x;" + encoded(text_in(marker, "marker").strip()))
+            parts = _library.requirement_parts(b"x;" + encoded(_trimmed(text_in(marker, "marker"))))
         except Refused as refused:
             raise of_text(InvalidMarker, refused, marker) from None
         self._text = parts[-1].partition(" ")[2]
@@ -43,14 +48,19 @@ class Marker:
         found._text = text
         return found
 
-    def evaluate(self, environment: Optional[Mapping[str, str]] = None) -> bool:
-        """Returns whether the marker holds in the environment of the interpreter, with the variables of a mapping in place of its own.
+    def evaluate(self, environment: Optional[Mapping[str, Optional[str]]] = None) -> bool:
+        """Returns whether the marker holds in the environment of the interpreter, with the variables of a mapping in place of its own. An `extra` that is
+        None is no extra.
 
         Raises:
-            UndefinedComparison: `~=` stands between texts that aren't versions.
+            UndefinedComparison: `~=` compares a text that is no version, or stands in front of a version with one number, as `3`.
             Refused: a variable is none of the eleven nor `extra`, or has a control character.
+            TypeError: a variable's text is none.
         """
-        file = file_of({**default_environment(), **(environment or {})})
+        variables: dict[str, Optional[str]] = {**default_environment(), **(environment or {})}
+        if variables.get("extra", "") is None:
+            del variables["extra"]
+        file = file_of(variables)
         try:
             return _library.marker_holds(file, encoded(self._text))
         except Refused as refused:
@@ -108,7 +118,7 @@ class Requirement:
 
     def __init__(self, requirement: str) -> None:
         try:
-            parts = _library.requirement_parts(encoded(text_in(requirement, "requirement").strip()))
+            parts = _library.requirement_parts(encoded(_trimmed(text_in(requirement, "requirement"))))
         except Refused as refused:
             raise of_text(InvalidRequirement, refused, requirement) from None
         found: dict[str, list[str]] = {"name": [], "extra": [], "clause": [], "url": [], "marker": []}

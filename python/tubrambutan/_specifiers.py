@@ -100,14 +100,24 @@ class SpecifierSet:
             Version(texts[answers.index(_NO_VERSION)])
         return answers
 
-    def contains(self, item: Union[Version, str], prereleases: Optional[bool] = None) -> bool:
-        """Returns whether all clauses admit a version, and it is no pre-release unless these are wanted.
+    def contains(self, item: Union[Version, str], prereleases: Optional[bool] = None, installed: Optional[bool] = None) -> bool:
+        """Returns whether all clauses admit a version, and it is no pre-release unless these are wanted. A pre-release that is installed and wanted counts as
+        the release that it precedes.
+
+        >>> from tubrambutan import SpecifierSet
+        >>> versions = SpecifierSet(">=2")
+        >>> versions.contains("2a1", prereleases=True), versions.contains("2a1", prereleases=True, installed=True)
+        (False, True)
 
         Raises:
             InvalidVersion: the text is no version.
         """
+        wants = bool(self.prereleases if prereleases is None else prereleases)
+        if installed and wants:
+            version = item if isinstance(item, Version) else Version(text_of(item))
+            item = Version(version.base_version) if version.is_prerelease else version
         answer = self._answers([item])[0]
-        return answer == _FINAL or (answer == _PRE_RELEASE and bool(self.prereleases if prereleases is None else prereleases))
+        return answer == _FINAL or (answer == _PRE_RELEASE and wants)
 
     def __contains__(self, item: Union[Version, str]) -> bool:
         return self.contains(item)
