@@ -108,7 +108,7 @@ class Tables(unittest.TestCase):
             with self.assertRaisesRegex(OSError, "."):
                 of_path.save(f"{folder}/none/all.table")
             self.assertEqual(sorted(os.listdir(folder)), ["all.table", "list.txt", "pyproject.toml"])
-        self.assertEqual(str(caught.exception), f"{faulty}, line 2: what follows the operator is no version, or behind `===` no text (code 57 33 12)")
+        self.assertEqual(str(caught.exception), f"{faulty}, line 2: what follows the operator is no version, or behind `===` no text that it takes (code 57 33 12)")
         self.assertEqual(list(of_path), ["flask", "pytest"])
         self.assertEqual(of_path, again)
         self.assertEqual(of_path, merge(projects=[PROJECT.encode()], environment={**STANDARD, "extra": "Dev-Tools"}))

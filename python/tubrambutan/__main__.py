@@ -28,7 +28,7 @@ from ._table import Table
 from ._why import Reason, reason_of, reasons_of
 
 
-_STATUS = """The status is 0; 1 where `check` prints no or conflict, `why` or `clashes` finds a clash, `diff` a difference or `audit` a fault; and 2 where something is refused.
+_STATUS = """The status is 0; 1 where `check` prints no or conflict, `why` or `clashes` finds a clash, `diff` a difference or `audit` a fault; and 2 where something is refused, or a file can't be read or written.
 `merge` ends with 0 whatever the verdicts are."""
 
 

@@ -12,7 +12,7 @@ _KINDS = ("before", "after", "past")
 
 @functools.total_ordering
 class Cut:
-    """A cut: which versions are under it, and which are above. Cuts are in the order of what is under them. None changes.
+    """A cut: which versions are under it, and which are above. Cuts are in the order of what is under them. Immutable.
 
     `before V` has under it all versions below V; `after V` these and all that are the same as V in order; `past R` all of the release R, its
     post-releases and those with local version labels too, and all below; `end` all versions.

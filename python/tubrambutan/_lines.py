@@ -37,7 +37,7 @@ class Lines(tuple[Line, ...]):
     >>> merge(lists=[Lines([Line("flask>=2.0", "base.txt", 7), Line("flask<", "more.txt", 3)])])
     Traceback (most recent call last):
         ...
-    tubrambutan._refused.Refused: more.txt, line 3: what follows the operator is no version, or behind `===` no text (code 57 33 12)
+    tubrambutan._refused.Refused: more.txt, line 3: what follows the operator is no version, or behind `===` no text that it takes (code 57 33 12)
     """
 
     __slots__ = ()

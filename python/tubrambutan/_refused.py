@@ -22,10 +22,10 @@ class Refused(ValueError):
     ...     print(refused.input, refused.line, refused.codes)
     ...     print(refused)
     1 2 (57, 33, 12)
-    input 1, line 2: what follows the operator is no version, or behind `===` no text (code 57 33 12)
+    input 1, line 2: what follows the operator is no version, or behind `===` no text that it takes (code 57 33 12)
 
     Attributes:
-        text: the line that the program tells of the same, without its line feed.
+        text: the line that the program prints for this, without its line feed.
         is_environment: whether the environment is at fault.
         input: the number of the input at fault, counted from 1 through paths, lists, projects and tables in this order; None where none is.
         line: the number of the line at fault, or of the text of a project file, counted from 1; None where none is.
@@ -93,7 +93,7 @@ class InvalidName(Refused):
 
 
 class UndefinedComparison(Refused):
-    """A marker has no truth in an environment: `~=` stands between texts that aren't versions."""
+    """A marker has no truth in an environment: `~=` stands with `extra`, has no version on its left, or makes no clause with its right."""
 
 
 def of_text(kind: type[Refused], refused: Refused, text: str) -> Refused:

@@ -53,7 +53,7 @@ class Marker:
         None is no extra.
 
         Raises:
-            UndefinedComparison: `~=` compares a text that is no version, or stands in front of a version with one number, as `3`.
+            UndefinedComparison: `~=` stands with `extra`, has no version on its left, or makes no clause with its right, as `~= "3"`.
             Refused: a variable is none of the eleven nor `extra`, or has a control character.
             TypeError: a variable's text is none.
         """

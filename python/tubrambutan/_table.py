@@ -130,7 +130,7 @@ class Package:
 
 
 class Difference(NamedTuple):
-    """What another table says of packages that a table doesn't say. It is true where it names any.
+    """How another table differs from a table, by package. It is true where it names any.
 
     Attributes:
         added: the names that the other table alone has.
@@ -162,8 +162,8 @@ class Table(Mapping[str, Package]):
     >>> table["zope_interface"].name
     'zope-interface'
 
-    `a | b` is the table of all that both demand, which their environments must have in common. `a <= b` says that joining b to a
-    changes nothing: a demands all that b demands.
+    `a | b` has all demands of a and all of b, whose environments must be the same. `a <= b` says that joining b to a changes nothing: a
+    demands all that b demands.
 
     >>> one, other = tubrambutan.merge(lists=["demo>=1"]), tubrambutan.merge(lists=["demo<2"])
     >>> (one | other)["demo"].ranges, (one | other) <= one, one <= other

@@ -12,7 +12,7 @@ _PHASES = ("a", "b", "rc")
 
 
 class Version:
-    """A version (PEP 440). Versions are equal where they are the same in order, as `1.0` and `1.0.0`. None changes.
+    """A version (PEP 440). Versions are equal where they are the same in order, as `1.0` and `1.0.0`. Immutable.
 
     >>> from tubrambutan import Version
     >>> str(Version(" v1.0-ALPHA.1"))

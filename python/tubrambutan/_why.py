@@ -134,7 +134,7 @@ def why(
     """Returns why a package has its verdict on what inputs demand, which are those of `merge`.
 
     Raises:
-        InvalidName: the name, or the group, is none.
+        InvalidName: the name, or the group, is no name.
         Refused: an input isn't accepted in the environment, or the environment is none.
         OSError: a file can't be read.
         ValueError: a text is the name of a file.
