@@ -121,15 +121,22 @@ class Requirement:
             parts = _library.requirement_parts(encoded(_trimmed(text_in(requirement, "requirement"))))
         except Refused as refused:
             raise of_text(InvalidRequirement, refused, requirement) from None
-        found: dict[str, list[str]] = {"name": [], "extra": [], "clause": [], "url": [], "marker": []}
+        extras, clauses, url, marker = set(), [], None, None
         for part in parts:
             kind, _, text = part.partition(" ")
-            found[kind].append(text)
-        self.name = found["name"][0]
-        self.extras = set(found["extra"])
-        self.specifier = SpecifierSet._of_normal(found["clause"])
-        self.url: Optional[str] = found["url"][0] if found["url"] else None
-        self.marker: Optional[Marker] = Marker._of_normal(found["marker"][0]) if found["marker"] else None
+            if kind == "clause":
+                clauses.append(text)
+            elif kind == "extra":
+                extras.add(text)
+            elif kind == "marker":
+                marker = text
+            elif kind == "url":
+                url = text
+        self.name = parts[0].partition(" ")[2]
+        self.extras: set[str] = extras
+        self.specifier = SpecifierSet._of_normal(clauses)
+        self.url: Optional[str] = url
+        self.marker: Optional[Marker] = Marker._of_normal(marker) if marker else None
 
     def __str__(self) -> str:
         extras = f"[{','.join(sorted(self.extras))}]" if self.extras else ""
