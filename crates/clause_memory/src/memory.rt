@@ -38,17 +38,6 @@ fn kept_bytes(text: &[u8]) -> Option<[u8; LONGEST]>
     Some(kept)
 }
 
-// Every version.
-fn anything() -> Demand {
-    Demand {
-        bounds: Bounds {
-            low: Place::least(),
-            high: Place::end(),
-        },
-        outside: false,
-    }
-}
-
 impl Remembered {
     // A text with what it demands, if it isn't too long.
     fn of(text: &[u8], found: &Option<Demand>) -> Option<Remembered>
@@ -57,14 +46,25 @@ impl Remembered {
     {
         let len = u8::try_from(text.len()).ok()?;
         let kept = kept_bytes(text)?;
-        let demand = found.unwrap_or(anything());
-        Some(Remembered {
-            bounds: demand.bounds,
-            outside: demand.outside,
-            is_known: found.is_some(),
+        let unknown = Remembered {
+            bounds: Bounds {
+                low: Place::least(),
+                high: Place::end(),
+            },
+            outside: false,
+            is_known: false,
             len,
             text: kept,
-        })
+        };
+        match found {
+            Some(demand) => Some(Remembered {
+                bounds: demand.bounds,
+                outside: demand.outside,
+                is_known: true,
+                ..unknown
+            }),
+            None => Some(unknown),
+        }
     }
 
     fn demand(&self) -> Option<Demand>
