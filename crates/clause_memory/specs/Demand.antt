@@ -1,12 +1,12 @@
 -- What a clause demands of versions, and texts that are such clauses.
-use Rattle.std.specs.Prelude.{◌≡◌, ℕ, List, Option, Some, None, IfSome, if◌then◌else◌, take}
+use Rattle.std.specs.Prelude.{◌≡◌, ℕ, List, Option, Some, None, IfSome, if◌then◌else◌, take, ⊤}
 use Rattle.specifiers.specs.Clause.{Clause, demanded_text}
 use Rattle.specifiers.specs.Valid.{IsValidClause}
 use Rattle.pep_clause.specs.OperatorTable.{outside, range, set_of}
 use Rattle.pep_clause.specs.VersionSet.{Range}
 use Rattle.pep_require.specs.Reads.{IsBound}
 use Rattle.clause_memory.specs.declared.demand.Demand.{Demand}
-use Rattle.clause_memory.specs.declared.memory.Slot.{Slot}
+use Rattle.clause_memory.specs.declared.memory.Remembered.{Remembered}
 
 -- the ranges in which the versions lie
 abbrev pub demanded_ranges : Demand → List Range
@@ -30,13 +30,15 @@ pub record ReadsDemand (x : List ℕ) (ranges : List Range) : Type 0 where
 abbrev pub KnowsDemand : List ℕ → Option Demand → Type 0
 KnowsDemand x found = IfSome found (λ d. ReadsDemand x (demanded_ranges d))
 
--- the text of a slot, and what is known of it
-abbrev pub slot_text : Slot → List ℕ
-slot_text slot = take slot.len slot.text
+-- the text that is remembered, and what is known of it
+abbrev pub remembered_text : Remembered → List ℕ
+remembered_text it = take it.len it.text
 
-abbrev pub slot_demand : Slot → Option Demand
-slot_demand slot =
-    if slot.is_known then Some (record { bounds = slot.bounds; outside = slot.outside }) else None
+abbrev pub remembered_demand : Remembered → Option Demand
+remembered_demand it =
+    if it.is_known then Some (record { bounds = it.bounds; outside = it.outside }) else None
 
-abbrev pub IsRemembered : Slot → Type 0
-IsRemembered slot = KnowsDemand (slot_text slot) (slot_demand slot)
+-- what is known of the text in a slot, if there is one
+abbrev pub IsRemembered : Option Remembered → Type 0
+IsRemembered None = ⊤
+IsRemembered (Some it) = KnowsDemand (remembered_text it) (remembered_demand it)

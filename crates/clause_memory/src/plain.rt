@@ -166,6 +166,10 @@ pub(crate) fn plain_demand(text: &str) -> Option<(Option<Demand>, &str)>
 {
     let bytes = without_leading_blanks(text.as_bytes());
     let operator = Op::at_front(bytes)?;
+    // A demanded text is kept as it is, and goes the whole way.
+    if operator == Op::Exact {
+        return Some((None, text));
+    }
     let (_, operand) = bytes.split_at(operator.text().len());
     match operand_at(without_leading_blanks(operand)) {
         Operand::Release(release) => {

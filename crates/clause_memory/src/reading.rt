@@ -122,10 +122,6 @@ impl ClauseMemory {
             length rest.now ≤ length text.now)) }
         ensures faults { IfErr result (λ e. e ≡ RequireFault.NoMemory) }
     {
-        // No memory has a demanded text.
-        if text.starts_with("===") {
-            return Ok(None);
-        }
         let (piece, rest) = text.split_at(piece_run(text.as_bytes()));
         let found = self.demand(alloc, piece)?;
         if keep(found, versions) {

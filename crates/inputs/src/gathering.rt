@@ -79,25 +79,20 @@ impl Taker for DemandTaker<'_> {
 }
 
 impl<'a> DemandTaker<'a> {
-    // No marker is judged yet. The only fault is want of memory.
+    // No marker is judged yet.
     pub(crate) fn new(
         alloc: Global,
         environment: &'a Environment,
         wanted: Option<&'a Name>,
-    ) -> Result<DemandTaker<'a>, Fault>
-        ensures environment { IfOk result (λ taker. taker.markers ≡ environment.now) }
-        ensures wanted { IfOk result (λ taker.
-            wanted_name taker.wanted ≡ wanted_name wanted.entry) }
-        ensures faults { IfErr result (λ fault. fault ≡ no_memory) }
+    ) -> DemandTaker<'a>
+        ensures environment { result.markers ≡ environment.now }
+        ensures wanted { wanted_name result.wanted ≡ wanted_name wanted.entry }
     {
-        match JudgedMarkers::new(alloc, environment) {
-            Ok(markers) => Ok(DemandTaker {
-                alloc,
-                markers,
-                clauses: ClauseMemory::new(alloc),
-                wanted,
-            }),
-            Err(_) => Err(Fault::no_memory()),
+        DemandTaker {
+            alloc,
+            markers: JudgedMarkers::new(alloc, environment),
+            clauses: ClauseMemory::new(alloc),
+            wanted,
         }
     }
 
@@ -316,7 +311,7 @@ fn take_inputs(
         (GathersInputs environment.now (wanted_name wanted.entry) inputs.now []) }
     ensures refused { IfErr result (RefusesInputs environment.now inputs.now) }
 {
-    let mut taker = DemandTaker::new(alloc, environment, wanted)?;
+    let mut taker = DemandTaker::new(alloc, environment, wanted);
     let mut gathering = Gathering::new(alloc);
     let mut number: u64 = 0;
     for input in inputs {

@@ -91,7 +91,7 @@ pub fn gather_reader<S: Source>(
     ensures bytes { ReadsUpTo (input_limit + 1) (S.left source.old) (S.left source.new) }
     ensures calls { (S.device source.new).calls ≤ input_limit + 1 }
 {
-    let mut taker = DemandTaker::new(alloc, environment, None)?;
+    let mut taker = DemandTaker::new(alloc, environment, None);
     let nothing = Gathering::new(alloc);
     match take_source(alloc, &mut taker, nothing, source) {
         Ok(gathering) => Ok(gathering),

@@ -154,10 +154,6 @@ JudgedMarkers_judge-another_fault (inr (inl (e, _))) = cc e
 JudgedMarkers_judge-another_fault (inr (inr (inl e, _))) = cc e
 JudgedMarkers_judge-another_fault (inr (inr (inr (e, _), _))) = cc e
 
--- no memory
-pub JudgedMarkers_new-another_fault : ¬ (fault.Undefined ≡ fault.NoMemory)
-JudgedMarkers_new-another_fault e = cc e
-
 -- `a or b`
 pub is_or-or_under_and_bare : ¬ (false ≡ is_or (or extra_compatible extra_compatible))
 is_or-or_under_and_bare e = cc e

@@ -5,7 +5,7 @@ use Rattle.pep_marker.specs.Holds.{Evaluates, Truth, undefined}
 use Rattle.pep_marker.specs.Marker.{IsMarker, IsNoMarker, MarkerParts}
 use Rattle.pep_marker.specs.declared.fault.MarkerFault.{MarkerFault}
 use Rattle.pep_marker.specs.declared.fault.MarkerFault.TheVariants.{NoMemory, Undefined}
-use Rattle.pep_marker.specs.declared.judged.Slot.{Slot}
+use Rattle.pep_marker.specs.declared.judged.Judged.{Judged}
 
 -- the text is a marker, of which this is the truth in the environment
 abbrev pub TextSays : EnvironmentParts → List ℕ → Truth → Type 0
@@ -20,6 +20,6 @@ RefusesText e x f =
     ⊎ IsNoMarker x f)
 
 -- what is remembered of a text is what it says
-abbrev pub IsRemembered : EnvironmentParts → Option Slot → Type 0
+abbrev pub IsRemembered : EnvironmentParts → Option Judged → Type 0
 IsRemembered e None = ⊤
-IsRemembered e (Some slot) = TextSays e (string_bytes slot.text) (Some slot.truth)
+IsRemembered e (Some judged) = TextSays e (string_bytes judged.text) (Some judged.truth)

@@ -1,28 +1,35 @@
 //! A memory of the markers that were judged in an environment.
 
-ghost use Rattle.std.specs.Prelude.{◌≡◌, All, IfErr, IfOk, IfSome, Some};
-ghost use Rattle.pep_marker.specs.Environment.{EnvironmentParts};
-ghost use Rattle.pep_marker.specs.Judged.{IsRemembered, RefusesText, TextSays};
+ghost use Rattle.std.specs.Prelude.{◌≡◌, IfErr, IfOk, Some};
+ghost use Rattle.pep_marker.specs.Judged.{RefusesText, TextSays};
 
 use crate::environment::Environment;
 use crate::fault::MarkerFault;
 use crate::marker::Marker;
 use std::alloc::Global;
 use std::marker::Model;
+use text_memory::{OfText, TextMemory};
 
-// How many markers are remembered at once: few at first, and four times as many where there were as many that were not
-// known.
-const FEWEST: usize = 64;
-
+// How many markers are remembered at most.
 const MOST: usize = 4_096;
 // How many bytes a text may have that is remembered.
 const LONGEST: usize = 256;
 
 /// The text of a marker, and whether it is true.
 #[derive(Drop)]
-struct Slot {
+struct Judged {
     text: String,
     truth: bool,
+}
+
+impl OfText for Judged {
+    ghost use Rattle.std.specs.Prelude.{string_bytes};
+
+    ghost text = { λ j. string_bytes j.text };
+
+    fn text(&self) -> &[u8] {
+        self.text.as_bytes()
+    }
 }
 
 /// Judges markers in one environment, and remembers some of them by their texts. Clauses see the
@@ -30,22 +37,7 @@ struct Slot {
 #[derive(Drop)]
 pub struct JudgedMarkers<'a> {
     environment: &'a Environment,
-    slots: Vec<Option<Slot>>,
-    // How many texts were not known since the slots were made.
-    unknown: usize,
-}
-
-// Slots in which nothing is remembered.
-fn empty_slots(alloc: Global, count: usize) -> Result<Vec<Option<Slot>>, MarkerFault>
-    ensures empty { IfOk result (λ slots. (e : EnvironmentParts)
-        → All (IsRemembered e) slots.items) }
-    ensures faults { IfErr result (λ e. e ≡ MarkerFault.NoMemory) }
-{
-    let mut slots = Vec::with_capacity(alloc, count)?;
-    for _ in 0..count {
-        slots.push(None)?;
-    }
-    Ok(slots)
+    memory: TextMemory<Judged>,
 }
 
 impl<'a> Model for JudgedMarkers<'a> {
@@ -57,23 +49,18 @@ impl<'a> Model for JudgedMarkers<'a> {
 
     ghost view = { λ j. j.environment.now };
 
-    ghost invariant = { λ j. All (IsRemembered j.environment.now) j.slots.items };
+    ghost invariant = { λ j. All (IsRemembered j.environment.now) j.memory };
 }
 
 impl<'a> JudgedMarkers<'a> {
-    /// No marker is judged yet in the environment. The only fault is want of memory, 29.
-    pub fn new(
-        alloc: Global,
-        environment: &'a Environment,
-    ) -> Result<JudgedMarkers<'a>, MarkerFault>
-        ensures environment { IfOk result (λ j. j ≡ environment.now) }
-        ensures faults { IfErr result (λ e. e ≡ MarkerFault.NoMemory) }
+    /// No marker is judged yet in the environment.
+    pub fn new(alloc: Global, environment: &'a Environment) -> JudgedMarkers<'a>
+        ensures { result ≡ environment.now }
     {
-        Ok(JudgedMarkers {
+        JudgedMarkers {
             environment,
-            slots: empty_slots(alloc, FEWEST)?,
-            unknown: 0,
-        })
+            memory: TextMemory::new(alloc, MOST),
+        }
     }
 
     /// The environment in which markers are judged.
@@ -97,58 +84,22 @@ impl<'a> JudgedMarkers<'a> {
         if text.len() > LONGEST {
             return truth_of(alloc, self.environment, text);
         }
-        let sum = sum_of(text);
-        if let Some(truth) = self.remembered(sum, text) {
-            return Ok(truth);
+        if let Some(judged) = self.memory.find(text.as_bytes()) {
+            return Ok(judged.truth);
         }
         let truth = truth_of(alloc, self.environment, text)?;
-        self.remember(alloc, sum, text, truth)?;
+        self.remember(alloc, text, truth)?;
         Ok(truth)
     }
 
-    // What is remembered of the text with this sum.
-    fn remembered(&self, sum: u32, text: &str) -> Option<bool>
-        ensures { IfSome result (λ b. TextSays self.now text.now (Some b)) }
-    {
-        match self.slots.get(place_of(sum, self.slots.len()))? {
-            Some(slot) if slot.text.as_str() == text => Some(slot.truth),
-            _ => None,
-        }
-    }
-
-    // Remembers the text with this sum, and whether it is true. The only fault is want of memory.
-    fn remember(
-        &mut self,
-        alloc: Global,
-        sum: u32,
-        text: &str,
-        truth: bool,
-    ) -> Result<(), MarkerFault>
+    // Remembers the text, and whether it is true. The only fault is want of memory.
+    fn remember(&mut self, alloc: Global, text: &str, truth: bool) -> Result<(), MarkerFault>
         requires { TextSays self.old text.now (Some truth) }
         ensures environment { self.new ≡ self.old }
         ensures faults { IfErr result (λ e. e ≡ MarkerFault.NoMemory) }
     {
-        self.make_room(alloc)?;
-        self.unknown = self.unknown.saturating_add(1);
-        let place = place_of(sum, self.slots.len());
         let text = String::from_str(alloc, text)?;
-        if let Some(slot) = self.slots.get_mut(place) {
-            *slot = Some(Slot { text, truth });
-        }
-        Ok(())
-    }
-
-    // More slots, where as many texts were not known as there are slots. What was remembered is dropped.
-    fn make_room(&mut self, alloc: Global) -> Result<(), MarkerFault>
-        ensures environment { self.new ≡ self.old }
-        ensures faults { IfErr result (λ e. e ≡ MarkerFault.NoMemory) }
-    {
-        let count = self.slots.len();
-        if self.unknown < count || count == MOST {
-            return Ok(());
-        }
-        self.slots = empty_slots(alloc, MOST.min(count.saturating_mul(4)))?;
-        self.unknown = 0;
+        self.memory.put(alloc, Judged { text, truth })?;
         Ok(())
     }
 }
@@ -160,18 +111,4 @@ fn truth_of(alloc: Global, environment: &Environment, text: &str) -> Result<bool
 {
     let marker = Marker::read(alloc, text)?;
     marker.holds(alloc, environment)
-}
-
-// A number of all bytes of a text: nothing but time rests on it.
-fn sum_of(text: &str) -> u32 {
-    let mut sum: u32 = 2_166_136_261;
-    for byte in text.as_bytes() {
-        sum = (sum ^ u32::from(*byte)).wrapping_mul(16_777_619);
-    }
-    sum ^ (sum >> 15)
-}
-
-// The slot of a text with this sum among so many, a power of two.
-fn place_of(sum: u32, count: usize) -> usize {
-    sum as usize & count.saturating_sub(1)
 }

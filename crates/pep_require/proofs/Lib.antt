@@ -15,4 +15,5 @@ pub mod LineLaws
 pub mod TextLemmas
 pub mod RequirementTexts
 pub mod CommonUrls
+pub mod UrlRuns
 mod Witnesses

@@ -1,7 +1,8 @@
 // URLs of the common form, which the crate `url` prints as they are written: `http://` or `https://`, a host in lower
 // case whose last label begins with a letter, and a path, a query and a fragment in which nothing has to be escaped.
 
-ghost use Rattle.std.specs.Prelude.{◌≡◌, IfNone, IfSome, List, false, true, ℕ};
+ghost use Rattle.std.specs.Prelude.{◌≡◌, ◌≤◌, IfNone, IfSome, List, false, length, true, ℕ};
+ghost use Rattle.std.specs.List.{prefix_len};
 ghost use Rattle.pep_require.specs.CommonUrl.{
   IsBehindScheme,
   IsCommonUrl,
@@ -121,16 +122,58 @@ impl Spot {
     }
 }
 
+// How many bytes of a label stand in front.
+fn label_run(bytes: &[u8]) -> usize
+    ensures count { result ≡ prefix_len is_label_byte bytes.now }
+    ensures within { result ≤ length bytes.now }
+{
+    bytes.iter().take_while(|b| is_label_byte(**b)).count()
+}
+
+// How many bytes of a segment of a path stand in front.
+fn path_run(bytes: &[u8]) -> usize
+    ensures count { result ≡ prefix_len is_path_byte bytes.now }
+    ensures within { result ≤ length bytes.now }
+{
+    bytes.iter().take_while(|b| is_path_byte(**b)).count()
+}
+
+// How many bytes of a query or of a fragment stand in front.
+fn tail_run(bytes: &[u8]) -> usize
+    ensures count { result ≡ prefix_len is_tail_byte bytes.now }
+    ensures within { result ≤ length bytes.now }
+{
+    bytes.iter().take_while(|b| is_tail_byte(**b)).count()
+}
+
+// What is left of the bytes here, without those in front behind which the next one stands at such a spot too. (Most
+// bytes are such.)
+fn behind_run(spot: Spot, bytes: &[u8]) -> &[u8]
+    ensures rest { goes_on spot result.now ≡ goes_on spot bytes.now }
+    ensures within { length result.now ≤ length bytes.now }
+{
+    let run = match spot {
+        Spot::Word | Spot::Other => label_run(bytes),
+        Spot::Path => path_run(bytes),
+        Spot::Query | Spot::Fragment => tail_run(bytes),
+        Spot::Label | Spot::Segment => 0,
+    };
+    let (_, rest) = bytes.split_at(run);
+    rest
+}
+
 // Whether the bytes are a host, a path, and perhaps a query and a fragment.
 fn goes_on(bytes: &[u8]) -> bool
     ensures { result ≡ goes_on Spot.Label bytes.now }
 {
     let mut spot = Spot::Label;
-    for &byte in bytes {
-        let Some(next) = spot.behind(byte) else {
+    let mut rest = bytes;
+    while let Some((first, others)) = rest.split_first() {
+        let Some(next) = spot.behind(*first) else {
             return false;
         };
         spot = next;
+        rest = behind_run(next, others);
     }
     spot.ends()
 }

@@ -12,8 +12,8 @@ use crate::fault::RequireFault;
 use crate::front::{behind, stripped};
 use crate::requirement::Target;
 use crate::url_text::UrlText;
+use memchr::memchr2;
 use std::alloc::Global;
-use texts::is_blank_byte;
 
 // The target at the front of a text, and the text behind it.
 #[derive(Drop)]
@@ -104,5 +104,8 @@ fn url_run(text: &[u8]) -> usize
     ensures count { result ≡ prefix_len (λ b. not (is_blank_byte b)) text.now }
     ensures within { result ≤ length text.now }
 {
-    text.iter().take_while(|b| !is_blank_byte(**b)).count()
+    match memchr2(b' ', b'\t', text) {
+        Some(at) => at,
+        None => text.len(),
+    }
 }

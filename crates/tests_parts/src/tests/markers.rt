@@ -280,7 +280,7 @@ fn expect_micro(
 #[test]
 fn more_markers_than_are_remembered(rt: HostRuntime) -> Result<(), MarkerFault> {
     let machine = Environment::of(rt.alloc(), &MACHINE)?;
-    let mut markers = JudgedMarkers::new(rt.alloc(), &machine)?;
+    let mut markers = JudgedMarkers::new(rt.alloc(), &machine);
     for round in 0..10_000u32 {
         expect_micro(&rt, &mut markers, round % 5_000)?;
     }
@@ -290,7 +290,7 @@ fn more_markers_than_are_remembered(rt: HostRuntime) -> Result<(), MarkerFault> 
 #[test]
 fn remembered_markers(rt: HostRuntime) -> Result<(), MarkerFault> {
     let machine = Environment::of(rt.alloc(), &MACHINE)?;
-    let mut markers = JudgedMarkers::new(rt.alloc(), &machine)?;
+    let mut markers = JudgedMarkers::new(rt.alloc(), &machine);
     for &(text, truth) in &TRUTHS {
         expect_judged(&rt, &mut markers, text, truth);
     }
