@@ -1,19 +1,14 @@
 //! Texts that come one by one, of which each counts once.
 
 ghost use Rattle.std.specs.Prelude.{◌≡◌, ◌∷◌, [], All, IfErr, IfOk, IsTrue, OnOk, map};
-ghost use Rattle.std.specs.List.Sorted.{IsSortedBy};
-ghost use Rattle.std.specs.Ordering.{is_lt};
 ghost use Rattle.pep_require.specs.Requirement.{IsAscending};
-ghost use Rattle.texts.specs.Arena.{text_cmp};
 ghost use Rattle.demands.specs.Collected.{collected_texts};
 ghost use Rattle.demands.specs.Join.{IsUnion};
 
 use crate::fault::TableFault;
 use crate::sorted::Kept;
 use std::alloc::Global;
-use std::cmp::Ordering;
 use std::marker::Model;
-use std::mem::replace;
 use texts::Arena;
 
 // As many texts may be kept above twice those that were left when they were last put in order.
@@ -23,8 +18,8 @@ const SPARE: usize = 4;
 const FEW: usize = 8;
 
 /// Texts of which each counts once. They are kept as they come, and put in order at the end, and
-/// where their number has doubled: so what repeats takes at most as much room again, and that of a
-/// few texts. Clauses see them in order, each once.
+/// where their number has doubled: so what repeats takes at most twice as much room again, and that
+/// of a few texts. Clauses see them in order, each once.
 #[derive(Drop)]
 pub(crate) struct Collected {
     texts: Arena,
@@ -40,44 +35,14 @@ impl Model for Collected {
     ghost view = { λ c. collected_texts c.texts };
 }
 
-// Whether each text stands before the next one.
-fn is_rising(texts: &Arena) -> bool
-    ensures { IsTrue result → IsAscending texts.now }
-{
-    for i in 1..texts.len() {
-        if texts.compare(i - 1, i) != Ordering::Less {
-            return false;
-        }
-    }
-    true
-}
-
-// The texts, which are in order, each once.
-fn once(alloc: Global, texts: &Arena) -> Result<Arena, TableFault>
-    requires { IsSortedBy (λ x y. is_lt (text_cmp x y)) texts.now }
-    ensures once { IfOk result (λ kept. kept ≡ collected_texts texts.now) }
+// Puts the texts in order, and keeps each once.
+fn put_in_order(texts: &mut Arena) -> Result<(), TableFault>
+    ensures once { OnOk result (texts.new ≡ collected_texts texts.old) }
     ensures faults { IfErr result (λ e. e ≡ TableFault.NoMemory) }
 {
-    let mut kept = Arena::new(alloc);
-    for i in 0..texts.len() {
-        if i == 0 || texts.compare(i - 1, i) == Ordering::Less {
-            kept.push(texts.text(i))?;
-        }
-    }
-    Ok(kept)
-}
-
-// The texts in order, each once.
-fn in_order(alloc: Global, texts: Arena) -> Result<Arena, TableFault>
-    ensures once { IfOk result (λ kept. kept ≡ collected_texts texts) }
-    ensures faults { IfErr result (λ e. e ≡ TableFault.NoMemory) }
-{
-    let mut sorted = texts;
-    sorted.sort()?;
-    if is_rising(&sorted) {
-        return Ok(sorted);
-    }
-    once(alloc, &sorted)
+    texts.sort()?;
+    texts.dedup()?;
+    Ok(())
 }
 
 impl Collected {
@@ -99,15 +64,14 @@ impl Collected {
     }
 
     // Puts the texts in order, where their number has reached the limit.
-    fn settle(&mut self, alloc: Global) -> Result<(), TableFault>
+    fn settle(&mut self) -> Result<(), TableFault>
         ensures same { OnOk result (self.new ≡ self.old) }
         ensures faults { IfErr result (λ e. e ≡ TableFault.NoMemory) }
     {
         if self.texts.len() < self.limit {
             return Ok(());
         }
-        let texts = replace(&mut self.texts, Arena::new(alloc));
-        self.texts = in_order(alloc, texts)?;
+        put_in_order(&mut self.texts)?;
         self.limit = self.texts.len().saturating_mul(2).saturating_add(SPARE);
         Ok(())
     }
@@ -120,46 +84,48 @@ impl Collected {
     }
 
     /// Takes one text more. The only fault is `NoMemory`, 42; what is collected is then of no more use.
-    pub(crate) fn put(&mut self, alloc: Global, text: &str) -> Result<(), TableFault>
+    pub(crate) fn put(&mut self, text: &str) -> Result<(), TableFault>
         ensures put { OnOk result (IsUnion self.old (text.now ∷ []) self.new) }
         ensures faults { IfErr result (λ e. e ≡ TableFault.NoMemory) }
     {
         if self.has(text) {
             return Ok(());
         }
-        self.settle(alloc)?;
+        self.settle()?;
         self.texts.push(text)?;
         Ok(())
     }
 
     // Takes the text of the value.
-    fn put_value<T: Kept>(&mut self, alloc: Global, value: &T) -> Result<(), TableFault>
+    fn put_value<T: Kept>(&mut self, value: &T) -> Result<(), TableFault>
         ensures put { OnOk result (IsUnion self.old (T.text value.now ∷ []) self.new) }
         ensures value { T.is_value value.now }
         ensures faults { IfErr result (λ e. e ≡ TableFault.NoMemory) }
     {
         value.as_value();
-        self.put(alloc, value.as_text())
+        self.put(value.as_text())
     }
 
     /// Takes the texts of the values. The only fault is `NoMemory`, 42; what is collected is then of no more use.
-    pub(crate) fn put_all<T: Kept>(&mut self, alloc: Global, values: &[T]) -> Result<(), TableFault>
+    pub(crate) fn put_all<T: Kept>(&mut self, values: &[T]) -> Result<(), TableFault>
         ensures put { OnOk result (IsUnion self.old (map T.text values.now) self.new) }
         ensures values { OnOk result (All T.is_value values.now) }
         ensures faults { IfErr result (λ e. e ≡ TableFault.NoMemory) }
     {
         self.in_order();
         for value in values {
-            self.put_value(alloc, value)?;
+            self.put_value(value)?;
         }
         Ok(())
     }
 
     /// The texts in order, each once. The only fault is `NoMemory`, 42.
-    pub(crate) fn into_texts(self, alloc: Global) -> Result<Arena, TableFault>
+    pub(crate) fn into_texts(self) -> Result<Arena, TableFault>
         ensures same { IfOk result (λ texts. texts ≡ self) }
         ensures faults { IfErr result (λ e. e ≡ TableFault.NoMemory) }
     {
-        in_order(alloc, self.texts)
+        let mut texts = self.texts;
+        put_in_order(&mut texts)?;
+        Ok(texts)
     }
 }

@@ -45,36 +45,36 @@ impl Model for Others {
 }
 
 // Takes the text that a clause demands, where it demands one.
-fn take_text(alloc: Global, texts: &mut Collected, clause: &Clause) -> Result<(), TableFault>
+fn take_text(texts: &mut Collected, clause: &Clause) -> Result<(), TableFault>
     ensures texts { OnOk result (IsUnion texts.old (texts_of (clause.now ∷ [])) texts.new) }
     ensures faults { IfErr result (λ e. e ≡ TableFault.NoMemory) }
 {
     texts.in_order();
     match clause.exact_text() {
-        Some(text) => texts.put(alloc, text),
+        Some(text) => texts.put(text),
         None => Ok(()),
     }
 }
 
 // Takes the texts that clauses demand.
-fn take_texts(alloc: Global, texts: &mut Collected, clauses: &[Clause]) -> Result<(), TableFault>
+fn take_texts(texts: &mut Collected, clauses: &[Clause]) -> Result<(), TableFault>
     ensures texts { OnOk result (IsUnion texts.old (texts_of clauses.now) texts.new) }
     ensures faults { IfErr result (λ e. e ≡ TableFault.NoMemory) }
 {
     texts.in_order();
     for clause in clauses {
-        take_text(alloc, texts, clause)?;
+        take_text(texts, clause)?;
     }
     Ok(())
 }
 
 // Takes the text of a URL.
-fn take_url(alloc: Global, urls: &mut Collected, url: &UrlText) -> Result<(), TableFault>
+fn take_url(urls: &mut Collected, url: &UrlText) -> Result<(), TableFault>
     ensures urls { OnOk result (IsUnion urls.old (url.now.text ∷ []) urls.new) }
     ensures valid { IsTrue (is_url_text url.now.text) }
     ensures faults { IfErr result (λ e. e ≡ TableFault.NoMemory) }
 {
-    urls.put(alloc, url.text())
+    urls.put(url.text())
 }
 
 // Whether one of the clauses demands a text.
@@ -124,7 +124,7 @@ impl Others {
     }
 
     // Takes the URL or the texts that a target demands.
-    fn take_target(&mut self, alloc: Global, target: &Target) -> Result<(), TableFault>
+    fn take_target(&mut self, target: &Target) -> Result<(), TableFault>
         ensures extras { OnOk result (self.new.extras ≡ self.old.extras) }
         ensures urls { OnOk result (IsUnion self.old.urls (target_urls (target_parts target.now))
             self.new.urls) }
@@ -137,37 +137,33 @@ impl Others {
         self.urls.in_order();
         self.texts.in_order();
         match target {
-            Target::Bounds(clauses) => take_texts(alloc, &mut self.texts, clauses.as_slice()),
-            Target::Direct(url) => take_url(alloc, &mut self.urls, url),
+            Target::Bounds(clauses) => take_texts(&mut self.texts, clauses.as_slice()),
+            Target::Direct(url) => take_url(&mut self.urls, url),
         }
     }
 
     /// Takes what a requirement demands.
-    pub(crate) fn take(
-        &mut self,
-        alloc: Global,
-        requirement: &Requirement,
-    ) -> Result<(), TableFault>
+    pub(crate) fn take(&mut self, requirement: &Requirement) -> Result<(), TableFault>
         ensures taken { OnOk result (TakesOthers self.old (requirement_parts requirement.now)
             self.new) }
         ensures faults { IfErr result (λ e. e ≡ TableFault.NoMemory) }
     {
-        self.extras.put_all(alloc, requirement.extras())?;
-        self.take_target(alloc, requirement.target())
+        self.extras.put_all(requirement.extras())?;
+        self.take_target(requirement.target())
     }
 
     /// Takes what an entry demands.
-    pub(crate) fn join(&mut self, alloc: Global, entry: &Entry) -> Result<(), TableFault>
+    pub(crate) fn join(&mut self, entry: &Entry) -> Result<(), TableFault>
         ensures joined { OnOk result (JoinsOthers self.old entry.now self.new) }
         ensures faults { IfErr result (λ e. e ≡ TableFault.NoMemory) }
     {
-        self.extras.put_all(alloc, entry.extras().items())?;
-        self.urls.put_all(alloc, entry.urls().items())?;
-        self.texts.put_all(alloc, entry.texts().items())
+        self.extras.put_all(entry.extras().items())?;
+        self.urls.put_all(entry.urls().items())?;
+        self.texts.put_all(entry.texts().items())
     }
 
     /// The same in order. The only fault is `NoMemory`.
-    pub(crate) fn finish(self, alloc: Global) -> Result<OtherTexts, TableFault>
+    pub(crate) fn finish(self) -> Result<OtherTexts, TableFault>
         ensures same { IfOk result (λ o. o ≡ self) }
         ensures faults { IfErr result (λ e. e ≡ TableFault.NoMemory) }
     {
@@ -177,9 +173,9 @@ impl Others {
             texts,
         } = self;
         Ok(OtherTexts {
-            extras: extras.into_texts(alloc)?,
-            urls: urls.into_texts(alloc)?,
-            texts: texts.into_texts(alloc)?,
+            extras: extras.into_texts()?,
+            urls: urls.into_texts()?,
+            texts: texts.into_texts()?,
         })
     }
 }

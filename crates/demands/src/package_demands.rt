@@ -53,7 +53,7 @@ fn take_others(
         None if demands_others(requirement) => Box::new(alloc, Others::new(alloc))?,
         None => return Ok(()),
     };
-    kept.take(alloc, requirement)?;
+    kept.take(requirement)?;
     *others = Some(kept);
     Ok(())
 }
@@ -74,7 +74,7 @@ fn join_others(
         None if entry.has_others() => Box::new(alloc, Others::new(alloc))?,
         None => return Ok(()),
     };
-    kept.join(alloc, entry)?;
+    kept.join(entry)?;
     *others = Some(kept);
     Ok(())
 }
@@ -115,7 +115,7 @@ fn finished_others(
     let Some(others) = others else {
         return Ok(None);
     };
-    let texts = Box::into_inner(others).finish(alloc)?;
+    let texts = Box::into_inner(others).finish()?;
     Ok(Some(Box::new(alloc, texts)?))
 }
 

@@ -1,9 +1,9 @@
 -- The text of a key's version, part by part.
-use Rattle.std.proofs.Common.{◌≡◌, ◌==◌, ℕ, ◌+◌, ◌-◌, ◌<◌, ◌≤◌, Err, List, Ok, [], ◌∷◌, ◌++◌, append-nil, append_assoc, arith, codes, decimal, false, drop, get_or, length, map, take, true, refl, sym, ap, ◌∙◌}
+use Rattle.std.proofs.Common.{◌≡◌, ◌==◌, ℕ, ◌+◌, ◌-◌, ◌<◌, ◌≤◌, List, [], ◌∷◌, ◌++◌, append-nil, append_assoc, arith, codes, decimal, false, drop, get_or, length, map, take, true, refl, sym, ap, ◌∙◌}
 use Rattle.std.proofs.lemmas.List.{length-map, map-append}
 use Rattle.std.specs.List.{join_with_byte}
 use Rattle.std.specs.Fmt.{digits}
-use Rattle.std.specs.Prelude.{OnErr, Result, if◌then◌else◌, nat_lt}
+use Rattle.std.specs.Prelude.{if◌then◌else◌, nat_lt}
 use Rattle.pep_version.proofs.KeyLoops.{at_end, at_start, behind, one_more, segment_left}
 use Rattle.pep_version.proofs.TextLemmas.{dot_before, join-push}
 use Rattle.pep_version.specs.KeyReading.{read_label, read_segment, read_segments, whole_release}
@@ -55,11 +55,6 @@ extends_on start front o (part, n) = (
   front ++ part,
   n ∙ ap (λ t. t ++ part) o ∙ append_assoc start front part,
 )
-
--- at whatever error
-pub at_err : {T E P : Type 0} (r : Result T E) → P → OnErr r P
-at_err (Ok x) p = tt
-at_err (Err e) p = p
 
 -- ---- the label
 

@@ -1,5 +1,5 @@
 -- Parts that are kept as single places, beside others: what both leave out, and the one that begins first.
-use Rattle.std.proofs.Common.{◌≡◌, ◌≤◌, ◌<◌, ◌-◌, ◌||◌, ℕ, zero, suc, Bool, true, false, List, [], ◌∷◌, ◌++◌, refl, sym, ap, ◌∙◌, arith, get_or, length, length-append, map, cond, append-nil, append_assoc}
+use Rattle.std.proofs.Common.{◌≡◌, ◌≤◌, ◌<◌, ◌-◌, ◌||◌, ℕ, zero, suc, Bool, true, false, List, [], ◌∷◌, ◌++◌, refl, sym, ap, ◌∙◌, arith, get_or, length, length-append, map, cond}
 use Rattle.std.specs.Prelude.{All, IfSome, None, Option, Some, option_to_list}
 use Rattle.std.specs.List.{dedup, dedup_from, list_any, slice_get}
 use Rattle.std.specs.List.Retain.{DiffersFromLast, IsFiltered}
@@ -12,7 +12,7 @@ use Rattle.std.proofs.lemmas.List.Elements.{All-append, All-head, All-map, All-p
 use Rattle.std.proofs.lemmas.List.Filters.{All-dedup, dedup_is}
 use Rattle.std.proofs.lemmas.List.Folds.{list_any-append}
 use Rattle.std.proofs.lemmas.Option.{get_or_from_slice_get}
-use Rattle.std.proofs.lemmas.List.Sorted.{All-permutation, IsPermutation-append_right, list_any-IsPermutation}
+use Rattle.std.proofs.lemmas.List.Sorted.{list_any-IsPermutation}
 use Rattle.std.proofs.Math.Seq.{get_or-append_seam}
 use Rattle.texts.proofs.Connectives.{or_assoc}
 use Rattle.pep_clause.specs.Cut.{Cut, cut_cmp}
@@ -39,37 +39,23 @@ pub all_normal : (singles : List Cut) (parts : List Bounds) → All IsSingle sin
     IsNormal (left_over (all_parts singles parts))
 all_normal singles parts h g = left_normal (all_parts singles parts) (all_are singles parts h g)
 
-pub both_are : (singles fresh : List Cut) (parts : List Bounds) → All IsSingle singles → All IsSingle fresh → All IsPart parts →
-    All IsPart (all_parts (singles ++ fresh) parts)
-both_are singles fresh parts h f g = all_are (singles ++ fresh) parts (All-append IsSingle singles fresh h f) g
-
-pub both_normal : (singles fresh : List Cut) (parts : List Bounds) → All IsSingle singles → All IsSingle fresh →
-    All IsPart parts → IsNormal (left_over (all_parts (singles ++ fresh) parts))
-both_normal singles fresh parts h f g = left_normal (all_parts (singles ++ fresh) parts) (both_are singles fresh parts h f g)
-
-pub none_of : (singles fresh : List Cut) (parts : List Bounds) → length singles ≡ 0 → length fresh ≡ 0 → length parts ≡ 0 →
-    length (all_parts (singles ++ fresh) parts) ≡ 0
-none_of [] [] [] e f g = refl
-none_of [] [] (b ∷ parts) e f g = absurd (omega (arith, g))
-none_of [] (s ∷ fresh) parts e f g = absurd (omega (arith, f))
-none_of (s ∷ singles) fresh parts e f g = absurd (omega (arith, e))
+pub none_of : (singles : List Cut) (parts : List Bounds) → length singles ≡ 0 → length parts ≡ 0 →
+    length (all_parts singles parts) ≡ 0
+none_of [] parts e f = f
+none_of (s ∷ singles) parts e f = absurd (omega (arith, e))
 
 -- no list has an element
-pub record AreNone (own new : List Cut) (others : List Bounds) : Type 0 where
+pub record AreNone (own : List Cut) (others : List Bounds) : Type 0 where
   pub singles : length own ≡ 0
-  pub fresh : length new ≡ 0
   pub parts : length others ≡ 0
 
-none_each : (own new : List Cut) (others : List Bounds) → length (all_parts (own ++ new) others) ≡ 0 →
-    AreNone own new others
-none_each [] [] others e = record { singles = refl; fresh = refl; parts = e }
-none_each [] (s ∷ new) others e = absurd (omega (arith, e))
-none_each (s ∷ own) new others e = absurd (omega (arith, e))
+none_each : (own : List Cut) (others : List Bounds) → length (all_parts own others) ≡ 0 → AreNone own others
+none_each [] others e = record { singles = refl; parts = e }
+none_each (s ∷ own) others e = absurd (omega (arith, e))
 
-pub none-left : (own new : List Cut) (others : List Bounds) → All IsSingle own → All IsSingle new → All IsPart others →
-    left_over (all_parts (own ++ new) others) ≡ all_versions → AreNone own new others
-none-left own new others h f g e =
-    none_each own new others (nothing_out (all_parts (own ++ new) others) (both_are own new others h f g) e)
+pub none-left : (own : List Cut) (others : List Bounds) → All IsSingle own → All IsPart others →
+    left_over (all_parts own others) ≡ all_versions → AreNone own others
+none-left own others h g e = none_each own others (nothing_out (all_parts own others) (all_are own others h g) e)
 
 turned : (a s p : Bool) → ((a || s) || p) ≡ ((a || p) || s)
 turned true s p = refl
@@ -92,13 +78,6 @@ left-single singles new parts s e c =
     ∙ turned (is_left_out (map single singles) c) (is_inside (single s) c) (is_left_out parts c)
     ∙ ap (λ t. t || is_inside (single s) c) (sym (left_parts singles parts c))
 
--- .. behind those that are in order
-pub left-fresh : (singles fresh new : List Cut) (parts : List Bounds) (s : Cut) → new ≡ fresh ++ s ∷ [] → (c : Cut) →
-    is_left_out (all_parts (singles ++ new) parts) c
-    ≡ (is_left_out (all_parts (singles ++ fresh) parts) c || is_inside (single s) c)
-left-fresh singles fresh new parts s e =
-    left-single (singles ++ fresh) (singles ++ new) parts s (ap (λ l. singles ++ l) e ∙ sym (append_assoc singles fresh (s ∷ [])))
-
 -- .. and one other part
 pub left-part : (singles : List Cut) (parts new : List Bounds) (b : Bounds) → new ≡ parts ++ b ∷ [] → (c : Cut) →
     is_left_out (all_parts singles new) c ≡ (is_left_out (all_parts singles parts) c || is_inside b c)
@@ -115,14 +94,6 @@ pub same-singles : (singles others : List Cut) (parts : List Bounds) →
     is_left_out (all_parts others parts) c ≡ is_left_out (all_parts singles parts) c
 same-singles singles others parts same c =
     left_parts others parts c ∙ ap (λ t. t || is_left_out parts c) (same c) ∙ sym (left_parts singles parts c)
-
--- where the fresh ones are taken in
-pub same-settled : (singles fresh new none : List Cut) (parts : List Bounds) → none ≡ [] →
-    ((c : Cut) → is_left_out (map single new) c ≡ is_left_out (map single (singles ++ fresh)) c) → (c : Cut) →
-    is_left_out (all_parts (new ++ none) parts) c ≡ is_left_out (all_parts (singles ++ fresh) parts) c
-same-settled singles fresh new none parts e same c =
-    ap (λ l. is_left_out (all_parts l parts) c) (ap (λ l. new ++ l) e ∙ append-nil new)
-    ∙ same-singles (singles ++ fresh) new parts same c
 
 pub same-rest : (singles : List Cut) (parts rest : List Bounds) →
     ((c : Cut) → is_left_out rest c ≡ is_left_out parts c) → (c : Cut) →
@@ -351,19 +322,6 @@ singles_permuted xs ys p c =
     list_any-map (λ b. is_inside b c) single ys
     ∙ sym (list_any-IsPermutation (λ s. is_inside (single s) c) xs ys p)
     ∙ sym (list_any-map (λ b. is_inside b c) single xs)
-
-pub taken_in : (singles fresh sorted new all : List Cut) → IsPermutation fresh sorted → all ≡ singles ++ sorted →
-    ((c : Cut) → is_left_out (map single new) c ≡ is_left_out (map single all) c) → (c : Cut) →
-    is_left_out (map single new) c ≡ is_left_out (map single (singles ++ fresh)) c
-taken_in singles fresh sorted new all p e same c =
-    same c
-    ∙ ap (λ l. is_left_out (map single l) c) e
-    ∙ singles_permuted (singles ++ fresh) (singles ++ sorted) (IsPermutation-append_right singles fresh sorted p) c
-
-pub both_singles : (singles fresh sorted all : List Cut) → IsPermutation fresh sorted → all ≡ singles ++ sorted →
-    All IsSingle singles → All IsSingle fresh → All IsSingle all
-both_singles singles fresh sorted all p e h f =
-    rw e (All-append IsSingle singles sorted h (All-permutation IsSingle fresh sorted p f))
 
 pub taken-part : (singles : List Cut) (parts rest : List Bounds) (found : Option Bounds) → AreFalling singles parts →
     parts ≡ rest ++ option_to_list found →

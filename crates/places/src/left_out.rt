@@ -64,11 +64,11 @@ const LARGE: usize = 4096;
 #[derive(Drop)]
 pub struct LeftOut {
     // Places of which each leaves out what lies between it and the one right behind it, as `!=` and a version
-    // demand: in order, and each once.
+    // demand.
     singles: Vec<Place>,
-    // New ones. Where they are as many and a few more, they are put in order too, and merged with the others:
-    // so what repeats takes at most as much room again.
-    fresh: Vec<Place>,
+    // So many of them, those in front, are in order, and each once. Where the new ones behind them are as many and
+    // a few more, they are put in order too, and merged: so what repeats takes at most as much room again.
+    settled: usize,
     // The parts of other forms.
     parts: Vec<Bounds>,
     // Where there are as many parts, those that meet are joined.
@@ -76,20 +76,28 @@ pub struct LeftOut {
 }
 
 impl Model for LeftOut {
-    ghost use Rattle.std.specs.Prelude.{◌++◌, All, List};
+    ghost use Rattle.std.specs.Prelude.{All, List};
     ghost use Rattle.pep_clause.specs.VersionSet.{Range};
     ghost use Rattle.places.specs.LeftOut.{IsPart, IsSingle, all_parts, left_over};
 
     ghost Value = { List Range };
 
-    ghost view = { λ v. left_over (all_parts (v.singles.items ++ v.fresh.items) v.parts.items) };
+    ghost view = { λ v. left_over (all_parts v.singles.items v.parts.items) };
 
-    ghost invariant = { λ v. All IsSingle v.singles.items × All IsSingle v.fresh.items
-        × All IsPart v.parts.items };
+    ghost invariant = { λ v. All IsSingle v.singles.items × All IsPart v.parts.items };
 }
 
-// Sorts single places so that the last one is the least, and keeps each once. The sort merges runs that are in order.
-fn order_singles(singles: &mut Vec<Place>) -> Result<(), ClauseFault>
+// Sorts the places behind so many, in place, so that the last one is the least.
+fn sort_new(singles: &mut [Place], settled: usize)
+    ensures { IsPermutation singles.old singles.new }
+{
+    let (_, new) = singles.split_at_mut(settled.min(singles.len()));
+    new.sort_unstable_by(|a, b| b.cmp(a));
+}
+
+// Puts single places in order, so that the last one is the least, and keeps each once. So many in front are in order:
+// they are merged with the others, which wants no more room than these have.
+fn order_singles(singles: &mut Vec<Place>, settled: usize) -> Result<(), ClauseFault>
     requires { All IsSingle singles.old.items }
     ensures falling { OnOk result (IsFalling place_of singles.new.items) }
     ensures points { (c : Cut) → is_left_out (map single singles.new.items) c
@@ -97,26 +105,9 @@ fn order_singles(singles: &mut Vec<Place>) -> Result<(), ClauseFault>
     ensures singles { All IsSingle singles.new.items }
     ensures faults { IfErr result (λ e. e ≡ ClauseFault.NoMemory) }
 {
+    sort_new(singles.as_mut_slice(), settled);
     singles.sort_by(|a, b| b.cmp(a))?;
     singles.dedup();
-    Ok(())
-}
-
-// Puts single places in order, and merges them with others that are.
-fn take_in(singles: &mut Vec<Place>, fresh: Vec<Place>) -> Result<(), ClauseFault>
-    requires singles { All IsSingle singles.old.items }
-    requires fresh { All IsSingle fresh.items }
-    ensures falling { OnOk result (IsFalling place_of singles.new.items) }
-    ensures points { OnOk result ((c : Cut) → is_left_out (map single singles.new.items) c
-        ≡ is_left_out (map single (singles.old.items ++ fresh.items)) c) }
-    ensures singles { All IsSingle singles.new.items }
-    ensures faults { IfErr result (λ e. e ≡ ClauseFault.NoMemory) }
-{
-    let mut new = fresh;
-    new.sort_unstable_by(|a, b| b.cmp(a));
-    singles.append(&mut new)?;
-    drop(new);
-    order_singles(singles)?;
     Ok(())
 }
 
@@ -286,7 +277,7 @@ impl LeftOut {
     {
         LeftOut {
             singles: Vec::new(alloc),
-            fresh: Vec::new(alloc),
+            settled: 0,
             parts: Vec::new(alloc),
             most_parts: FEW,
         }
@@ -299,23 +290,20 @@ impl LeftOut {
         if !self.singles.is_empty() {
             return false;
         }
-        if !self.fresh.is_empty() {
-            return false;
-        }
         self.parts.is_empty()
     }
 
     // Puts the new single places in order, where there are many.
-    fn settle_singles(&mut self, alloc: Global) -> Result<(), ClauseFault>
+    fn settle_singles(&mut self) -> Result<(), ClauseFault>
         ensures points { OnOk result ((c : Cut) → is_point self.new c ≡ is_point self.old c) }
         ensures normal { IsNormal self.new }
         ensures faults { IfErr result (λ e. e ≡ ClauseFault.NoMemory) }
     {
-        if self.fresh.len() < self.singles.len().saturating_add(FEW) {
+        if self.singles.len() < self.settled.saturating_mul(2).saturating_add(FEW) {
             return Ok(());
         }
-        let fresh = replace(&mut self.fresh, Vec::new(alloc));
-        take_in(&mut self.singles, fresh)?;
+        order_singles(&mut self.singles, self.settled)?;
+        self.settled = self.singles.len();
         Ok(())
     }
 
@@ -335,15 +323,15 @@ impl LeftOut {
     }
 
     // Leaves out what lies between a place and the one right behind it, too.
-    fn leave_single(&mut self, alloc: Global, place: Place) -> Result<(), ClauseFault>
+    fn leave_single(&mut self, place: Place) -> Result<(), ClauseFault>
         requires { IsSingle place }
         ensures points { OnOk result ((c : Cut) → is_point self.new c
             ≡ (is_point self.old c && is_point (outside place (right_behind place)) c)) }
         ensures normal { IsNormal self.new }
         ensures faults { IfErr result (λ e. e ≡ ClauseFault.NoMemory) }
     {
-        self.settle_singles(alloc)?;
-        self.fresh.push(place)?;
+        self.settle_singles()?;
+        self.singles.push(place)?;
         Ok(())
     }
 
@@ -374,7 +362,7 @@ impl LeftOut {
             return Ok(());
         }
         if bounds.high.is_right_behind(bounds.low) {
-            return self.leave_single(alloc, bounds.low);
+            return self.leave_single(bounds.low);
         }
         self.leave_part(alloc, bounds)
     }
@@ -388,11 +376,11 @@ impl LeftOut {
         let _ = bounds.low.cmp(&bounds.high);
         let LeftOut {
             mut singles,
-            fresh,
+            settled,
             parts,
             ..
         } = self;
-        take_in(&mut singles, fresh)?;
+        order_singles(&mut singles, settled)?;
         let mut parts = closed(parts, bounds.high)?;
         sort_falling(&mut parts);
         let ranges = swept(alloc, bounds.low, singles, parts)?;

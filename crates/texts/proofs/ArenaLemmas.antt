@@ -1,23 +1,24 @@
 -- Texts in one list of bytes: they stay where bytes are put behind them, and their order is that of the pieces.
 use Rattle.std.proofs.Common.{◌≡◌, ◌≢◌, ℕ, suc, ◌+◌, ◌-◌, ◌<◌, ◌≤◌, ◌++◌, List, [], ◌∷◌}
 use Rattle.std.proofs.Common.{drop, get_or, length, map, take, refl, sym, ap, subst, ◌∙◌, inl, inr, arith}
+use Rattle.std.proofs.Common.{Bool, true, false, cond}
 use Rattle.std.specs.Prelude.{Contains}
 use Rattle.std.specs.Cmp.{IsStrictWeakOrder, nat_cmp_is, nat_cmp_total, on_total, then_total}
 use Rattle.std.specs.Cmp.Lexicographic.{nat_list_cmp_total}
-use Rattle.std.specs.List.{All}
+use Rattle.std.specs.List.{All, dedup, dedup_from}
 use Rattle.std.specs.List.Sorted.{IsSortedBy}
-use Rattle.std.specs.Ordering.{is_lt, nat_cmp, ordering_then}
+use Rattle.std.specs.Ordering.{is_eq, is_lt, nat_cmp, ordering_then}
 use Rattle.std.specs.Str.{IsCharBoundary, IsUtf8}
 use Rattle.std.specs.declared.cmp.Ordering.{Ordering}
 use Rattle.std.specs.declared.cmp.Ordering.TheVariants.{Less, Equal, Greater}
 use Rattle.std.proofs.lemmas.Bool.{cases_eq, cases_lt}
 use Rattle.std.proofs.lemmas.List.{drop-append-le, get_or-map, get_or_append_left, length-append, length-drop}
-use Rattle.std.proofs.lemmas.List.{length-map, take-append-le, take_all}
-use Rattle.std.proofs.lemmas.List.Elements.{All-push}
+use Rattle.std.proofs.lemmas.List.{length-map, map_push, take-append-le, take_all}
+use Rattle.std.proofs.lemmas.List.Elements.{All-head, All-push, All-tail}
 use Rattle.std.proofs.lemmas.List.Sorted.{ranks_by}
 use Rattle.std.proofs.lemmas.Str.{IsCharBoundary-at_seam, IsCharBoundary-end, IsUtf8-between}
 use Rattle.std.proofs.Math.Seq.{drop-append_seam}
-use Rattle.texts.specs.Arena.{IsPiece, piece_cmp, text_at, text_cmp}
+use Rattle.texts.specs.Arena.{IsPiece, piece_cmp, same_piece, same_text, text_at, text_cmp}
 use Rattle.texts.specs.Heads.{head_of}
 use Rattle.texts.specs.declared.arena.Piece.{Piece}
 use Rattle.texts.proofs.HeadLemmas.{Small, head_cmp, utf8_small}
@@ -103,19 +104,20 @@ texts_kept bytes more ps h =
     map_same (text_at (bytes ++ more)) (text_at bytes) ps
     (λ k d below. text_kept bytes more (get_or ps k d) (h k d below).inside)
 
-map_last : (f : Piece → List ℕ) (ps : List Piece) (p : Piece) → map f (ps ++ p ∷ []) ≡ map f ps ++ f p ∷ []
-map_last f [] p = refl
-map_last f (q ∷ ps) p = ap (λ l. f q ∷ l) (map_last f ps p)
-
 pub texts_pushed : (bytes text new : List ℕ) (ps more : List Piece) (p : Piece) → new ≡ bytes ++ text →
     more ≡ ps ++ p ∷ [] → All (IsPiece bytes) ps → p.start ≡ length bytes → p.len ≡ length text →
     map (text_at new) more ≡ map (text_at bytes) ps ++ text ∷ []
 texts_pushed bytes text new ps more p e f h s l =
     ap (λ b. map (text_at b) more) e ∙ ap (map (text_at (bytes ++ text))) f
-    ∙ map_last (text_at (bytes ++ text)) ps p
+    ∙ map_push (text_at (bytes ++ text)) ps p
     ∙ ap (λ x. map (text_at (bytes ++ text)) ps ++ x ∷ [])
     (ap (λ n. take p.len (drop n (bytes ++ text))) s ∙ text_behind bytes text 0 p.len l)
     ∙ ap (λ x. x ++ text ∷ []) (texts_kept bytes text ps h)
+
+pub texts_left : (bytes text new : List ℕ) (ps more : List Piece) → new ≡ bytes ++ text → more ≡ ps →
+    All (IsPiece bytes) ps → map (text_at new) more ≡ map (text_at bytes) ps
+texts_left bytes text new ps more e f h =
+    ap (λ b. map (text_at b) more) e ∙ ap (map (text_at (bytes ++ text))) f ∙ texts_kept bytes text ps h
 
 -- ---- the order of pieces
 
@@ -170,6 +172,31 @@ sorted_texts bytes ps u h up = λ k d zero below.
     rw (get_or-map (text_at bytes) ps (k + 1) none d next, get_or-map (text_at bytes) ps k none d here)
     (ap is_lt (sym (piece_cmp-is bytes p q u (h (k + 1) none next) (h k none here))) ∙ up k none zero next)
 
+-- ---- repeats that are dropped
+
+deduped_from : (bytes : List ℕ) (p : Piece) (ps : List Piece) → IsUtf8 bytes → IsPiece bytes p → All (IsPiece bytes) ps →
+    map (text_at bytes) (dedup_from (same_piece bytes) p ps)
+    ≡ dedup_from same_text (text_at bytes p) (map (text_at bytes) ps)
+deduped_from bytes p [] u is are = refl
+deduped_from bytes p (q ∷ ps) u is are =
+    let next = All-head (IsPiece bytes) q ps are in
+    let rest = All-tail (IsPiece bytes) q ps are in
+    by (same_piece bytes q p) _ _ _ _ (deduped_from bytes p ps u is rest) (deduped_from bytes q ps u next rest)
+    ∙ ap (λ t. cond t (dedup_from same_text (text_at bytes p) (map (text_at bytes) ps))
+    (text_at bytes p ∷ dedup_from same_text (text_at bytes q) (map (text_at bytes) ps)))
+    (ap is_eq (piece_cmp-is bytes q p u next is))
+  where
+    by : (t : Bool) (us vs : List Piece) (xs ys : List (List ℕ)) → map (text_at bytes) us ≡ xs →
+        map (text_at bytes) vs ≡ ys → map (text_at bytes) (cond t us (p ∷ vs)) ≡ cond t xs (text_at bytes p ∷ ys)
+    by true us vs xs ys e f = e
+    by false us vs xs ys e f = ap (λ l. text_at bytes p ∷ l) f
+
+pub texts_deduped : (bytes : List ℕ) (ps : List Piece) → IsUtf8 bytes → All (IsPiece bytes) ps →
+    map (text_at bytes) (dedup (same_piece bytes) ps) ≡ dedup same_text (map (text_at bytes) ps)
+texts_deduped bytes [] u are = refl
+texts_deduped bytes (p ∷ ps) u are =
+    deduped_from bytes p ps u (All-head (IsPiece bytes) p ps are) (All-tail (IsPiece bytes) p ps are)
+
 -- ---- a text that is looked for
 
 pub head_apart : (bytes text : List ℕ) (p : Piece) → IsPiece bytes p → p.head ≢ head_of text →
@@ -183,24 +210,3 @@ not_among f ps text h (i, below, at) =
     let none : Piece = record { head = 0; start = 0; len = 0 } in
     let here : i < length ps = omega arith in
     h i none here (sym (get_or-map f ps i none text here) ∙ at)
-
--- ---- texts by their indices
-
-at_index : (f : Piece → List ℕ) (ps : List Piece) (texts : List (List ℕ)) (i : ℕ) (p : Piece) →
-    map f ps ≡ texts → i < length texts → p ≡ get_or ps i p → (i < length ps) × (f p ≡ get_or texts i [])
-at_index f ps texts i p view below is =
-    let count : length ps ≡ length texts = sym (length-map ps f) ∙ ap length view in
-    let here : i < length ps = omega arith in
-    (here, ap f is ∙ sym (get_or-map f ps i p [] here) ∙ ap (λ l. get_or l i []) view)
-
-pub compared : (bytes : List ℕ) (ps : List Piece) (texts : List (List ℕ)) (i j : ℕ) (p q : Piece) (seen : List ℕ)
-    (o : Ordering) → map (text_at bytes) ps ≡ texts → All (IsPiece bytes) ps → IsUtf8 bytes →
-    i < length texts → j < length texts → p ≡ get_or ps i p → q ≡ get_or ps j q → seen ≡ bytes →
-    o ≡ piece_cmp seen p q → o ≡ text_cmp (get_or texts i []) (get_or texts j [])
-compared bytes ps texts i j p q seen o view h u below under at to same is =
-    let first = at_index (text_at bytes) ps texts i p view below at in
-    let second = at_index (text_at bytes) ps texts j q view under to in
-    let own : IsPiece bytes p = subst (IsPiece bytes) (sym at) (h i p first.0) in
-    let other : IsPiece bytes q = subst (IsPiece bytes) (sym to) (h j q second.0) in
-    is ∙ ap (λ b. piece_cmp b p q) same ∙ piece_cmp-is bytes p q u own other
-    ∙ (λ k. text_cmp (first.1 k) (second.1 k))

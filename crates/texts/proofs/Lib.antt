@@ -7,4 +7,5 @@ pub mod CutLists
 pub mod LineLemmas
 pub mod HeadLemmas
 pub mod ArenaLemmas
+pub mod Results
 mod Witnesses

@@ -1,8 +1,11 @@
 -- Lists, and whether they are empty.
 use Rattle.std.proofs.Common.{◌≡◌, ℕ, ◌-◌, ◌+◌, ◌≤◌, ◌==◌, List, [], ◌∷◌, ◌++◌, length, take}
-use Rattle.std.proofs.Common.{drop, get_or, length-drop, refl, sym, ◌∙◌, arith, true}
+use Rattle.std.proofs.Common.{ap, drop, get_or, length-drop, refl, subst, sym, ◌∙◌, arith, true}
+use Rattle.std.specs.List.Sorted.{IsPermutation}
+use Rattle.std.proofs.Math.Seq.{take-append_seam}
 use Rattle.std.proofs.lemmas.Bool.{eqb-true}
 use Rattle.std.proofs.lemmas.List.{take_all, take_more}
+use Rattle.std.proofs.lemmas.List.Sorted.{IsPermutation-trans, length_permutation}
 use Rattle.texts.specs.Lists.{is_empty}
 
 -- `is_empty` as code tests it
@@ -28,3 +31,14 @@ last-shape xs some =
 -- a slice that goes to the end is what stands behind its beginning
 pub to-end : (xs : List ℕ) (i : ℕ) → take (length xs - i) (drop i xs) ≡ drop i xs
 to-end xs i = take_all (length xs - i) (drop i xs) (omega (arith, length-drop i xs))
+
+-- ---- lists that are lent
+
+-- a list that is lent as a slice, and comes back in another order, with what stood behind it
+pub lent_whole : {X : Type 0} (old lent part rest new : List X) (n : ℕ) → lent ≡ old → length lent ≡ n →
+    IsPermutation lent part → IsPermutation (take n (part ++ rest)) new → IsPermutation old new
+lent_whole old lent part rest new n same count p q =
+    let whole : n ≡ length part = sym count ∙ sym (length_permutation lent part p) in
+    let back : take n (part ++ rest) ≡ part = ap (λ k. take k (part ++ rest)) whole ∙ take-append_seam part rest in
+    subst (λ all. IsPermutation all new) same
+    (IsPermutation-trans lent part new p (subst (λ all. IsPermutation all new) back q))

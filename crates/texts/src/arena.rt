@@ -1,9 +1,24 @@
 // Texts in one list of bytes.
 
-ghost use Rattle.std.specs.Prelude.{◌≡◌, ◌↔◌, ◌<◌, ◌++◌, ◌∷◌, [], Contains, IsTrue, OnOk, get_or, length, string_bytes};
+ghost use Rattle.std.specs.Prelude.{
+  ◌≡◌,
+  ◌↔◌,
+  ◌<◌,
+  ◌++◌,
+  ◌∷◌,
+  [],
+  Contains,
+  IfOk,
+  IsTrue,
+  OnErr,
+  OnOk,
+  get_or,
+  length,
+};
+ghost use Rattle.std.specs.List.{dedup};
 ghost use Rattle.std.specs.List.Sorted.{IsPermutation, IsSortedBy};
 ghost use Rattle.std.specs.Ordering.{is_lt};
-ghost use Rattle.texts.specs.Arena.{IsPiece, piece_cmp, text_at, text_cmp};
+ghost use Rattle.texts.specs.Arena.{IsPiece, piece_cmp, same_piece, same_text, text_at, text_cmp};
 ghost use Rattle.texts.specs.Heads.{head_of};
 
 use crate::compare::compare_texts;
@@ -26,6 +41,8 @@ struct Piece {
 pub struct Arena {
     bytes: String,
     pieces: Vec<Piece>,
+    // So many of them, those in front, are in order.
+    sorted: usize,
 }
 
 impl Model for Arena {
@@ -76,13 +93,30 @@ fn compare(bytes: &[u8], first: &Piece, second: &Piece) -> Ordering
     compare_texts(bytes_at(bytes, first), bytes_at(bytes, second))
 }
 
-// Puts the pieces in order.
-fn sort_pieces(bytes: &[u8], pieces: &mut Vec<Piece>) -> Result<(), AllocError>
+// Sorts the pieces behind so many, in place.
+fn sort_new(bytes: &[u8], pieces: &mut [Piece], sorted: usize)
+    ensures { IsPermutation pieces.old pieces.new }
+{
+    let (_, new) = pieces.split_at_mut(sorted.min(pieces.len()));
+    new.sort_unstable_by(|first, second| compare(bytes, first, second));
+}
+
+// Puts the pieces in order. So many in front are: they are merged with the others, which wants no more room than these
+// have.
+fn sort_pieces(bytes: &[u8], pieces: &mut Vec<Piece>, sorted: usize) -> Result<(), AllocError>
     ensures permutation { IsPermutation pieces.old.items pieces.new.items }
     ensures sorted { OnOk result
         (IsSortedBy (λ p q. is_lt (piece_cmp bytes.now p q)) pieces.new.items) }
 {
+    sort_new(bytes, pieces.as_mut_slice(), sorted);
     pieces.sort_by(|first, second| compare(bytes, first, second))
+}
+
+// Drops each piece whose text is that of the one before it.
+fn dedup_pieces(bytes: &[u8], pieces: &mut Vec<Piece>)
+    ensures { pieces.new.items ≡ dedup (same_piece bytes.now) pieces.old.items }
+{
+    pieces.dedup_by(|next, last| compare(bytes, next, last).is_eq());
 }
 
 impl Arena {
@@ -93,6 +127,7 @@ impl Arena {
         Arena {
             bytes: String::new(alloc),
             pieces: Vec::new(alloc),
+            sorted: 0,
         }
     }
 
@@ -103,16 +138,10 @@ impl Arena {
         self.pieces.len()
     }
 
-    /// Whether there is no text.
-    pub fn is_empty(&self) -> bool
-        ensures { IsTrue result ↔ (self.now ≡ []) }
-    {
-        self.pieces.is_empty()
-    }
-
-    /// Puts a text behind the others.
+    /// Puts a text behind the others. Where there is no memory, they stay as they are.
     pub fn push(&mut self, text: &str) -> Result<(), AllocError>
-        ensures { OnOk result (self.new ≡ self.old ++ text.now ∷ []) }
+        ensures pushed { OnOk result (self.new ≡ self.old ++ text.now ∷ []) }
+        ensures kept { OnErr result (self.new ≡ self.old) }
     {
         let start = self.bytes.len();
         self.bytes.push_str(text)?;
@@ -133,19 +162,6 @@ impl Arena {
         str_at(self.bytes.as_str(), &self.pieces[index])
     }
 
-    /// How the texts at two indices compare, by their bytes.
-    pub fn compare(&self, first: usize, second: usize) -> Ordering
-        requires first { first < length self.now }
-        requires second { second < length self.now }
-        ensures { result ≡ text_cmp (get_or self.now first []) (get_or self.now second []) }
-    {
-        compare(
-            self.bytes.as_bytes(),
-            &self.pieces[first],
-            &self.pieces[second],
-        )
-    }
-
     /// Whether the text is among them. It looks at each one.
     pub fn has(&self, text: &str) -> bool
         ensures { IsTrue result ↔ Contains self.now text.now }
@@ -160,11 +176,54 @@ impl Arena {
     }
 
     /// Puts the texts in the order of their bytes. Where some were put in order before, those alone that came behind
-    /// them are sorted, and merged with them.
+    /// them are sorted, and merged with them. Where there is no memory, they are the same texts in some order.
     pub fn sort(&mut self) -> Result<(), AllocError>
         ensures permutation { IsPermutation self.old self.new }
         ensures sorted { OnOk result (IsSortedBy (λ x y. is_lt (text_cmp x y)) self.new) }
     {
-        sort_pieces(self.bytes.as_bytes(), &mut self.pieces)
+        sort_pieces(self.bytes.as_bytes(), &mut self.pieces, self.sorted)?;
+        self.sorted = self.pieces.len();
+        Ok(())
+    }
+
+    // Whether most bytes are of no text.
+    fn is_loose(&self) -> bool {
+        let mut used: usize = 0;
+        for piece in &self.pieces {
+            used = used.saturating_add(piece.len);
+        }
+        used < self.bytes.len() / 2
+    }
+
+    // The same texts, with no other bytes beside theirs.
+    fn packed(&self) -> Result<Arena, AllocError>
+        ensures { IfOk result (λ all. all ≡ self.now) }
+    {
+        let mut all = Arena::new(*self.bytes.allocator());
+        for piece in &self.pieces {
+            all.push(str_at(self.bytes.as_str(), piece))?;
+        }
+        all.sorted = self.sorted;
+        Ok(all)
+    }
+
+    // Drops each text that repeats the one before it. Its bytes stay.
+    fn drop_repeats(&mut self)
+        ensures { self.new ≡ dedup same_text self.old }
+    {
+        dedup_pieces(self.bytes.as_bytes(), &mut self.pieces);
+        self.sorted = self.sorted.min(self.pieces.len());
+    }
+
+    /// Drops each text that repeats the one before it. Where most bytes are then of no text, those of the others are
+    /// copied: where there is no memory for that, it fails, and has dropped the same texts.
+    pub fn dedup(&mut self) -> Result<(), AllocError>
+        ensures { self.new ≡ dedup same_text self.old }
+    {
+        self.drop_repeats();
+        if self.is_loose() {
+            *self = self.packed()?;
+        }
+        Ok(())
     }
 }

@@ -3,8 +3,14 @@ use Rattle.std.specs.Ordering.{is_lt}
 use Rattle.std.proofs.lemmas.Fn.{always_returns_same}
 use Rattle.std.proofs.lemmas.Result.{on_ok_weaker}
 use Rattle.texts.proofs.ArenaLemmas.{piece_order}
+use Rattle.texts.proofs.ListLemmas.{lent_whole}
 use Rattle.texts.specs.Arena.{piece_cmp}
 use Rattle.texts.proofs.arena.sort_pieces.Goals as goal
+
+pub returns-clause-permutation : goal.returns-clause-permutation
+returns-clause-permutation c =
+    lent_whole _ _ _ _ _ _ c.as_mut_slice.ensures.value c.as_mut_slice.ensures.len c.sort_new.ensures
+    c.sort_by.ensures.permutation
 
 pub returns-clause-sorted : goal.returns-clause-sorted
 returns-clause-sorted c =

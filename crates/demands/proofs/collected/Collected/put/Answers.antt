@@ -5,4 +5,4 @@ use Rattle.demands.proofs.collected.Collected.put.Goals as goal
 pub returns-clause-put : goal.returns-clause-put
 returns-clause-put c =
     pushed_behind c.args.self.now c.self.inside.texts c.push.new.self c.args.text.now
-    (c.self.view_is ∙ c.in_ok-settle.ensures.same) c.in_ok-push.ensures
+    (c.self.view_is ∙ c.in_ok-settle.ensures.same) c.in_ok-push.ensures.pushed

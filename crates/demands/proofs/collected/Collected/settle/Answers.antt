@@ -6,5 +6,4 @@ use Rattle.demands.proofs.collected.Collected.settle.Goals as goal
 -- what is kept once is collected as all of it
 pub returns-clause-same : goal.returns-clause-same
 returns-clause-same c =
-    ap collected_texts (c.in_ok-self-inside.ensures.once ∙ ap collected_texts c.replace-texts.ensures.value)
-    ∙ collected_again c.self.inside.texts ∙ c.self.view_is
+    ap collected_texts c.in_ok-put_in_order.ensures.once ∙ collected_again c.self.inside.texts ∙ c.self.view_is

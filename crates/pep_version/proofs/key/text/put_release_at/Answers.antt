@@ -4,7 +4,8 @@ use Rattle.std.proofs.lemmas.Result.{on_err_weaker, on_ok_weaker}
 use Rattle.pep_version.specs.KeyReading.{read_number, read_numbers, read_release_number}
 use Rattle.pep_version.specs.Text.{release_text}
 use Rattle.pep_version.proofs.KeyLoops.{at_end, at_start, behind, none_left, one_more, release_number_left}
-use Rattle.pep_version.proofs.KeyTexts.{at_err, extends_on, numbers_more, release_done}
+use Rattle.texts.proofs.Results.{at_err}
+use Rattle.pep_version.proofs.KeyTexts.{extends_on, numbers_more, release_done}
 use Rattle.pep_version.proofs.TextLemmas.{dot_before, text-more}
 use Rattle.pep_version.proofs.key.text.put_release_at.Goals as goal
 

@@ -4,7 +4,8 @@ use Rattle.pep_version.specs.KeyReading.{read_segment, read_segments}
 use Rattle.pep_version.specs.Text.{segment_text}
 use Rattle.pep_version.specs.Version.{IsSegment}
 use Rattle.pep_version.proofs.KeyLoops.{at_end, at_start, is_next, none_left, one_more, segment_left}
-use Rattle.pep_version.proofs.KeyTexts.{at_err, extends_on, segments_more, segments_text}
+use Rattle.texts.proofs.Results.{at_err}
+use Rattle.pep_version.proofs.KeyTexts.{extends_on, segments_more, segments_text}
 use Rattle.pep_version.proofs.TextLemmas.{dot_before, text-more}
 use Rattle.pep_version.proofs.key.text.put_segments_at.Goals as goal
 

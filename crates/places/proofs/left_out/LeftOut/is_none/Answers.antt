@@ -1,4 +1,4 @@
-use Rattle.std.proofs.Common.{◌≡◌, ◌++◌, ◌∙◌, length, rules, sym}
+use Rattle.std.proofs.Common.{◌≡◌, ◌∙◌, length, rules, sym}
 use Rattle.places.specs.LeftOut.{all_parts}
 use Rattle.places.proofs.LeftOver.{nothing_left}
 use Rattle.places.proofs.SinglePlaces.{none-left, none_of}
@@ -10,35 +10,22 @@ returns-then-not-is_empty c = (
   λ e.
       let own = c.self.inside in
       let are = c.self.invariant in
-      let none = none-left own.singles.items own.fresh.items own.parts.items are.0 are.1 are.2 (c.self.view_is ∙ e) in
+      let none = none-left own.singles.items own.parts.items are.0 are.1 (c.self.view_is ∙ e) in
       let no_single : length own.singles.items ≡ 0 = none.singles in
       search (rules, no_single),
-)
-
-pub returns-then-not-is_empty-2 : goal.returns-then-not-is_empty-2
-returns-then-not-is_empty-2 c = (
-  λ t. search (rules, t),
-  λ e.
-      let own = c.self.inside in
-      let are = c.self.invariant in
-      let none = none-left own.singles.items own.fresh.items own.parts.items are.0 are.1 are.2 (c.self.view_is ∙ e) in
-      let no_fresh : length own.fresh.items ≡ 0 = none.fresh in
-      search (rules, no_fresh),
 )
 
 pub returns : goal.returns
 returns c =
     let own = c.self.inside in
     let are = c.self.invariant in
-    let no_single : length own.singles.items ≡ 0 = search rules in
-    let no_fresh : length own.fresh.items ≡ 0 = search rules in (
+    let no_single : length own.singles.items ≡ 0 = search rules in (
       λ t.
           let no_part : length own.parts.items ≡ 0 = search (rules, t) in
           sym c.self.view_is
-          ∙ nothing_left (all_parts (own.singles.items ++ own.fresh.items) own.parts.items)
-          (none_of own.singles.items own.fresh.items own.parts.items no_single no_fresh no_part),
+          ∙ nothing_left (all_parts own.singles.items own.parts.items) (none_of own.singles.items own.parts.items no_single no_part),
       λ e.
-          let none = none-left own.singles.items own.fresh.items own.parts.items are.0 are.1 are.2 (c.self.view_is ∙ e) in
+          let none = none-left own.singles.items own.parts.items are.0 are.1 (c.self.view_is ∙ e) in
           let no_part : length own.parts.items ≡ 0 = none.parts in
           search (rules, no_part),
     )

@@ -5,7 +5,7 @@ use Rattle.pep_clause.specs.Cut.{Cut, cut_cmp}
 use Rattle.pep_clause.specs.OperatorTable.{outside}
 use Rattle.pep_clause.specs.VersionSet.{IsNormal, is_point}
 use Rattle.places.proofs.LeftOver.{not_below, points-none}
-use Rattle.places.proofs.SinglePlaces.{both_normal}
+use Rattle.places.proofs.SinglePlaces.{all_normal}
 use Rattle.places.proofs.left_out.LeftOut.leave_out.Goals as goal
 
 pub returns-then-ne-clause-points : goal.returns-then-ne-clause-points
@@ -18,7 +18,7 @@ pub returns-then-ne-clause-normal : goal.returns-then-ne-clause-normal
 returns-then-ne-clause-normal c =
     let own = c.self.inside in
     let are = c.self.invariant in
-    subst IsNormal c.self.view_is (both_normal own.singles.items own.fresh.items own.parts.items are.0 are.1 are.2)
+    subst IsNormal c.self.view_is (all_normal own.singles.items own.parts.items are.0 are.1)
 
 pub returns-then-is_right_behind-clause-points : goal.returns-then-is_right_behind-clause-points
 returns-then-is_right_behind-clause-points c =

@@ -1,18 +1,17 @@
-use Rattle.std.proofs.Common.{◌++◌, ◌&&◌, ◌∙◌}
+use Rattle.std.proofs.Common.{◌&&◌, ◌∙◌}
 use Rattle.std.proofs.lemmas.List.Elements.{All-push}
 use Rattle.pep_clause.specs.OperatorTable.{outside}
 use Rattle.pep_clause.specs.VersionSet.{is_point}
 use Rattle.places.specs.LeftOut.{IsSingle, all_parts, single}
 use Rattle.places.specs.Place.{right_behind}
 use Rattle.places.proofs.LeftOver.{points-behind}
-use Rattle.places.proofs.SinglePlaces.{both_normal, left-fresh}
+use Rattle.places.proofs.SinglePlaces.{all_normal, left-single}
 use Rattle.places.proofs.left_out.LeftOut.leave_single.Goals as goal
 
 pub invariant_of-self-2 : goal.invariant_of-self-2
 invariant_of-self-2 c = (
-  c.self.invariant.0,
-  rw c.in_ok-push.ensures.items (All-push IsSingle c.self.inside.fresh.items c.args.place c.self.invariant.1 c.requires),
-  c.self.invariant.2,
+  rw c.in_ok-push.ensures.items (All-push IsSingle c.self.inside.singles.items c.args.place c.self.invariant.0 c.requires),
+  c.self.invariant.1,
 )
 
 pub returns-clause-points : goal.returns-clause-points
@@ -20,13 +19,12 @@ returns-clause-points c x =
     let place = c.args.place in
     let own = c.self.inside in
     let new = c.push.new.self.items in
-    points-behind (all_parts (own.singles.items ++ own.fresh.items) own.parts.items)
-    (all_parts (own.singles.items ++ new) own.parts.items) (single place)
-    (left-fresh own.singles.items own.fresh.items new own.parts.items place c.in_ok-push.ensures.items) x
+    points-behind (all_parts own.singles.items own.parts.items) (all_parts new own.parts.items) (single place)
+    (left-single own.singles.items new own.parts.items place c.in_ok-push.ensures.items) x
     ∙ (λ i. is_point (c.self.view_is i) x && is_point (outside place (right_behind place)) x)
     ∙ (λ i. c.in_ok-settle_singles.ensures.points x i && is_point (outside place (right_behind place)) x)
 
 pub returns-clause-normal : goal.returns-clause-normal
 returns-clause-normal c =
     let are = invariant_of-self-2 c in
-    both_normal c.self.inside.singles.items c.push.new.self.items c.self.inside.parts.items are.0 are.1 are.2
+    all_normal c.push.new.self.items c.self.inside.parts.items are.0 are.1
