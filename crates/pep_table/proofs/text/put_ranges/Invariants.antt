@@ -1,8 +1,8 @@
-use Rattle.std.proofs.Common.{◌≡◌, ◌++◌, codes, drop, map, string_bytes}
+use Rattle.std.proofs.Common.{◌≡◌, ◌++◌, codes, map, take}
 use Rattle.pep_table.specs.TableText.{kind_lines, range_text}
-use Rattle.pep_table.proofs.text.push_ranges.Given as goal
+use Rattle.pep_table.proofs.text.put_ranges.Given as goal
 
 abbrev pub invariant-loop-range : goal.invariant-loop-range
-invariant-loop-range l = string_bytes l.text
-    ++ kind_lines (codes "range") (map range_text (drop l.range-index l.ranges))
-    ≡ string_bytes l.initial.text ++ kind_lines (codes "range") (map range_text l.ranges)
+invariant-loop-range g l =
+    g.T.TextOut.tells → g.T.TextOut.written l.text ≡ g.T.TextOut.written l.initial.text
+    ++ kind_lines (codes "range") (map range_text (take l.range-index l.ranges))

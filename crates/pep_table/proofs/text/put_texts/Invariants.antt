@@ -1,8 +1,8 @@
-use Rattle.std.proofs.Common.{◌≡◌, ◌++◌, drop, string_bytes}
+use Rattle.std.proofs.Common.{◌≡◌, ◌++◌, take}
 use Rattle.pep_table.specs.TableText.{kind_lines}
-use Rattle.pep_table.proofs.text.push_texts.Given as goal
+use Rattle.pep_table.proofs.text.put_texts.Given as goal
 
 abbrev pub invariant-loop-i : goal.invariant-loop-i
-invariant-loop-i l =
-    string_bytes l.text ++ kind_lines l.kind (drop l.i l.texts)
-    ≡ string_bytes l.initial.text ++ kind_lines l.kind l.texts
+invariant-loop-i g l =
+    g.T.TextOut.tells → g.T.TextOut.written l.text ≡ g.T.TextOut.written l.initial.text
+    ++ kind_lines l.kind (take l.i l.texts)
