@@ -1,6 +1,6 @@
 // What is demanded of one package in all.
 
-ghost use Rattle.std.specs.Prelude.{◌≡◌, ◌≢◌, ◌<◌, ◌∷◌, [], IfErr, IfOk, length, option_map};
+ghost use Rattle.std.specs.Prelude.{◌≡◌, ◌≢◌, ◌<◌, ◌∷◌, [], IfErr, IfOk, IsOk, length, option_map};
 ghost use Rattle.demands.specs.Finished.{kept_ranges, other_parts};
 ghost use Rattle.demands.specs.Others.{entry_with, kept_others};
 ghost use Rattle.demands.specs.Table.{EntryDemands, IsValidEntry};
@@ -81,6 +81,7 @@ impl Finished {
         requires some { self.now.versions ≢ [] }
         ensures entry { IfOk result (IsEntryVerdict self.now) }
         ensures faults { IfErr result (λ e. e ≡ TableFault.NoMemory) }
+        ensures plain { self.now.texts ≡ [] → IsOk result }
     {
         let Some(others) = &self.others else {
             return Ok(Verdict::Possible);
@@ -109,10 +110,11 @@ impl Finished {
     }
 
     /// Whether a version can meet what is demanded: as [`Entry::verdict`](crate::Entry::verdict). The only fault is
-    /// `NoMemory`, 42.
+    /// `NoMemory`, 42, and without demanded texts there is none.
     pub fn verdict(&self, alloc: Global) -> Result<Verdict, TableFault>
         ensures demands { IfOk result (IsVerdict (EntryDemands self.now)) }
         ensures faults { IfErr result (λ e. e ≡ TableFault.NoMemory) }
+        ensures plain { self.now.texts ≡ [] → IsOk result }
     {
         if self.url_count() > 1 {
             return Ok(Verdict::Conflict);

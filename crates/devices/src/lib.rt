@@ -3,8 +3,11 @@
 
 mod device;
 mod folder;
+mod pieces;
+mod taken;
 mod write;
 
 pub use crate::device::{Bytes, Counted, Failed, Sink, Source};
 pub use crate::folder::{Disk, Folder, OpenFault};
+pub use crate::pieces::{Printed, push_pieces};
 pub use crate::write::push_all;

@@ -25,4 +25,6 @@ pub mod RangeWords
 pub mod TableBytes
 pub mod SameLemmas
 pub mod EntryLines
+pub mod WrittenParts
+pub mod PrintedRows
 mod Witnesses

@@ -10,8 +10,9 @@ ghost use Rattle.demands.specs.Table.{IsValidEntry, IsValidTable};
 ghost use Rattle.demands.specs.declared.verdict.Verdict.{Verdict};
 ghost use Rattle.pep_table.specs.TableText.{IsTableText, Shows, entry_text};
 
+use crate::printout::{Printout, Row, Rows};
 use crate::table::Table;
-use crate::text::{header_of, push_finished};
+use crate::text::header_of;
 use demands::{Entry, Kept, LineVersions, PackageDemands, TableFault};
 use pep_marker::{Environment, MarkerFault, Name};
 use pep_require::Requirement;
@@ -39,16 +40,17 @@ impl Model for Gathering {
 fn push_gathered(
     alloc: Global,
     text: &mut String,
-    name: &Name,
+    name: Name,
     gathered: PackageDemands,
 ) -> Result<(), TableFault>
     requires { IsValidEntry gathered }
     ensures ok { OnOk result ((verdict : Verdict) × Shows gathered verdict
-        × (string_bytes text.new ≡ string_bytes text.old
-        ++ entry_text name.now verdict gathered)) }
+        × (string_bytes text.new ≡ string_bytes text.old ++ entry_text name verdict gathered)) }
     ensures faults { IfErr result (λ e. e ≡ TableFault.NoMemory) }
 {
-    push_finished(alloc, text, name, &gathered.finish(alloc)?)
+    let row = Row::of(alloc, name, gathered)?;
+    row.put_text(text)?;
+    Ok(())
 }
 
 impl Gathering {
@@ -184,8 +186,23 @@ impl Gathering {
     {
         let mut text = header_of(alloc, environment)?;
         for (name, gathered) in self.entries {
-            push_gathered(alloc, &mut text, &name, gathered)?;
+            push_gathered(alloc, &mut text, name, gathered)?;
         }
         Ok(text)
+    }
+
+    /// The same text, yet to be written: what wants memory for it is done, so that no fault is left but those of where
+    /// it goes. The only fault is `NoMemory`, 42.
+    pub fn printout(self, alloc: Global, environment: &Environment) -> Result<Printout, TableFault>
+        ensures text { IfOk result (IsTableText environment.now self) }
+        ensures faults { IfErr result (λ e. e ≡ TableFault.NoMemory) }
+    {
+        let header = header_of(alloc, environment)?;
+        let mut rows = Rows::new(alloc)?;
+        for (name, gathered) in self.entries {
+            let row = Row::of(alloc, name, gathered)?;
+            rows.put(alloc, row)?;
+        }
+        Ok(Printout::of_rows(header, rows))
     }
 }

@@ -3,6 +3,7 @@
 
 mod gathering;
 pub mod laws;
+mod printout;
 mod read;
 mod same;
 mod table;
@@ -10,6 +11,7 @@ mod text;
 mod verdict;
 
 pub use crate::gathering::Gathering;
+pub use crate::printout::Printout;
 pub use crate::table::Table;
 pub use crate::text::entry_text;
 pub use demands::{Answer, Entry, Join, Kept, LineVersions, Sorted, TableFault, Verdict, join_all};

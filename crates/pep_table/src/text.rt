@@ -1,7 +1,17 @@
 // The text of a table.
 
-ghost use Rattle.std.specs.Prelude.{◌≡◌, ◌++◌, codes, string_bytes, IfErr, IfOk, OnOk, map, option_map};
-ghost use Rattle.pep_clause.specs.Cut.{cut_text};
+ghost use Rattle.std.specs.Prelude.{
+  ◌≡◌,
+  ◌++◌,
+  codes,
+  string_bytes,
+  IfErr,
+  IfOk,
+  OnErr,
+  OnOk,
+  map,
+  option_map,
+};
 ghost use Rattle.pep_clause.specs.OperatorTable.{range};
 ghost use Rattle.pep_marker.specs.Header.{header};
 ghost use Rattle.pep_table.specs.TableText.{
@@ -13,118 +23,118 @@ ghost use Rattle.pep_table.specs.TableText.{
   other_lines,
   range_text,
 };
-ghost use Rattle.demands.specs.Finished.{kept_ranges};
+ghost use Rattle.demands.specs.Finished.{kept_ranges, other_parts};
 ghost use Rattle.demands.specs.Others.{kept_others};
 ghost use Rattle.places.specs.LeftOut.{spans};
 ghost use Rattle.demands.specs.Verdict.{verdict_word};
+ghost use Rattle.texts.specs.TextOut.{Extends};
 
 use crate::table::Table;
 use demands::{Entry, Finished, Kept, KeptRanges, OtherTexts, TableFault, Verdict};
-use pep_clause::{Cut, Range};
+use pep_clause::Range;
 use pep_marker::{Environment, Name};
-use places::{Bounds, Place};
+use places::Bounds;
 use std::alloc::Global;
 use std::cmp::Ordering;
-use texts::Arena;
+use texts::{Arena, TextOut};
 
-fn push_line(text: &mut String, kind: &str, value: &str) -> Result<(), TableFault>
-    ensures ok { OnOk result (string_bytes text.new ≡ string_bytes text.old
+fn put_line<T: TextOut>(text: &mut T, kind: &str, value: &str) -> Result<(), T::Fault>
+    ensures ok { OnOk result (T.tells → T.written text.new ≡ T.written text.old
         ++ line (codes "  " ++ kind.now ++ codes " " ++ value.now)) }
-    ensures faults { IfErr result (λ e. e ≡ TableFault.NoMemory) }
+    ensures kept { OnErr result (T.tells → Extends (T.written text.old) (T.written text.new)) }
 {
-    text.push_str("  ")?;
-    text.push_str(kind)?;
-    text.push_str(" ")?;
-    text.push_str(value)?;
-    text.push_str("\n")?;
+    text.put_str("  ")?;
+    text.put_str(kind)?;
+    text.put_str(" ")?;
+    text.put_str(value)?;
+    text.put_str("\n")?;
     Ok(())
 }
 
-fn push_kind<T: Kept>(text: &mut String, kind: &str, values: &[T]) -> Result<(), TableFault>
-    ensures ok { OnOk result (string_bytes text.new ≡ string_bytes text.old
-        ++ kind_lines kind.now (map T.text values.now)) }
-    ensures faults { IfErr result (λ e. e ≡ TableFault.NoMemory) }
+fn put_kind<T: TextOut, K: Kept>(text: &mut T, kind: &str, values: &[K]) -> Result<(), T::Fault>
+    ensures ok { OnOk result (T.tells → T.written text.new ≡ T.written text.old
+        ++ kind_lines kind.now (map K.text values.now)) }
+    ensures kept { OnErr result (T.tells → Extends (T.written text.old) (T.written text.new)) }
 {
     for value in values {
-        push_line(text, kind, value.as_text())?;
+        put_line(text, kind, value.as_text())?;
     }
     Ok(())
 }
 
-// Appends a line for each of the texts.
-fn push_texts(text: &mut String, kind: &str, texts: &Arena) -> Result<(), TableFault>
-    ensures ok { OnOk result (string_bytes text.new ≡ string_bytes text.old
+// Writes a line for each of the texts.
+fn put_texts<T: TextOut>(text: &mut T, kind: &str, texts: &Arena) -> Result<(), T::Fault>
+    ensures ok { OnOk result (T.tells → T.written text.new ≡ T.written text.old
         ++ kind_lines kind.now texts.now) }
-    ensures faults { IfErr result (λ e. e ≡ TableFault.NoMemory) }
+    ensures kept { OnErr result (T.tells → Extends (T.written text.old) (T.written text.new)) }
 {
     for i in 0..texts.len() {
-        push_line(text, kind, texts.text(i))?;
+        put_line(text, kind, texts.text(i))?;
     }
     Ok(())
 }
 
-fn push_cut(text: &mut String, cut: &Cut) -> Result<(), TableFault>
-    ensures ok { OnOk result (string_bytes text.new ≡ string_bytes text.old ++ cut_text cut.now) }
-    ensures faults { IfErr result (λ e. e ≡ TableFault.NoMemory) }
-{
-    match cut.push_text(text) {
-        Ok(()) => Ok(()),
-        Err(_) => Err(TableFault::NoMemory),
-    }
-}
-
-fn push_range(text: &mut String, range: &Range) -> Result<(), TableFault>
-    ensures ok { OnOk result (string_bytes text.new ≡ string_bytes text.old
+fn put_range<T: TextOut>(text: &mut T, range: &Range) -> Result<(), T::Fault>
+    ensures ok { OnOk result (T.tells → T.written text.new ≡ T.written text.old
         ++ line (codes "  range " ++ range_text range.now)) }
-    ensures faults { IfErr result (λ e. e ≡ TableFault.NoMemory) }
+    ensures kept { OnErr result (T.tells → Extends (T.written text.old) (T.written text.new)) }
 {
-    text.push_str("  range ")?;
-    push_cut(text, range.low())?;
-    text.push_str(" to ")?;
-    push_cut(text, range.high())?;
-    text.push_str("\n")?;
+    text.put_str("  range ")?;
+    range.low().put_text(text)?;
+    text.put_str(" to ")?;
+    range.high().put_text(text)?;
+    text.put_str("\n")?;
     Ok(())
 }
 
-fn push_ranges(text: &mut String, ranges: &[Range]) -> Result<(), TableFault>
-    ensures ok { OnOk result (string_bytes text.new ≡ string_bytes text.old
+fn put_ranges<T: TextOut>(text: &mut T, ranges: &[Range]) -> Result<(), T::Fault>
+    ensures ok { OnOk result (T.tells → T.written text.new ≡ T.written text.old
         ++ kind_lines (codes "range") (map range_text ranges.now)) }
-    ensures faults { IfErr result (λ e. e ≡ TableFault.NoMemory) }
+    ensures kept { OnErr result (T.tells → Extends (T.written text.old) (T.written text.new)) }
 {
     for range in ranges {
-        push_range(text, range)?;
+        put_range(text, range)?;
     }
     Ok(())
 }
 
-fn push_head(text: &mut String, name: &str, verdict: Verdict) -> Result<(), TableFault>
-    ensures ok { OnOk result (string_bytes text.new ≡ string_bytes text.old
+fn put_head<T: TextOut>(text: &mut T, name: &str, verdict: Verdict) -> Result<(), T::Fault>
+    ensures ok { OnOk result (T.tells → T.written text.new ≡ T.written text.old
         ++ line (name.now ++ codes " " ++ verdict_word verdict)) }
-    ensures faults { IfErr result (λ e. e ≡ TableFault.NoMemory) }
+    ensures kept { OnErr result (T.tells → Extends (T.written text.old) (T.written text.new)) }
 {
-    text.push_str(name)?;
-    text.push_str(" ")?;
-    text.push_str(verdict.word())?;
-    text.push_str("\n")?;
+    text.put_str(name)?;
+    text.put_str(" ")?;
+    text.put_str(verdict.word())?;
+    text.put_str("\n")?;
     Ok(())
 }
 
-// Appends the lines of an entry under its verdict.
-fn push_lines(
-    text: &mut String,
+// Writes the lines of what an entry demands besides versions.
+fn put_sorted<T: TextOut>(text: &mut T, entry: &Entry) -> Result<(), T::Fault>
+    ensures ok { OnOk result (T.tells → T.written text.new ≡ T.written text.old
+        ++ other_lines (other_parts entry.now)) }
+    ensures kept { OnErr result (T.tells → Extends (T.written text.old) (T.written text.new)) }
+{
+    put_kind(text, "extra", entry.extras().items())?;
+    put_kind(text, "url", entry.urls().items())?;
+    put_kind(text, "text", entry.texts().items())
+}
+
+// Writes the lines of an entry under its verdict.
+fn put_lines<T: TextOut>(
+    text: &mut T,
     name: &Name,
     verdict: Verdict,
     entry: &Entry,
-) -> Result<(), TableFault>
-    ensures ok { OnOk result (string_bytes text.new ≡ string_bytes text.old
+) -> Result<(), T::Fault>
+    ensures ok { OnOk result (T.tells → T.written text.new ≡ T.written text.old
         ++ entry_text name.now verdict entry.now) }
-    ensures faults { IfErr result (λ e. e ≡ TableFault.NoMemory) }
+    ensures kept { OnErr result (T.tells → Extends (T.written text.old) (T.written text.new)) }
 {
-    push_head(text, name.text(), verdict)?;
-    push_kind(text, "extra", entry.extras().items())?;
-    push_kind(text, "url", entry.urls().items())?;
-    push_kind(text, "text", entry.texts().items())?;
-    push_ranges(text, entry.versions().ranges())
+    put_head(text, name.text(), verdict)?;
+    put_sorted(text, entry)?;
+    put_ranges(text, entry.versions().ranges())
 }
 
 /// Appends the lines of an entry.
@@ -140,7 +150,8 @@ pub(crate) fn push_entry(
     ensures faults { IfErr result (λ e. e ≡ TableFault.NoMemory) }
 {
     let verdict = entry.verdict(alloc)?;
-    push_lines(text, name, verdict, entry)
+    put_lines(text, name, verdict, entry)?;
+    Ok(())
 }
 
 /// The lines of the entry of a name, as they stand in the text of a table (see [`Table::text`]). The only fault is
@@ -155,100 +166,88 @@ pub fn entry_text(alloc: Global, name: &Name, entry: &Entry) -> Result<String, T
     Ok(lines)
 }
 
-fn push_place(text: &mut String, place: Place) -> Result<(), TableFault>
-    ensures ok { OnOk result (string_bytes text.new ≡ string_bytes text.old ++ cut_text place) }
-    ensures faults { IfErr result (λ e. e ≡ TableFault.NoMemory) }
-{
-    match place.push_text(text) {
-        Ok(()) => Ok(()),
-        Err(_) => Err(TableFault::NoMemory),
-    }
-}
-
-// Appends the line of the range between two places.
-fn push_bounds(text: &mut String, bounds: Bounds) -> Result<(), TableFault>
-    ensures ok { OnOk result (string_bytes text.new ≡ string_bytes text.old
+// Writes the line of the range between two places.
+fn put_bounds<T: TextOut>(text: &mut T, bounds: Bounds) -> Result<(), T::Fault>
+    ensures ok { OnOk result (T.tells → T.written text.new ≡ T.written text.old
         ++ line (codes "  range " ++ range_text (record {
           low = bounds.low;
           high = bounds.high;
         }))) }
-    ensures faults { IfErr result (λ e. e ≡ TableFault.NoMemory) }
+    ensures kept { OnErr result (T.tells → Extends (T.written text.old) (T.written text.new)) }
 {
-    text.push_str("  range ")?;
-    push_place(text, bounds.low)?;
-    text.push_str(" to ")?;
-    push_place(text, bounds.high)?;
-    text.push_str("\n")?;
+    text.put_str("  range ")?;
+    bounds.low.put_text(text)?;
+    text.put_str(" to ")?;
+    bounds.high.put_text(text)?;
+    text.put_str("\n")?;
     Ok(())
 }
 
-// Appends the line of the range between two places, where a version lies between them.
-fn push_between(text: &mut String, bounds: Bounds) -> Result<(), TableFault>
-    ensures ok { OnOk result (string_bytes text.new ≡ string_bytes text.old
+// Writes the line of the range between two places, where a version lies between them.
+fn put_between<T: TextOut>(text: &mut T, bounds: Bounds) -> Result<(), T::Fault>
+    ensures ok { OnOk result (T.tells → T.written text.new ≡ T.written text.old
         ++ kind_lines (codes "range") (map range_text (range bounds.low bounds.high))) }
-    ensures faults { IfErr result (λ e. e ≡ TableFault.NoMemory) }
+    ensures kept { OnErr result (T.tells → Extends (T.written text.old) (T.written text.new)) }
 {
     if bounds.low.cmp(&bounds.high) != Ordering::Less {
         return Ok(());
     }
-    push_bounds(text, bounds)
+    put_bounds(text, bounds)
 }
 
-// Appends the lines of ranges between places.
-fn push_spans(text: &mut String, ranges: &[Bounds]) -> Result<(), TableFault>
-    ensures ok { OnOk result (string_bytes text.new ≡ string_bytes text.old
+// Writes the lines of ranges between places.
+fn put_spans<T: TextOut>(text: &mut T, ranges: &[Bounds]) -> Result<(), T::Fault>
+    ensures ok { OnOk result (T.tells → T.written text.new ≡ T.written text.old
         ++ kind_lines (codes "range") (map range_text (spans ranges.now))) }
-    ensures faults { IfErr result (λ e. e ≡ TableFault.NoMemory) }
+    ensures kept { OnErr result (T.tells → Extends (T.written text.old) (T.written text.new)) }
 {
     for bounds in ranges {
-        push_bounds(text, *bounds)?;
+        put_bounds(text, *bounds)?;
     }
     Ok(())
 }
 
-// Appends the lines of the ranges.
-fn push_kept(text: &mut String, versions: &KeptRanges) -> Result<(), TableFault>
-    ensures ok { OnOk result (string_bytes text.new ≡ string_bytes text.old
+// Writes the lines of the ranges.
+fn put_kept<T: TextOut>(text: &mut T, versions: &KeptRanges) -> Result<(), T::Fault>
+    ensures ok { OnOk result (T.tells → T.written text.new ≡ T.written text.old
         ++ kind_lines (codes "range") (map range_text (kept_ranges versions.now))) }
-    ensures faults { IfErr result (λ e. e ≡ TableFault.NoMemory) }
+    ensures kept { OnErr result (T.tells → Extends (T.written text.old) (T.written text.new)) }
 {
     match versions {
-        KeptRanges::Bounded(bounds) => push_between(text, *bounds),
-        KeptRanges::Placed(ranges) => push_spans(text, ranges.as_slice()),
-        KeptRanges::Set(versions) => push_ranges(text, versions.ranges()),
+        KeptRanges::Bounded(bounds) => put_between(text, *bounds),
+        KeptRanges::Placed(ranges) => put_spans(text, ranges.as_slice()),
+        KeptRanges::Set(versions) => put_ranges(text, versions.ranges()),
     }
 }
 
-// Appends the lines of what is demanded besides versions.
-fn push_others(text: &mut String, others: Option<&OtherTexts>) -> Result<(), TableFault>
-    ensures ok { OnOk result (string_bytes text.new ≡ string_bytes text.old
+// Writes the lines of what is demanded besides versions.
+fn put_others<T: TextOut>(text: &mut T, others: Option<&OtherTexts>) -> Result<(), T::Fault>
+    ensures ok { OnOk result (T.tells → T.written text.new ≡ T.written text.old
         ++ other_lines (kept_others (option_map (λ o. o.now) others.entry))) }
-    ensures faults { IfErr result (λ e. e ≡ TableFault.NoMemory) }
+    ensures kept { OnErr result (T.tells → Extends (T.written text.old) (T.written text.new)) }
 {
     let Some(others) = others else {
         return Ok(());
     };
-    push_texts(text, "extra", others.extras())?;
-    push_texts(text, "url", others.urls())?;
-    push_texts(text, "text", others.texts())
+    put_texts(text, "extra", others.extras())?;
+    put_texts(text, "url", others.urls())?;
+    put_texts(text, "text", others.texts())
 }
 
-/// Appends the lines of a name of which this is demanded.
-pub(crate) fn push_finished(
-    alloc: Global,
-    text: &mut String,
+/// Writes the lines of a name of which this is demanded, under its verdict.
+pub(crate) fn put_finished<T: TextOut>(
+    text: &mut T,
     name: &Name,
+    verdict: Verdict,
     finished: &Finished,
-) -> Result<(), TableFault>
-    ensures ok { OnOk result ((verdict : Verdict) × Shows finished.now verdict
-        × (string_bytes text.new ≡ string_bytes text.old
-        ++ entry_text name.now verdict finished.now)) }
-    ensures faults { IfErr result (λ e. e ≡ TableFault.NoMemory) }
+) -> Result<(), T::Fault>
+    ensures ok { OnOk result (T.tells → T.written text.new ≡ T.written text.old
+        ++ entry_text name.now verdict finished.now) }
+    ensures kept { OnErr result (T.tells → Extends (T.written text.old) (T.written text.new)) }
 {
-    let verdict = finished.verdict(alloc)?;
-    push_head(text, name.text(), verdict)?;
-    push_others(text, finished.others())?;
-    push_kept(text, finished.versions())
+    put_head(text, name.text(), verdict)?;
+    put_others(text, finished.others())?;
+    put_kept(text, finished.versions())
 }
 
 /// The header of the environment.

@@ -1,8 +1,8 @@
 //! Devices that take bytes.
 
-ghost use Rattle.std.specs.Prelude.{◌≡◌, ◌<◌, List, ℕ, Option, None, IfOk, length};
+ghost use Rattle.std.specs.Prelude.{◌≡◌, ◌<◌, List, ℕ, Option, None, IfOk, length, true};
 ghost use Rattle.std.specs.Io.{WritesAtMost};
-ghost use Rattle.std.specs.Io.KnownBytes.{WriteAppends};
+ghost use Rattle.std.specs.Io.KnownBytes.{Keeps, WriteAppends};
 ghost use Rattle.devices.specs.Device.{Device, IsReady, CountsCall};
 
 use crate::device::{Counted, Failed};
@@ -25,6 +25,11 @@ pub trait Sink {
         ensures bytes { WriteAppends (written self.old) (written self.new) result buf.now }
         ensures counts { CountsCall (device self.old) (device self.new) result };
 
+    /// Is used no more, as where a call has failed. Nothing is written for it.
+    fn give_up(&mut self)
+        ensures device { device self.new ≡ record (device self.old) { failed = true } }
+        ensures bytes { Keeps (written self.old) (written self.new) };
+
     /// How many calls there were.
     fn calls(&self) -> u64
         ensures { result ≡ (device self.now).calls };
@@ -44,10 +49,14 @@ impl<D: Write> Sink for Counted<D> {
         match self.inner.write(buf) {
             Ok(count) if count > 0 || buf.is_empty() => Ok(count),
             _ => {
-                self.failed = true;
+                self.give_up();
                 Err(Failed)
             }
         }
+    }
+
+    fn give_up(&mut self) {
+        self.failed = true;
     }
 
     fn calls(&self) -> u64 {

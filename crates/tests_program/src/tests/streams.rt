@@ -205,6 +205,10 @@ impl Sink for Writer {
         Ok(count)
     }
 
+    fn give_up(&mut self) {
+        self.failed = true;
+    }
+
     fn calls(&self) -> u64 {
         self.calls
     }

@@ -13,6 +13,5 @@ loop-done-preserved g c =
       written =
           Appends-more _ _ _ bytes c.loop-done.done c.in-Ok.count c.loop-done.invariant.written
           c.in-Ok.ensures.bytes;
-      calls = omega (arith, c.in-Ok.ensures.counts.0);
       ready = c.in-Ok.ensures.counts.1;
     }

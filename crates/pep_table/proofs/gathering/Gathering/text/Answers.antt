@@ -43,10 +43,6 @@ one_more c =
 pub loop-name-preserved : goal.loop-name-preserved
 loop-name-preserved c = one_more (goal.at.loop-name-preserved c).In_ok-push_gathered
 
-pub loop-name-preserved-in_ok-push_gathered : goal.loop-name-preserved-in_ok-push_gathered
-loop-name-preserved-in_ok-push_gathered c =
-    one_more (goal.at.loop-name-preserved-in_ok-push_gathered c).In_ok-push_gathered
-
 pub returns-clause-text : goal.returns-clause-text
 returns-clause-text c =
     all_printed c.args.environment.now c.args.self c.loop-name.name-iterator (string_bytes c.loop-name.text)
