@@ -14,6 +14,6 @@ pub use crate::gathering::gather;
 pub use crate::input::{Input, Kind};
 pub use crate::lines::text_on;
 pub use crate::list::{lines_text, list_of};
-pub use crate::merge::{check_bytes, merge_bytes, text_of};
+pub use crate::merge::{check_bytes, merge_bytes, merge_printout, printout_of};
 pub use crate::stream::{gather_reader, merge_reader};
 pub use documents::{environment_of, project_of};

@@ -12,16 +12,12 @@ use crate::gathering::{gather, gather_named};
 use crate::input::Input;
 use faults::Fault;
 use pep_marker::{Environment, Name};
-use pep_table::{Answer, Gathering, TableFault};
+use pep_table::{Answer, Gathering, Printout, TableFault};
 use pep_version::Version;
 use std::alloc::Global;
 
-/// The text of the table of what is demanded in the environment.
-pub fn text_of(
-    alloc: Global,
-    gathering: Gathering,
-    environment: &Environment,
-) -> Result<String, Fault>
+// The text of the table of what is demanded in the environment.
+fn text_of(alloc: Global, gathering: Gathering, environment: &Environment) -> Result<String, Fault>
     ensures text { IfOk result (λ text.
         IsTableText environment.now gathering (string_bytes text)) }
     ensures faults { IfErr result (λ fault. fault ≡ no_memory) }
@@ -53,6 +49,35 @@ pub fn merge_bytes(
 {
     let gathering = gather(alloc, inputs, environment)?;
     text_of(alloc, gathering, environment)
+}
+
+/// The text of the table of what is demanded in the environment, yet to be written (see
+/// [`Gathering::printout`]). The only fault is want of memory, 60.
+pub fn printout_of(
+    alloc: Global,
+    gathering: Gathering,
+    environment: &Environment,
+) -> Result<Printout, Fault>
+    ensures text { IfOk result (IsTableText environment.now gathering) }
+    ensures faults { IfErr result (λ fault. fault ≡ no_memory) }
+{
+    match gathering.printout(alloc, environment) {
+        Ok(printout) => Ok(printout),
+        Err(_) => Err(Fault::no_memory()),
+    }
+}
+
+/// The text of [`merge_bytes`], yet to be written, with its refusals: so it is never held as a whole.
+pub fn merge_printout(
+    alloc: Global,
+    inputs: &[Input],
+    environment: &Environment,
+) -> Result<Printout, Fault>
+    ensures merged { IfOk result (IsMerge environment.now inputs.now) }
+    ensures refused { IfErr result (RefusesInputs environment.now inputs.now) }
+{
+    let gathering = gather(alloc, inputs, environment)?;
+    printout_of(alloc, gathering, environment)
 }
 
 // What is demanded says this of the version of the package.

@@ -2,6 +2,7 @@ pub mod Standard
 pub mod RunFiles
 pub mod RunReplies
 pub mod Run
+pub mod Body
 pub use Rattle.devices.specs.Device
 pub use Rattle.devices.specs.Folder
 pub use Rattle.faults.specs.Code

@@ -21,10 +21,11 @@ ghost use Rattle.inputs.specs.Streams.{ReadsUpTo};
 ghost use Rattle.command_line.specs.Plan.{Asks, standard};
 ghost use Rattle.pep_tool.specs.Run.{PrintsReply, Refuses, Tells, TellsRefusal, WritesLine};
 
+mod body;
 mod reading;
 mod reply;
 
-use crate::write::write_text;
+use crate::write::{write_printed, write_text};
 use command_line::plan_of;
 use devices::{Counted, Disk, Folder, Sink, Source};
 use faults::Fault;
@@ -194,7 +195,7 @@ fn print_reply<D: Folder, I: Source, O: Sink>(
 {
     let plan = plan_of(alloc, words)?;
     let reply = reply_to(alloc, folder, &plan, input)?;
-    write_text(output, reply.text.as_str())?;
+    write_printed(output, &reply.body)?;
     Ok(reply.status)
 }
 

@@ -47,35 +47,52 @@ ghost use Rattle.pep_tool.specs.RunReplies.{
   answer_status,
   check_asked,
 };
+ghost use Rattle.pep_tool.specs.Body.{body_text};
 ghost use Rattle.pep_tool.specs.Standard.{standard_environment};
 
+use crate::program::body::Body;
 use crate::program::reading::{PIECE, kind_of, read_environment, read_file, read_inputs};
 use crate::standard::standard_environment;
 use command_line::Plan;
 use devices::{Folder, Source};
 use faults::{ArgumentFault, Cause, Fault, Place};
 use inputs::{
-    Kind, check_bytes, gather_reader, lines_text, list_of, merge_bytes, project_of, text_of,
+    Kind, check_bytes, gather_reader, lines_text, list_of, merge_printout, printout_of, project_of,
 };
 use pep_marker::Name;
 use pep_require::Requirement;
-use pep_table::Answer;
+use pep_table::{Answer, Printout};
 use pep_version::Version;
 use std::alloc::Global;
 
 /// What is printed, and the exit status.
-#[derive(Debug, Drop)]
+#[derive(Drop)]
 pub(crate) struct Reply {
-    pub(crate) text: String,
+    pub(crate) body: Body,
     pub(crate) status: u8,
 }
 
 impl Reply {
     // A text, at status 0.
     fn of_text(text: String) -> Reply
-        ensures { result ≡ record { text = text; status = 0 } }
+        ensures text { body_text result.body ≡ string_bytes text }
+        ensures status { result.status ≡ 0 }
     {
-        Reply { text, status: 0 }
+        Reply {
+            body: Body::Text(text),
+            status: 0,
+        }
+    }
+
+    // The text of a table, at status 0.
+    fn of_table(printout: Printout) -> Reply
+        ensures text { body_text result.body ≡ printout }
+        ensures status { result.status ≡ 0 }
+    {
+        Reply {
+            body: Body::Table(printout),
+            status: 0,
+        }
     }
 }
 
@@ -90,7 +107,7 @@ pub(crate) fn reply_to<D: Folder, I: Source>(
     ensures no_failure { OnOk result ((I.device input.new).failed ≡ false) }
     ensures reply { IfOk result (λ reply. IsReply (D.file_at folder.now) D.File.left
         D.File.device (request plan.now) (I.left input.old) (I.left input.new)
-        (string_bytes reply.text) reply.status) }
+        (body_text reply.body) reply.status) }
     ensures refused { IfErr result (λ fault. (fault ≡ no_memory)
         ⊎ RefusesRequest (D.file_at folder.now) D.File.left D.File.device (request plan.now)
         (I.left input.old) (I.left input.new) (I.device input.new) fault) }
@@ -100,14 +117,14 @@ pub(crate) fn reply_to<D: Folder, I: Source>(
     ensures calls { (I.device input.new).calls ≤ input_limit + 1 }
 {
     match plan {
-        Plan::Standard => Ok(Reply::of_text(merge_input(alloc, input)?)),
+        Plan::Standard => Ok(Reply::of_table(merge_input(alloc, input)?)),
         Plan::ShowVersion { text } => Ok(Reply::of_text(version_line(alloc, text.as_str())?)),
         Plan::ShowLines { group, file } => {
             Ok(Reply::of_text(file_lines(alloc, folder, group, file.as_str())?))
         }
         Plan::Merge { env, group, files } => {
-            let text = merge_files(alloc, folder, env.as_str(), group, files.as_slice())?;
-            Ok(Reply::of_text(text))
+            let printout = merge_files(alloc, folder, env.as_str(), group, files.as_slice())?;
+            Ok(Reply::of_table(printout))
         }
         Plan::Check {
             env,
@@ -175,10 +192,9 @@ fn version_line(alloc: Global, text: &str) -> Result<String, Fault>
 }
 
 // The text of the table of the input, in the standard environment: merged while it is read.
-fn merge_input<S: Source>(alloc: Global, source: &mut S) -> Result<String, Fault>
+fn merge_input<S: Source>(alloc: Global, source: &mut S) -> Result<Printout, Fault>
     requires { IsFresh (S.device source.old) }
-    ensures merged { IfOk result
-        (λ text. MergesInput (S.left source.old) (S.left source.new) (string_bytes text)) }
+    ensures merged { IfOk result (MergesInput (S.left source.old) (S.left source.new)) }
     ensures no_failure { OnOk result ((S.device source.new).failed ≡ false) }
     ensures bytes { ReadsUpTo (input_limit + 1) (S.left source.old) (S.left source.new) }
     ensures calls { (S.device source.new).calls ≤ input_limit + 1 }
@@ -188,7 +204,7 @@ fn merge_input<S: Source>(alloc: Global, source: &mut S) -> Result<String, Fault
 {
     let environment = standard_environment(alloc)?;
     let gathering = gather_reader(alloc, source, &environment)?;
-    text_of(alloc, gathering, &environment)
+    printout_of(alloc, gathering, &environment)
 }
 
 // The requirements that a list or a project file has, without an extra, or of a dependency group.
@@ -246,10 +262,9 @@ fn merge_files<D: Folder>(
     env: &str,
     group: &Option<String>,
     files: &[String],
-) -> Result<String, Fault>
-    ensures merged { IfOk result (λ text. MergesFiles (D.file_at folder.now) D.File.left
-        D.File.device env.now (option_map string_bytes group.now) (map string_bytes files.now)
-        (string_bytes text)) }
+) -> Result<Printout, Fault>
+    ensures merged { IfOk result (MergesFiles (D.file_at folder.now) D.File.left
+        D.File.device env.now (option_map string_bytes group.now) (map string_bytes files.now)) }
     ensures refused { IfErr result (λ fault. (fault ≡ no_memory)
         ⊎ RefusesMerge (D.file_at folder.now) D.File.left D.File.device env.now
         (option_map string_bytes group.now) (map string_bytes files.now) fault) }
@@ -257,7 +272,7 @@ fn merge_files<D: Folder>(
     let name = read_group(alloc, group)?;
     let environment = read_environment(alloc, folder, env)?;
     let inputs = read_inputs(alloc, folder, name.as_ref(), files)?;
-    merge_bytes(alloc, inputs.as_slice(), &environment)
+    merge_printout(alloc, inputs.as_slice(), &environment)
 }
 
 // Whether the version of the package meets the requirements of the files, in the environment of a
@@ -301,14 +316,14 @@ fn answer_printed(answer: Answer) -> (&'static str, u8)
 
 // What is printed of an answer, and its exit status.
 fn answer_reply(alloc: Global, answer: Answer) -> Result<Reply, Fault>
-    ensures text { IfOk result (λ reply. string_bytes reply.text ≡ answer_line answer) }
+    ensures text { IfOk result (λ reply. body_text reply.body ≡ answer_line answer) }
     ensures status { IfOk result (λ reply. reply.status ≡ answer_status answer) }
     ensures bound { IfOk result (λ reply. reply.status ≤ 1) }
     ensures faults { IfErr result (λ fault. fault ≡ no_memory) }
 {
     let (line, status) = answer_printed(answer);
     Ok(Reply {
-        text: String::from_str(alloc, line)?,
+        body: Body::Text(String::from_str(alloc, line)?),
         status,
     })
 }

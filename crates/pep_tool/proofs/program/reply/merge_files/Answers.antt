@@ -26,21 +26,21 @@ returns-in_err-inputs-clause-refused g c =
 
 pub returns-clause-merged : goal.returns-clause-merged
 returns-clause-merged g c =
-    merges_files string_bytes c.merge_bytes.result _ _ _ c.args.env.now
+    merges_files (λ x. x) c.merge_printout.result _ _ _ c.args.env.now
     (option_map string_bytes c.args.group.now) c.in_ok-name.name
     (map string_bytes c.args.files.now) c.in_ok-environment.environment
     c.in_ok-inputs.inputs.items c.as_slice.result.now c.in_ok-name.ensures.group
     c.in_ok-environment.ensures.environment
     (rw c.as_ref.ensures.value at c.in_ok-inputs.ensures.inputs) c.as_slice.ensures.value
-    c.merge_bytes.ensures.merged
+    c.merge_printout.ensures.merged
 
 pub returns-clause-refused : goal.returns-clause-refused
 returns-clause-refused g c =
-    merge_refused c.merge_bytes.result _ _ _ c.args.env.now
+    merge_refused c.merge_printout.result _ _ _ c.args.env.now
     (option_map string_bytes c.args.group.now) c.in_ok-name.name (map string_bytes c.args.files.now)
     c.in_ok-name.ensures.group
-    (files_refuse c.merge_bytes.result _ _ _ c.args.env.now c.in_ok-name.name
+    (files_refuse c.merge_printout.result _ _ _ c.args.env.now c.in_ok-name.name
     (map string_bytes c.args.files.now) c.in_ok-environment.environment
     c.in_ok-inputs.inputs.items c.as_slice.result.now c.in_ok-environment.ensures.environment
     (rw c.as_ref.ensures.value at c.in_ok-inputs.ensures.inputs) c.as_slice.ensures.value
-    c.merge_bytes.ensures.refused)
+    c.merge_printout.ensures.refused)

@@ -1,13 +1,12 @@
-use Rattle.std.proofs.Common.{string_bytes}
 use Rattle.std.proofs.lemmas.Result.{err_from_is_err_and}
 use Rattle.pep_tool.proofs.Refusals.{merges_input, reading_refused}
 use Rattle.pep_tool.proofs.program.reply.merge_input.Goals as goal
 
 pub returns-clause-merged : goal.returns-clause-merged
 returns-clause-merged g c =
-    merges_input string_bytes c.text_of.result _ _ c.in_ok-environment.environment
+    merges_input (λ x. x) c.printout_of.result _ _ c.in_ok-environment.environment
     c.in_ok-gathering.gathering c.in_ok-environment.ensures.environment
-    c.in_ok-gathering.ensures.table c.text_of.ensures.text
+    c.in_ok-gathering.ensures.table c.printout_of.ensures.text
 
 pub returns-in_err-gathering-clause-refused : goal.returns-in_err-gathering-clause-refused
 returns-in_err-gathering-clause-refused g c =
