@@ -22,6 +22,7 @@ use crate::taken::{joined, nothing_told, told_by};
 use crate::write::push_all;
 use arrayvec::ArrayString;
 use boxcar::tag::Tag;
+use std::convert::Infallible;
 use std::mem;
 use texts::TextOut;
 
@@ -86,53 +87,47 @@ fn hold<W: Sink>(sink: &mut W, held: &mut ArrayString<PIECE>, part: &str) -> Res
 impl<W: Sink> TextOut for Pieces<'_, W> {
     ghost use Rattle.std.specs.Prelude.{⊤};
 
-    type Fault = Failed;
+    // Where the sink has failed, parts are passed over: that it has is told at the end.
+    type Fault = Infallible;
 
     ghost tells = { ⊤ };
 
     // The name tells that it is the same sink.
     ghost written = { λ p. p.sink.ghost_name ∷ p.taken.numbers };
 
-    fn put_str(&mut self, part: &str) -> Result<(), Failed> {
+    fn put_str(&mut self, part: &str) -> Result<(), Infallible> {
         // While it isn't known what is taken, the sink may be written to.
         let before = mem::replace(&mut self.taken, nothing_told());
-        match hold(self.sink, &mut self.held, part) {
-            Ok(()) => {
-                self.taken = joined(&before, part);
-                Ok(())
-            }
-            Err(fault) => {
-                self.taken = before;
-                Err(fault)
-            }
-        }
+        let _ = hold(self.sink, &mut self.held, part);
+        self.taken = joined(&before, part);
+        Ok(())
     }
 }
 
 impl<W: Sink> Pieces<'_, W> {
-    // Takes the whole text, or tells that it didn't.
-    fn put_whole<P: Printed>(&mut self, printed: &P) -> bool
+    // Takes the whole text.
+    fn put_whole<P: Printed>(&mut self, printed: &P)
         ensures same_reference { self.new.sink.ghost_name ≡ self.old.sink.ghost_name }
-        ensures taken { result ≡ true
-            → self.new.taken.numbers ≡ self.old.taken.numbers ++ P.text printed.now }
+        ensures taken { self.new.taken.numbers ≡ self.old.taken.numbers ++ P.text printed.now }
     {
-        printed.put_text(self).is_ok()
+        match printed.put_text(self) {
+            Ok(()) => {}
+            Err(never) => match never {},
+        }
     }
 }
 
 // Writes what is still held, if no call has failed.
-fn end<W: Sink>(sink: &mut W, held: &mut ArrayString<PIECE>, is_whole: bool) -> Result<(), Failed>
+fn end<W: Sink>(sink: &mut W, held: &mut ArrayString<PIECE>) -> Result<(), Failed>
     ensures writes { OnOk result
         (Appends (W.written sink.old) (W.written sink.new) held.old.bytes) }
-    ensures was_whole { OnOk result (is_whole ≡ true) }
     ensures was_ready { OnOk result ((W.device sink.old).failed ≡ false) }
     ensures failed { (W.device sink.new).failed ≡ is_err result }
 {
-    if is_whole && !sink.failed() {
-        return write_held(sink, held);
+    if sink.failed() {
+        return Err(Failed);
     }
-    sink.give_up();
-    Err(Failed)
+    write_held(sink, held)
 }
 
 /// Writes the text to the end, in pieces of 8,192 bytes, each in as many calls as the sink wants. Of the text no more
@@ -152,11 +147,11 @@ pub fn push_pieces<W: Sink, P: Printed>(sink: &mut W, printed: &P) -> Result<(),
         held: ArrayString::new(),
         taken,
     };
-    let is_whole = pieces.put_whole(printed);
+    pieces.put_whole(printed);
     let Pieces {
         sink,
         mut held,
         taken: _,
     } = pieces;
-    end(sink, &mut held, is_whole)
+    end(sink, &mut held)
 }

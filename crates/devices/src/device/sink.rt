@@ -25,8 +25,9 @@ pub trait Sink {
         ensures bytes { WriteAppends (written self.old) (written self.new) result buf.now }
         ensures counts { CountsCall (device self.old) (device self.new) result };
 
-    /// Is used no more, as where a call has failed. Nothing is written for it.
+    /// Is used no more, as where a call has failed, since no call is left. Nothing is written for it.
     fn give_up(&mut self)
+        requires { (device self.old).calls ≡ 18446744073709551615 }
         ensures device { device self.new ≡ record (device self.old) { failed = true } }
         ensures bytes { Keeps (written self.old) (written self.new) };
 
@@ -49,7 +50,7 @@ impl<D: Write> Sink for Counted<D> {
         match self.inner.write(buf) {
             Ok(count) if count > 0 || buf.is_empty() => Ok(count),
             _ => {
-                self.give_up();
+                self.failed = true;
                 Err(Failed)
             }
         }

@@ -11,10 +11,10 @@ returns-in-Ok-clause-table g c =
     (g.S.Source.left c.take_source.new.source) c.new-nothing.result c.in-Ok.gathering c.new-nothing.ensures
     (subst (λ w. TakesSource (GathersText c.args.environment.now w)
     (g.S.Source.left c.args.source.now) (g.S.Source.left c.take_source.new.source)
-    c.new-nothing.result c.in-Ok.gathering) c.in_ok-taker.ensures.wanted
-    (subst (λ e. TakesSource (GathersText e (wanted_name c.in_ok-taker.taker.wanted))
+    c.new-nothing.result c.in-Ok.gathering) c.new-taker.ensures.wanted
+    (subst (λ e. TakesSource (GathersText e (wanted_name c.new-taker.result.wanted))
     (g.S.Source.left c.args.source.now) (g.S.Source.left c.take_source.new.source)
-    c.new-nothing.result c.in-Ok.gathering) c.in_ok-taker.ensures.environment c.in-Ok.ensures.ok))
+    c.new-nothing.result c.in-Ok.gathering) c.new-taker.ensures.environment c.in-Ok.ensures.ok))
 
 pub returns-clause-refused : goal.returns-clause-refused
 returns-clause-refused g c =
@@ -24,10 +24,10 @@ returns-clause-refused g c =
     (subst (λ w. RefusesSource (GathersText c.args.environment.now w)
     (RefusesTextIn c.args.environment.now) (g.S.Source.left c.args.source.now)
     (g.S.Source.left c.take_source.new.source) (g.S.Source.device c.take_source.new.source).failed
-    c.new-nothing.result c.in-Err.cause) c.in_ok-taker.ensures.wanted
-    (subst (λ e. RefusesSource (GathersText e (wanted_name c.in_ok-taker.taker.wanted))
+    c.new-nothing.result c.in-Err.cause) c.new-taker.ensures.wanted
+    (subst (λ e. RefusesSource (GathersText e (wanted_name c.new-taker.result.wanted))
     (RefusesTextIn e) (g.S.Source.left c.args.source.now)
     (g.S.Source.left c.take_source.new.source) (g.S.Source.device c.take_source.new.source).failed
-    c.new-nothing.result c.in-Err.cause) c.in_ok-taker.ensures.environment
+    c.new-nothing.result c.in-Err.cause) c.new-taker.ensures.environment
     c.in-Err.ensures.refused))
     c.fault_in.ensures.cause c.fault_in.ensures.memory c.fault_in.ensures.place
