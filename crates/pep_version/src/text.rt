@@ -139,7 +139,7 @@ pub fn push_public(
     Ok(())
 }
 
-/// The same as [`push_public`], wherever the text goes.
+/// The same as [`push_public`], wherever the text goes. Public for the crate of places.
 pub fn put_public<T: TextOut>(
     text: &mut T,
     release: &[u64],

@@ -286,7 +286,7 @@ impl Version {
         Ok(())
     }
 
-    /// The same as `push_text`, wherever the text goes.
+    /// The same as `push_text`, wherever the text goes. Public for the crates above, which alone name such places.
     pub fn put_text<T: TextOut>(&self, text: &mut T) -> Result<(), T::Fault>
         ensures ok { OnOk result (T.tells → T.written text.new
             ≡ T.written text.old ++ normal_text self.now) }

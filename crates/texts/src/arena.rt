@@ -41,7 +41,7 @@ struct Piece {
 pub struct Arena {
     bytes: String,
     pieces: Vec<Piece>,
-    // So many of them, those in front, are in order.
+    // So many of them, those in front, were put in order. That saves comparisons, and no order rests on it.
     sorted: usize,
 }
 

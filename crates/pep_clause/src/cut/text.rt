@@ -39,7 +39,8 @@ impl Cut {
         Ok(())
     }
 
-    /// The same as `push_text`, wherever the text goes. No memory is wanted for it.
+    /// The same as `push_text`, wherever the text goes, with no memory asked for. Public for the crates above, which
+    /// alone name such places.
     pub fn put_text<T: TextOut>(&self, text: &mut T) -> Result<(), T::Fault>
         ensures ok { OnOk result (T.tells → T.written text.new
             ≡ T.written text.old ++ cut_text self.now) }
