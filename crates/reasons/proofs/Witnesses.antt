@@ -8,16 +8,16 @@ use Rattle.pep_require.specs.Requirement.{RequirementParts, bounds}
 use Rattle.demands.specs.declared.verdict.Verdict.TheVariants.{Conflict, Nothing, Possible}
 use Rattle.demands.specs.Demand.{url}
 use Rattle.demands.specs.Gathering.{bare_entry}
-use Rattle.demands.specs.Table.{EntryDemands, EntryParts, TableDemands}
+use Rattle.demands.specs.Table.{EntryDemands, EntryParts, TableDemands, TableParts}
 use Rattle.demands.specs.Verdict.{IsVerdict}
 use Rattle.reasons.proofs.FoundClashes.{some_version}
 use Rattle.reasons.specs.Apart.{AreApart, AreRising, HasOwn}
-use Rattle.reasons.specs.Asked.{AskedParts, with_claim}
-use Rattle.reasons.specs.Claims.{ClaimDemands, PlacedParts, entered}
+use Rattle.reasons.specs.Asked.{AskedParts, with_claim, with_found}
+use Rattle.reasons.specs.Claims.{ClaimDemands, PlacedParts, entered, required}
 use Rattle.reasons.specs.ClaimSearch.{FindsApplying, FindsCounted}
 use Rattle.reasons.specs.Clash.{IsPartThatClashes}
 use Rattle.reasons.specs.ClashSearch.{AreEnough, IsLeast, StandsFor, without_extras}
-use Rattle.reasons.specs.ReasonSearch.{FindsClosed}
+use Rattle.reasons.specs.ReasonSearch.{FindsClosed, TellsClash}
 use Rattle.reasons.specs.declared.apart.Point.{Point}
 
 abbrev with_url : List ℕ → EntryParts
@@ -109,6 +109,31 @@ with_entry-half_the_line e =
     cc (ap (map (λ (q : AskedParts). map (λ (p : PlacedParts). p.number) q.claims)) e) in
     omega (arith, same)
 
+-- a claim on the second line, where one on the first was found
+pub with_claim-before_the_others : ¬ (one_asked (on_line 2 ∷ on_line 1 ∷ []) ∷ []
+    ≡ map (with_claim (on_line 2)) (one_asked (on_line 1 ∷ []) ∷ []))
+with_claim-before_the_others e =
+    let same : ◌≡◌ {A = ℕ} 2 1 =
+    cc (ap (map (λ (q : AskedParts). map (λ (p : PlacedParts). p.number) q.claims)) e) in
+    omega (arith, same)
+
+abbrev required_on : ℕ → PlacedParts
+required_on n = record { input = 1; number = n; claim = required without_marker }
+
+-- a requirement on the second line
+pub with_found-place_before : ¬ (one_asked (required_on 1 ∷ []) ∷ []
+    ≡ map (with_found 1 2 (Some without_marker)) (one_asked [] ∷ []))
+with_found-place_before e =
+    let same : ◌≡◌ {A = ℕ} 1 2 =
+    cc (ap (map (λ (q : AskedParts). map (λ (p : PlacedParts). p.number) q.claims)) e) in
+    omega (arith, same)
+
+-- two claims, whichever of them clash
+pub reason_of-last_claim_dropped : (clash : List PlacedParts) →
+    ¬ TellsClash (one_asked (on_line 1 ∷ on_line 2 ∷ []))
+    (record { name = codes "a"; verdict = Conflict; claims = on_line 1 ∷ []; clash = clash })
+reason_of-last_claim_dropped clash h = cc h.claims_are
+
 -- an entry that demands nothing but the package
 pub closed_package-open_ones_too : ¬ FindsClosed (EntryDemands bare_entry) (codes "a")
     (Some (record { name = codes "a"; verdict = Possible; claims = [] }))
@@ -118,6 +143,23 @@ closed_package-open_ones_too h = h.1 refl
 pub verdict_on-nothing_demanded_is_none : ¬ IsVerdict (TableDemands [] (codes "a")) Nothing
 verdict_on-nothing_demanded_is_none h =
     h.1 some_version.0 some_version.1 (λ d q. let never : None ≡ Some q.0 = q.1 in cc never)
+
+abbrev two_urls : EntryParts
+two_urls = record bare_entry { urls = codes "u" ∷ codes "uw" ∷ [] }
+
+abbrev two_names : TableParts
+two_names = (codes "a", bare_entry) ∷ (codes "b", two_urls) ∷ []
+
+-- a table in which the second name has two URLs
+pub verdict_on-of_the_first_name : ¬ IsVerdict (TableDemands two_names (codes "b")) Possible
+verdict_on-of_the_first_name h =
+    h.0 (
+      codes "u",
+      codes "uw",
+      (two_urls, refl, (0, lit< tt, refl)),
+      (two_urls, refl, (1, lit< tt, refl)),
+      λ e. cc e,
+    )
 
 -- a point of the first of two claims
 pub has_own-point_of_another : ¬ HasOwn (record { cut = end; owner = 0 } ∷ []) 1

@@ -2,13 +2,14 @@
 //!
 //! A hint says which claims may clash by themselves: two with different URLs, a demanded text and a claim that leaves
 //! its version out, two bounds, or claims that leave out all versions together. Nothing rests on the hint, since what
-//! it says is tried: whether the claims are enough, and whether each is needed, by points. A point is a cut that one
-//! of them alone leaves out. Each claim is tried clause by clause, against the points beside what the clause leaves
-//! out. So k claims cost k times a logarithm of k.
+//! it says is tried. If the claims of the hint are enough, they are taken, and else all claims. Points may tell that
+//! each of those that were taken is needed. A point is a cut that one of them alone leaves out. Each claim is tried
+//! clause by clause, against the points beside what the clause leaves out. So k claims cost k times a logarithm of k.
 //!
-//! Where that tells nothing, as of demanded texts and URLs, the search divides. What the claims in hand demand is an
-//! entry, and each half of the others is searched beside it: first the second half beside all of the first one, and
-//! then the first half beside those that were found in the second. What isn't needed falls away with its half.
+//! Where no points tell that, as of a pair of claims, the search divides what was taken. What the claims in hand
+//! demand is an entry, and each half of the others is searched beside it: first the second half beside all of the
+//! first one, and then the first half beside those that were found in the second. What isn't needed falls away with
+//! its half. So two claims are divided if a pair was hinted at and is enough, and all claims if no hint was.
 
 ghost use Rattle.std.specs.Prelude.{◌≡◌, ◌++◌, IfErr, IfOk, IsTrue, List, [], length, map};
 ghost use Rattle.demands.specs.Gathering.{bare_entry};
