@@ -21,7 +21,7 @@ pub trait Kept: Ord + Drop {
     /// Holds of every value.
     ghost is_value: { Self → Type 0 } = { λ _. ⊤ };
 
-    /// Holds of the text of every value, and of no other.
+    /// Holds of the texts of which `of_text` makes a value.
     ghost is_text: { List ℕ → Type 0 } = { λ _. ⊤ };
 
     /// The text.
