@@ -62,8 +62,8 @@ fn write_held<W: Sink>(sink: &mut W, held: &mut ArrayString<PIECE>) -> Result<()
     Ok(())
 }
 
-// Holds a part more, and writes what there is no room for.
-fn hold<W: Sink>(sink: &mut W, held: &mut ArrayString<PIECE>, part: &str) -> Result<(), Failed>
+// Writes what is held, and then holds the part, or writes it too if it is longer than a piece.
+fn make_room<W: Sink>(sink: &mut W, held: &mut ArrayString<PIECE>, part: &str) -> Result<(), Failed>
     ensures taken { OnOk result ((taken : List ℕ)
         → TellsTaken taken (W.written sink.old) held.old.bytes
         → TellsTaken (taken ++ part.now) (W.written sink.new) held.new.bytes) }
@@ -73,15 +73,25 @@ fn hold<W: Sink>(sink: &mut W, held: &mut ArrayString<PIECE>, part: &str) -> Res
     if sink.failed() {
         return Err(Failed);
     }
-    if held.try_push_str(part).is_ok() {
-        return Ok(());
-    }
     write_held(sink, held)?;
     if held.try_push_str(part).is_ok() {
         return Ok(());
     }
     push_all(sink, part.as_bytes())?;
     Ok(())
+}
+
+// Holds a part more, and writes what there is no room for. Once the sink has failed, it doesn't matter what is held.
+#[inline(always)]
+fn hold<W: Sink>(sink: &mut W, held: &mut ArrayString<PIECE>, part: &str)
+    ensures taken { (W.device sink.new).failed ≡ false → (taken : List ℕ)
+        → TellsTaken taken (W.written sink.old) held.old.bytes
+        → TellsTaken (taken ++ part.now) (W.written sink.new) held.new.bytes }
+    ensures was_ready { (W.device sink.new).failed ≡ false → (W.device sink.old).failed ≡ false }
+{
+    if held.try_push_str(part).is_err() {
+        let _ = make_room(sink, held, part);
+    }
 }
 
 impl<W: Sink> TextOut for Pieces<'_, W> {
@@ -95,10 +105,11 @@ impl<W: Sink> TextOut for Pieces<'_, W> {
     // The name tells that it is the same sink.
     ghost written = { λ p. p.sink.ghost_name ∷ p.taken.numbers };
 
+    #[inline(always)]
     fn put_str(&mut self, part: &str) -> Result<(), Infallible> {
         // While it isn't known what is taken, the sink may be written to.
         let before = mem::replace(&mut self.taken, nothing_told());
-        let _ = hold(self.sink, &mut self.held, part);
+        hold(self.sink, &mut self.held, part);
         self.taken = joined(&before, part);
         Ok(())
     }

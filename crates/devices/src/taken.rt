@@ -34,6 +34,7 @@ impl<'a> Names<Longer<'a>> for Behind {
 }
 
 /// What the sink tells, behind its mark.
+#[inline(always)]
 pub(crate) fn told_by<W: Sink>(sink: &W) -> Tag
     ensures { result.numbers ≡ marked (W.written sink.now) }
 {
@@ -41,6 +42,7 @@ pub(crate) fn told_by<W: Sink>(sink: &W) -> Tag
 }
 
 /// Nothing is told.
+#[inline(always)]
 pub(crate) fn nothing_told() -> Tag
     ensures { result.numbers ≡ marked None }
 {
@@ -48,6 +50,7 @@ pub(crate) fn nothing_told() -> Tag
 }
 
 /// What was taken, with a part behind it.
+#[inline(always)]
 pub(crate) fn joined(taken: &Tag, part: &str) -> Tag
     ensures { result.numbers ≡ taken.now.numbers ++ part.now }
 {
