@@ -279,6 +279,7 @@ class Refusals(unittest.TestCase):
             (lambda: tubrambutan.admits(">=1", "x"), tubrambutan.InvalidVersion, "'x': the text is no version (code 62 1)"),
             (lambda: merge(lists=["a"], environment=STANDARD)["a"].admits("x"), tubrambutan.InvalidVersion, "'x': the text is no version (code 62 1)"),
             (lambda: merge(environment={}), Refused, "the environment lacks one of the eleven variables (code 59 23)"),
+            (lambda: merge(environment="x = "), Refused, "environment: a project file or the environment file is no TOML document, or nests too deep (code 52)"),
         ]
         for call, kind, message in rows:
             with self.subTest(message), self.assertRaises(kind) as caught:

@@ -63,8 +63,17 @@ class Types(unittest.TestCase):
             (lambda: SpecifierSet(">=1").contains(1.10), "version"),  # type: ignore[arg-type]
             (lambda: Requirement(5), "requirement"),  # type: ignore[arg-type]
             (lambda: Marker(5), "marker"),  # type: ignore[arg-type]
-            (lambda: Marker("extra == 'a'").evaluate({"extra": 5}), "variable"),  # type: ignore[dict-item]
-            (lambda: Marker("extra == 'a'").evaluate({"os_name": None}), "variable"),
+            (lambda: Marker("extra == 'a'").evaluate({"extra": 5}), "text of 'extra'"),  # type: ignore[dict-item]
+            (lambda: Marker("extra == 'a'").evaluate({"os_name": None}), "text of 'os_name'"),
+            (lambda: Marker("extra == 'a'").evaluate(1), "environment"),  # type: ignore[arg-type]
+            (lambda: tubrambutan.requirements_of(5), "metadata"),  # type: ignore[arg-type]
+            (lambda: tubrambutan.requirements_file(1), "path"),  # type: ignore[arg-type]
+            (lambda: tubrambutan.audit(5), "path"),  # type: ignore[arg-type]
+            (lambda: tubrambutan.audit([5]), "path"),  # type: ignore[list-item]
+            (lambda: table.save(b"a.table"), "path"),  # type: ignore[arg-type]
+            (lambda: table.diff(1), "other"),  # type: ignore[arg-type]
+            (lambda: table.admits_each(["demo"]), "versions"),  # type: ignore[list-item]
+            (lambda: table["a"].filter("12"), "versions"),
             (lambda: canonicalize_name(5), "name"),  # type: ignore[arg-type]
             (lambda: tubrambutan.requirement_text(5), "requirement"),  # type: ignore[arg-type]
             (lambda: tubrambutan.admits(5, "1"), "clause"),  # type: ignore[arg-type]
@@ -77,6 +86,10 @@ class Types(unittest.TestCase):
             with self.subTest(argument), self.assertRaisesRegex(TypeError, argument):
                 call()
         self.assertEqual([it in table for it in (5, None, "a")], [False, False, True])
+        made: "list[tuple[object, str]]" = [(table, "extras"), (table["a"], "name"), (table["a"], "ranges")]
+        for it, attribute in made:
+            with self.subTest(attribute), self.assertRaisesRegex(AttributeError, attribute):
+                setattr(it, attribute, ())
         for name, version in (("a ", "1.5"), ("a 1.5", "")):
             with self.subTest(name), self.assertRaises(InvalidName):
                 table.admits_each([(name, version)])

@@ -15,6 +15,7 @@ from ._names import canonicalize_name
 from ._refused import InvalidName, InvalidRequirement, InvalidSpecifier, InvalidVersion
 from ._requirement import Requirement
 from ._specifiers import SpecifierSet
+from ._texts import many_in, path_in
 from ._version import Version
 from ._why import clashes
 
@@ -80,7 +81,8 @@ class _Installed(NamedTuple):
 
 def _folders(path: Union[Path, Iterable[Path]]) -> list[str]:
     """Returns the folders that are named, which are there."""
-    folders = [os.fspath(it) for it in ([path] if isinstance(path, (str, os.PathLike)) else path)]
+    them: list[object] = [path] if isinstance(path, (str, os.PathLike)) else many_in(path, "path", "folders")
+    folders = [path_in(it, "path") for it in them]
     for it in folders:
         if not os.path.isdir(it):
             raise NotADirectoryError(errno.ENOTDIR, os.strerror(errno.ENOTDIR), it)

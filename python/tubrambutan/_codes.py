@@ -19,7 +19,7 @@ MEANINGS: dict[tuple[int, ...], str] = {
     (57, 33, 15): "`~=` stands with a release of one number",
     (57, 33, 16): "a number of the version is above 18446744073709551615",
     (57, 34): "what follows the `@` is no URL",
-    (57, 35, 26): "what follows the `;` is no marker",
+    (57, 35, 26): "the marker (in a requirement, what follows the `;`) is none",
     (57, 35, 27): "the marker has more than 64 parentheses open at once, or more than 1,024 comparisons",
     (57, 36): "a `)` is missing, or something follows the clauses or the URL",
     (57, 37): "the line begins with `-`",

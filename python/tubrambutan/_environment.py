@@ -70,5 +70,5 @@ def file_of(environment: Mapping[str, Optional[str]]) -> bytes:
     Raises:
         TypeError: one has no text.
     """
-    pairs = ((text_in(name, "a variable's name"), text_in(text, "a variable's text")) for name, text in environment.items())
+    pairs = ((text_in(name, "environment: the name of a variable"), text_in(text, f"environment: the text of {name!r}")) for name, text in environment.items())
     return encoded("".join(f"{_string(name)} = {_string(text)}\n" for name, text in pairs))

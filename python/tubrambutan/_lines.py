@@ -8,6 +8,8 @@ import re
 import shlex
 from typing import Iterable, Iterator, NamedTuple, Optional, Union
 
+from ._texts import path_in, text_in
+
 _COMMENT = re.compile(r"(?:^|\s+)#.*$")
 _OPTION = re.compile(r"(?:^|\s)-")
 _INCLUDE = re.compile(r"(?:-r|-c|--requirement|--constraint)(?:\s+|=|(?<=-[rc]))(\S.*)")
@@ -78,7 +80,7 @@ def requirements_of(metadata: Union[str, bytes], file: str = "METADATA") -> Meta
         ValueError: the metadata has no name or no version.
         UnicodeDecodeError: bytes aren't UTF-8.
     """
-    text = metadata.decode() if isinstance(metadata, bytes) else metadata
+    text = metadata.decode() if isinstance(metadata, bytes) else text_in(metadata, "metadata that isn't bytes")
     message = email.message_from_string(text)
     name, version = message["Name"], message["Version"]
     if not name or not version:
@@ -165,7 +167,7 @@ def requirements_file(path: Union[str, os.PathLike[str]]) -> RequirementsFile:
         OSError: a file can't be read.
         UnicodeDecodeError: a file isn't UTF-8.
     """
-    name = os.fspath(path)
+    name = path_in(path, "path")
     if name.endswith((".toml", ".table")):
         raise ValueError(f"{name} is no requirements file by its name: write merge({name!r}) to read it")
     if _URL.match(name):

@@ -58,7 +58,9 @@ class Refused(ValueError):
 
     def _where(self) -> str:
         """Returns what is at fault, with a colon, or nothing where that isn't known."""
-        told = [f"input {self.input}"] if self.input else []
+        # (59 says in its words that it is the environment)
+        is_environment = self.is_environment and self.codes[0] != 59
+        told = ["environment"] if is_environment else [f"input {self.input}"] if self.input else []
         if self.subject is not None:
             # (a path is shown whole; a text stands in quotes)
             is_short = len(self.subject) <= _SHOWN or self.subject[0] not in "'\""

@@ -55,8 +55,10 @@ class Marker:
         Raises:
             UndefinedComparison: `~=` stands with `extra`, has no version on its left, or makes no clause with its right, as `~= "3"`.
             Refused: a variable is none of the eleven nor `extra`, or has a control character.
-            TypeError: a variable's text is none.
+            TypeError: the environment is no mapping, or a variable's text is none.
         """
+        if environment is not None and not isinstance(environment, Mapping):
+            raise TypeError(f"environment is a mapping, and not {type(environment).__name__}")
         variables: dict[str, Optional[str]] = {**default_environment(), **(environment or {})}
         if variables.get("extra", "") is None:
             del variables["extra"]

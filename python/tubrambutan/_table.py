@@ -11,12 +11,12 @@ import re
 import secrets
 from typing import Iterable, Iterator, Mapping, NamedTuple, Sequence, TypeVar, Union
 
-from ._cuts import range_of
+from ._cuts import Range, range_of
 from ._library import TABLE, Inputs
 from ._names import canonicalize_name
 from ._refused import InvalidName
 from ._shards import count_of, shards_of_names
-from ._texts import encoded, text_in
+from ._texts import encoded, path_in, text_in
 from ._version import Version, text_of
 
 AnyVersion = TypeVar("AnyVersion", bound=Union[Version, str])
@@ -50,8 +50,18 @@ def _admitted(inputs: Inputs, asked: Sequence[tuple[str, Union[Version, str]]], 
     return (answer == _FINAL or (answer == _PRE_RELEASE and prereleases) for answer in answers)
 
 
-class Package:
-    """What a table demands of a package.
+class _Unchanged:
+    """What is as it was made: no attribute can be set."""
+
+    def __setattr__(self, name: str, value: object) -> None:
+        raise AttributeError(f"a {type(self).__name__} can't be changed, and so not its {name}")
+
+    def __delattr__(self, name: str) -> None:
+        raise AttributeError(f"a {type(self).__name__} can't be changed, and so not its {name}")
+
+
+class Package(_Unchanged):
+    """What a table demands of a package. Immutable.
 
     >>> import tubrambutan
     >>> demo = tubrambutan.merge(lists=["demo[b,a] @ https://x.test/demo.whl"])["demo"]
@@ -67,23 +77,35 @@ class Package:
         ranges: the versions that every clause but `===` admits, as sorted ranges.
     """
 
+    name: str
+    verdict: str
+    extras: tuple[str, ...]
+    urls: tuple[str, ...]
+    texts: tuple[str, ...]
+    ranges: tuple[Range, ...]
+    _given: tuple[str, bytes]
+    _inputs: Inputs
+
     def __init__(self, text: str, environment: bytes) -> None:
-        self._given = text, environment
         first, *lines = text.split("\n")[:-1]
         found = _OF_NAME.fullmatch(first)
         if not found:
             raise AssertionError(f"no line of a name: {first!r}")
-        self.name, self.verdict = found.groups()
         items: dict[str, list[str]] = {"extra": [], "url": [], "text": [], "range": []}
         for line in lines:
             kind, _, item = line[2:].partition(" ")
             items[kind].append(item)
-        self.extras = tuple(items["extra"])
-        self.urls = tuple(items["url"])
-        self.texts = tuple(items["text"])
-        self.ranges = tuple(map(range_of, items["range"]))
-        # (the lines of one name are a table too)
-        self._inputs = Inputs(environment, [(TABLE, encoded(text))])
+        self.__dict__.update(
+            name=found[1],
+            verdict=found[2],
+            extras=tuple(items["extra"]),
+            urls=tuple(items["url"]),
+            texts=tuple(items["text"]),
+            ranges=tuple(map(range_of, items["range"])),
+            _given=(text, environment),
+            # (the lines of one name are a table too)
+            _inputs=Inputs(environment, [(TABLE, encoded(text))]),
+        )
 
     def admits(self, version: Union[Version, str], prereleases: bool = False) -> bool:
         """Returns whether a version meets all that is demanded, and is no pre-release unless these are wanted. In a conflict none does.
@@ -109,8 +131,11 @@ class Package:
 
         Raises:
             InvalidVersion: one of them is no version.
+            TypeError: one of them is neither a version nor a text, or a text stands in place of many.
             Refused: what is demanded has more than 16,777,216 bytes, which no input may have.
         """
+        if isinstance(versions, str):
+            raise TypeError("versions is many versions, and not one")
         them = list(versions)
         return itertools.compress(them, _admitted(self._inputs, [(self.name, it) for it in them], prereleases))
 
@@ -150,8 +175,8 @@ class Difference(NamedTuple):
         return any(names for names in self)
 
 
-class Table(Mapping[str, Package]):
-    """The table of all that inputs demand in an environment: a mapping of names to what is demanded of each package.
+class Table(_Unchanged, Mapping[str, Package]):
+    """The table of all that inputs demand in an environment: a mapping of names to what is demanded of each package. Immutable.
 
     Tables are equal where their texts are. A name needn't be normalized.
 
@@ -175,10 +200,12 @@ class Table(Mapping[str, Package]):
         extras: the extras in whose environments the markers were judged, in order, if they are several; else none.
     """
 
+    extras: tuple[str, ...]
+    _printed: str
+    _environment: bytes
+
     def __init__(self, text: str, environment: bytes, extras: tuple[str, ...] = ()) -> None:
-        self._printed = text
-        self._environment = environment
-        self.extras = extras
+        self.__dict__.update(_printed=text, _environment=environment, extras=extras)
 
     @property
     def text(self) -> str:
@@ -230,9 +257,13 @@ class Table(Mapping[str, Package]):
         Raises:
             InvalidName: a name is none.
             InvalidVersion: a version is none.
+            TypeError: versions has other things than pairs of a name and a version.
             Refused: the table has more than 16,777,216 bytes, which no input may have.
         """
-        return list(_admitted(self._inputs, list(versions), prereleases))
+        asked = list(versions)
+        if not all(isinstance(it, (tuple, list)) and len(it) == 2 for it in asked):
+            raise TypeError("versions is pairs of a name and a version")
+        return list(_admitted(self._inputs, asked, prereleases))
 
     def __or__(self, other: Table) -> Table:
         if not isinstance(other, Table):
@@ -258,7 +289,10 @@ class Table(Mapping[str, Package]):
 
         Raises:
             Refused: the environments differ.
+            TypeError: the other one is no table.
         """
+        if not isinstance(other, Table):
+            raise TypeError(f"other is a Table, and not {type(other).__name__}")
         both = self | other
         kinds: dict[str, list[str]] = {kind: [] for kind in Difference._fields}
         for name in both:
@@ -321,7 +355,7 @@ class Table(Mapping[str, Package]):
             OSError: the file can't be written.
             AttributeError: the table is one of several extras, which has no text.
         """
-        text, target = self.text, os.fspath(path)
+        text, target = self.text, path_in(path, "path")
         folder, name = os.path.split(target)
         beside = os.path.join(folder, f".{name}.{secrets.token_hex(8)}")
         try:

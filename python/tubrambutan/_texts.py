@@ -2,7 +2,8 @@
 
 from __future__ import annotations
 
-from typing import Sequence
+import os
+from typing import Iterable, Sequence, Union
 
 
 def encoded(text: str) -> bytes:
@@ -35,3 +36,26 @@ def text_in(value: object, argument: str) -> str:
     if not isinstance(value, str):
         raise TypeError(f"{argument} is a str, and not {type(value).__name__}")
     return value
+
+
+def path_in(value: object, argument: str) -> str:
+    """Returns the path that an argument is.
+
+    Raises:
+        TypeError: it is none. The message names the argument.
+    """
+    path: Union[str, bytes, None] = os.fspath(value) if isinstance(value, (str, os.PathLike)) else None
+    if not isinstance(path, str):
+        raise TypeError(f"{argument} is a str or os.PathLike, and not {type(value).__name__}")
+    return path
+
+
+def many_in(value: object, argument: str, of: str) -> list[object]:
+    """Returns the items of an argument; a text alone in their place would be taken letter by letter.
+
+    Raises:
+        TypeError: it has none. The message names the argument.
+    """
+    if isinstance(value, (str, bytes)) or not isinstance(value, Iterable):
+        raise TypeError(f"{argument} takes {of}, one alone in a list too, and not {type(value).__name__}")
+    return list(value)
