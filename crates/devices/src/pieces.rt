@@ -141,7 +141,7 @@ fn end<W: Sink>(sink: &mut W, held: &mut ArrayString<PIECE>) -> Result<(), Faile
     write_held(sink, held)
 }
 
-/// Writes the text to the end, in pieces of some 8 KiB, each in as many calls as the sink wants. Of the text no more
+/// Writes the text to the end, in pieces of 8,192 bytes, each in as many calls as the sink wants. Of the text no more
 /// is held than a piece, and no memory is asked for.
 ///
 /// `Ok` means that exactly the text was written. Where the sink fails the text ends there; no clause says how much of it

@@ -30,7 +30,7 @@ pub fn write_text<W: Sink>(sink: &mut W, text: &str) -> Result<(), Fault>
     }
 }
 
-/// Writes the whole text, which is never held as a whole, in pieces of some 8 KiB.
+/// Writes the whole text, which is never held as a whole, in pieces of 8,192 bytes.
 ///
 /// `Ok` means that exactly this text was written. Where the sink fails the text ends there, and the fault is a
 /// `WriteFault`, 63, which lies in no input.

@@ -35,7 +35,7 @@ pub trait Sink {
     fn calls(&self) -> u64
         ensures { result ≡ (device self.now).calls };
 
-    /// Whether a call failed, or none was left.
+    /// Whether a call failed.
     fn failed(&self) -> bool
         ensures { result ≡ (device self.now).failed };
 }
