@@ -6,7 +6,6 @@
 
 mod arena;
 mod bytes;
-mod compare;
 mod heads;
 mod limits;
 mod out;
