@@ -1,3 +1,3 @@
 pub mod Demand
-pub mod Behind
+pub mod Taken
 pub mod Plain

@@ -17,7 +17,7 @@ pub(crate) struct Demand {
 }
 
 // What the clause demands, but for clauses that demand a text, and versions without places.
-fn demand_of(clause: &Clause) -> Option<Demand>
+pub(crate) fn demand_of(clause: &Clause) -> Option<Demand>
     ensures demand { IfSome result (IsDemandOf clause.now) }
     ensures valid { IsValidClause clause.now }
 {

@@ -1,10 +1,13 @@
-//! What stands behind the name of a requirement line, without a requirement: most lines are a name and clauses whose
-//! version is a release, which is read number by number, and other clauses are remembered by their texts.
+//! What the lines of a list demand: a sink that takes the parts of a line without a requirement. The clauses of most lines
+//! have a version that is a release, which is read number by number. Other clauses are remembered by their texts, and so
+//! are markers.
 #![tactic(auto)]
 
 mod demand;
 mod memory;
 mod plain;
-mod reading;
+mod sink;
+mod taking;
+mod text;
 
-pub use crate::memory::ClauseMemory;
+pub use crate::sink::{DemandSink, LineSoFar};

@@ -94,7 +94,7 @@ impl OfText for Remembered {
 /// Remembers clauses by their texts, with what they demand, but for those whose version is a release, which are read as
 /// fast as they are found. Contracts see nothing of it: what is remembered saves time alone.
 #[derive(Drop)]
-pub struct ClauseMemory {
+pub(crate) struct ClauseMemory {
     memory: TextMemory<Remembered>,
 }
 
@@ -111,7 +111,7 @@ impl Model for ClauseMemory {
 
 impl ClauseMemory {
     /// Nothing is remembered yet.
-    pub fn new(alloc: Global) -> ClauseMemory {
+    pub(crate) fn new(alloc: Global) -> ClauseMemory {
         ClauseMemory {
             memory: TextMemory::new(alloc, MOST),
         }

@@ -2,12 +2,12 @@
 
 ghost use Rattle.std.specs.Prelude.{◌≡◌, ◌<◌, ◌≤◌, ◌++◌, ◌∷◌, IfSome, List, ℕ, false, length};
 ghost use Rattle.texts.specs.Runs.{begins, without_leading_blanks};
-ghost use Rattle.clause_memory.specs.Behind.{DemandsFront, goes_on};
+ghost use Rattle.clause_memory.specs.Taken.{DemandsFront, goes_on};
 ghost use Rattle.clause_memory.specs.Demand.{demanded_ranges};
 ghost use Rattle.clause_memory.specs.Plain.{MakesDemand, NumberFrom, ReadsOperand, leaves_out};
 
 use crate::demand::Demand;
-use crate::reading::goes_on;
+use crate::taking::goes_on;
 use pep_clause::Op;
 use places::Bounds;
 use texts::without_leading_blanks;

@@ -29,7 +29,7 @@ use Rattle.demands.proofs.TakenClauses.{all_meets}
 pub kept-normal : (l h : Cut) (s : List Range) → AreKept l h s → IsNormal (kept_versions l h s)
 kept-normal l h s k = IsNormal-joined (range l h) s (IsNormal-range l h k.low k.high) k.beside
 
-last_two : (a b j : Bool) → ((a && b) && j) ≡ ((a && j) && b)
+pub last_two : (a b j : Bool) → ((a && b) && j) ≡ ((a && j) && b)
 last_two true true true = refl
 last_two true true false = refl
 last_two true false true = refl
@@ -173,38 +173,3 @@ kept-both l h left sets between both f g n m e i =
     ∙ turned (is_point sets cut) (is_point (range l h) cut) (is_point left cut)
     ∙ ap (λ b. is_point (range l h) cut && b) (sym (is_point-joined left sets cut))
     ∙ sym (is_point-joined (range l h) (joined left sets) cut))
-
--- ---- where a part is left out
-
-pub part-kept : (l h m n : Cut) → AreKept l h all_versions → IsPart (record { low = m; high = n }) →
-    AreKept l h (outside m n)
-part-kept l h m n k p = record {
-  low = k.low;
-  high = k.high;
-  beside = IsNormal-outside m n p.low p.high p.in_order;
-}
-
-pub part-left_out : (l h m n : Cut) → AreKept l h all_versions → IsPart (record { low = m; high = n }) →
-    IsIntersection (kept_versions l h all_versions) (outside m n) (kept_versions l h (outside m n))
-part-left_out l h m n k p =
-    let normal = (part-kept l h m n k p).beside in
-    met-versions l h all_versions (outside m n) (outside m n) k normal (all_meets (outside m n) normal)
-
--- not all versions are kept
-pub part-missing : (l h m n : Cut) → cut_cmp m n ≡ Less → kept_versions l h (outside m n) ≢ all_versions
-part-missing l h m n less e =
-    let under : is_below m end ≡ true = ap is_lt (below-not_above cut_total m n end less (end-below_none n)) in
-    let inside : is_point all_versions m ≡ true = all_points m ∙ under in
-    let out : is_point (outside m n) m ≡ false =
-    outside_points m n m
-    ∙ (λ i. (not_below_itself cut_total m i && true) || (under i && not (is_lt (less i)))) in
-    let missing : is_point (kept_versions l h (outside m n)) m ≡ false =
-    is_point-joined (range l h) (outside m n) m ∙ (λ i. is_point (range l h) m && out i)
-    ∙ and-false (is_point (range l h) m) in
-    let both : true ≡ false = sym inside ∙ (λ i. is_point (sym e i) m) ∙ missing in
-    cc both
-
-pub some-missing : (l h : Cut) (o : Option Bounds) → IfSome o IsPart → is_some o ≡ true →
-    kept_versions l h (left_out_versions o) ≢ all_versions
-some-missing l h None p e = cc e
-some-missing l h (Some b) p e = part-missing l h b.low b.high p.in_order

@@ -11,4 +11,6 @@ pub mod EntryTexts
 pub mod SameLemmas
 pub mod OwnEntry
 pub mod BoundedEntries
+pub mod LineSets
+pub mod LineParts
 mod Witnesses

@@ -16,7 +16,7 @@ pub normal_sets : (sets : List (List Range)) → AreNormal sets → IsNormal (jo
 normal_sets [] h = IsNormal-all_versions
 normal_sets (s ∷ rest) h = IsNormal-joined s (joined_sets rest) h.0 (normal_sets rest h.1)
 
-points_behind : (sets : List (List Range)) (t : List Range) (c : Cut) →
+pub points_behind : (sets : List (List Range)) (t : List Range) (c : Cut) →
     is_point (joined_sets (sets ++ t ∷ [])) c ≡ (is_point (joined_sets sets) c && is_point t c)
 points_behind [] t c =
     is_point-joined t all_versions c ∙ and_comm (is_point t c) (is_point all_versions c)
@@ -26,7 +26,7 @@ points_behind (s ∷ rest) t c =
     ∙ sym (and_assoc (is_point s c) (is_point (joined_sets rest) c) (is_point t c))
     ∙ ap (λ b. b && is_point t c) (sym (is_point-joined s (joined_sets rest) c))
 
-normal_behind : (sets : List (List Range)) (t : List Range) → AreNormal sets → IsNormal t →
+pub normal_behind : (sets : List (List Range)) (t : List Range) → AreNormal sets → IsNormal t →
     AreNormal (sets ++ t ∷ [])
 normal_behind [] t h n = (n, tt)
 normal_behind (s ∷ rest) t h n = (h.0, normal_behind rest t h.1 n)

@@ -13,4 +13,5 @@ pub mod PartialJoins
 pub mod IntersectionLaws
 pub mod EntryLaws
 pub mod Finished
-pub mod LineVersions
+pub mod LineDemands
+pub mod LineSets

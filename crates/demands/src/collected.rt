@@ -56,6 +56,21 @@ impl Collected {
         }
     }
 
+    /// No text any more.
+    pub(crate) fn clear(&mut self)
+        ensures { self.new ≡ [] }
+    {
+        self.texts.clear();
+        self.limit = SPARE;
+    }
+
+    /// Whether there is no text.
+    pub(crate) fn is_empty(&self) -> bool
+        ensures { IsTrue result → self.now ≡ [] }
+    {
+        self.texts.len() == 0
+    }
+
     /// Does nothing. Its clause tells that the texts are in order.
     pub(crate) fn in_order(&self)
         ensures { IsAscending self.now }
@@ -115,6 +130,18 @@ impl Collected {
         self.in_order();
         for value in values {
             self.put_value(value)?;
+        }
+        Ok(())
+    }
+
+    /// Takes the texts that others are. The only fault is `NoMemory`, 42; what is collected is then of no more use.
+    pub(crate) fn join(&mut self, others: &Collected) -> Result<(), TableFault>
+        ensures joined { OnOk result (IsUnion self.old others.now self.new) }
+        ensures faults { IfErr result (λ e. e ≡ TableFault.NoMemory) }
+    {
+        self.in_order();
+        for index in 0..others.texts.len() {
+            self.put(others.texts.text(index))?;
         }
         Ok(())
     }

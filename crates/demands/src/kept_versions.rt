@@ -1,6 +1,6 @@
 //! The versions that are demanded of a package so far.
 
-ghost use Rattle.std.specs.Prelude.{◌≡◌, ◌∷◌, [], All, IfErr, IfOk, OnOk, option_map};
+ghost use Rattle.std.specs.Prelude.{◌≡◌, ◌∷◌, [], All, IfErr, IfOk, OnOk, map, option_map};
 ghost use Rattle.specifiers.specs.Valid.{IsValidClause};
 ghost use Rattle.pep_clause.specs.Cut.{IsCut};
 ghost use Rattle.pep_clause.specs.OperatorTable.{outside, range};
@@ -9,12 +9,14 @@ ghost use Rattle.pep_require.specs.View.{target_parts};
 ghost use Rattle.demands.specs.Finished.{kept_ranges};
 ghost use Rattle.demands.specs.Gathering.{MeetsClauses, target_clauses};
 ghost use Rattle.demands.specs.Join.{IsIntersection};
-ghost use Rattle.demands.specs.PartialJoins.{beside_versions};
+ghost use Rattle.demands.specs.LineSets.{left_over};
+ghost use Rattle.demands.specs.PartialJoins.{beside_versions, joined_sets};
 
 use crate::beside::Beside;
+use crate::entry::versions_copied;
 use crate::fault::TableFault;
 use crate::kept_ranges::KeptRanges;
-use crate::line_versions::LineVersions;
+use crate::line_demands::LineDemands;
 use pep_clause::{Clause, VersionSet};
 use pep_require::Target;
 use places::{Bounds, Place};
@@ -78,21 +80,42 @@ impl KeptVersions {
         self.high = self.high.earlier(bounds.high);
     }
 
-    /// Keeps the versions that a line admits too. Where none is left out of them, no memory is wanted. The only fault
-    /// is `NoMemory`.
-    pub(crate) fn meet_line(
-        &mut self,
-        alloc: Global,
-        versions: &LineVersions,
-    ) -> Result<(), TableFault>
-        ensures ok { OnOk result (IsIntersection self.old versions.now self.new) }
+    /// Keeps the versions that a line demands too. Where none is left out of them, and no clause of the line is without
+    /// places, no memory is wanted. The only fault is `NoMemory`.
+    pub(crate) fn meet_line(&mut self, alloc: Global, line: &LineDemands) -> Result<(), TableFault>
+        ensures ok { OnOk result (IsIntersection self.old line.now.versions self.new) }
         ensures faults { IfErr result (λ e. e ≡ TableFault.NoMemory) }
     {
-        self.narrow_to(versions.bounds);
-        match versions.left_out {
-            Some(bounds) => self.leave_out(alloc, bounds),
-            None => Ok(()),
+        self.narrow_to(line.bounds);
+        self.leave_out_all(alloc, line.left_out.as_slice())?;
+        self.meet_all(alloc, line.sets.as_slice())
+    }
+
+    // Keeps the versions that lie between none of these places.
+    fn leave_out_all(&mut self, alloc: Global, left_out: &[Bounds]) -> Result<(), TableFault>
+        ensures ok { OnOk result
+            (IsIntersection self.old (joined_sets (map left_over left_out.now)) self.new) }
+        ensures faults { IfErr result (λ e. e ≡ TableFault.NoMemory) }
+    {
+        // Where a field is read, the invariant is at hand.
+        let _ = &self.low;
+        for bounds in left_out {
+            self.leave_out(alloc, *bounds)?;
         }
+        Ok(())
+    }
+
+    // Keeps the versions that are in all these sets.
+    fn meet_all(&mut self, alloc: Global, sets: &[VersionSet]) -> Result<(), TableFault>
+        ensures ok { OnOk result (IsIntersection self.old (joined_sets sets.now) self.new) }
+        ensures faults { IfErr result (λ e. e ≡ TableFault.NoMemory) }
+    {
+        // Where a field is read, the invariant is at hand.
+        let _ = &self.low;
+        for versions in sets {
+            self.meet(alloc, versions_copied(alloc, versions)?)?;
+        }
+        Ok(())
     }
 
     /// Keeps the versions that are in the set too, which is used up. The only fault is `NoMemory`.

@@ -1,6 +1,7 @@
 // What requirements demand of a package besides its versions.
 
 ghost use Rattle.std.specs.Prelude.{◌≡◌, ◌∷◌, [], All, IfErr, IfOk, IsTrue, OnOk, false};
+ghost use Rattle.pep_require.specs.Requirement.{IsAscending};
 ghost use Rattle.pep_require.specs.View.{requirement_parts, target_parts};
 ghost use Rattle.demands.specs.Gathering.{bare_entry, target_clauses, target_urls, texts_of};
 ghost use Rattle.demands.specs.Join.{IsUnion};
@@ -114,9 +115,70 @@ impl Others {
         }
     }
 
+    /// Nothing any more.
+    pub(crate) fn clear(&mut self)
+        ensures { self.new ≡ no_others }
+    {
+        self.extras.clear();
+        self.urls.clear();
+        self.texts.clear();
+    }
+
+    /// Whether there is nothing.
+    pub(crate) fn is_none(&self) -> bool
+        ensures { IsTrue result → self.now ≡ no_others }
+    {
+        self.extras.is_empty() && self.urls.is_empty() && self.texts.is_empty()
+    }
+
+    /// Takes an extra.
+    pub(crate) fn put_extra(&mut self, text: &str) -> Result<(), TableFault>
+        ensures extras { OnOk result (IsUnion self.old.extras (text.now ∷ []) self.new.extras) }
+        ensures urls { self.new.urls ≡ self.old.urls }
+        ensures texts { self.new.texts ≡ self.old.texts }
+        ensures faults { IfErr result (λ e. e ≡ TableFault.NoMemory) }
+    {
+        self.extras.put(text)
+    }
+
+    /// Takes the text of a URL.
+    pub(crate) fn put_url(&mut self, text: &str) -> Result<(), TableFault>
+        ensures extras { self.new.extras ≡ self.old.extras }
+        ensures urls { OnOk result (IsUnion self.old.urls (text.now ∷ []) self.new.urls) }
+        ensures texts { self.new.texts ≡ self.old.texts }
+        ensures faults { IfErr result (λ e. e ≡ TableFault.NoMemory) }
+    {
+        self.urls.put(text)
+    }
+
+    /// Takes a demanded text.
+    pub(crate) fn put_text(&mut self, text: &str) -> Result<(), TableFault>
+        ensures extras { self.new.extras ≡ self.old.extras }
+        ensures urls { self.new.urls ≡ self.old.urls }
+        ensures texts { OnOk result (IsUnion self.old.texts (text.now ∷ []) self.new.texts) }
+        ensures faults { IfErr result (λ e. e ≡ TableFault.NoMemory) }
+    {
+        self.texts.put(text)
+    }
+
+    /// Takes what others are. The only fault is `NoMemory`.
+    pub(crate) fn join_others(&mut self, others: &Others) -> Result<(), TableFault>
+        ensures extras { OnOk result (IsUnion self.old.extras others.now.extras self.new.extras) }
+        ensures urls { OnOk result (IsUnion self.old.urls others.now.urls self.new.urls) }
+        ensures texts { OnOk result (IsUnion self.old.texts others.now.texts self.new.texts) }
+        ensures faults { IfErr result (λ e. e ≡ TableFault.NoMemory) }
+    {
+        self.extras.join(&others.extras)?;
+        self.urls.join(&others.urls)?;
+        self.texts.join(&others.texts)
+    }
+
     /// Does nothing. Its clause tells that nothing more is demanded by an entry without extras, URLs and texts.
     pub(crate) fn in_order(&self)
-        ensures { JoinsOthers self.now bare_entry self.now }
+        ensures same { JoinsOthers self.now bare_entry self.now }
+        ensures extras { IsAscending self.now.extras }
+        ensures urls { IsAscending self.now.urls }
+        ensures texts { IsAscending self.now.texts }
     {
         self.extras.in_order();
         self.urls.in_order();

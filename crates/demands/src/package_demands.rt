@@ -12,7 +12,7 @@ use crate::entry::Entry;
 use crate::fault::TableFault;
 use crate::finished::Finished;
 use crate::kept_versions::KeptVersions;
-use crate::line_versions::LineVersions;
+use crate::line_demands::LineDemands;
 use crate::others::{OtherTexts, Others, demands_others};
 use crate::sorted::Sorted;
 use pep_clause::VersionSet;
@@ -75,6 +75,30 @@ fn join_others(
         None => return Ok(()),
     };
     kept.join(entry)?;
+    *others = Some(kept);
+    Ok(())
+}
+
+// Takes what a line demands besides versions, which most lines don't.
+fn join_line(
+    alloc: Global,
+    others: &mut Option<Box<Others>>,
+    line: &LineDemands,
+) -> Result<(), TableFault>
+    ensures joined { OnOk result (JoinsOthers
+        (kept_others (option_map (λ b. b.value) others.old)) line.now
+        (kept_others (option_map (λ b. b.value) others.new))) }
+    ensures faults { IfErr result (λ e. e ≡ TableFault.NoMemory) }
+{
+    if line.others.is_none() {
+        in_order(others);
+        return Ok(());
+    }
+    let mut kept = match others.take() {
+        Some(kept) => kept,
+        None => Box::new(alloc, Others::new(alloc))?,
+    };
+    kept.join_others(&line.others)?;
     *others = Some(kept);
     Ok(())
 }
@@ -157,23 +181,16 @@ impl PackageDemands {
         self.versions.meet(alloc, entry.into_versions())
     }
 
-    /// Takes what demands these versions, and nothing else. The only fault is `NoMemory`, 42; what is gathered is then
-    /// of no more use: it may lack what it had.
-    pub fn take_versions(
-        &mut self,
-        alloc: Global,
-        versions: &LineVersions,
-    ) -> Result<(), TableFault>
-        ensures joined { OnOk result
-            (JoinsEntries self.old (ranges_entry versions.now) self.new) }
-        ensures valid { IsValidEntry (ranges_entry versions.now) }
+    /// Takes what a line demands. The only fault is `NoMemory`, 42; what is gathered is then of no more use: it may lack
+    /// what it had.
+    pub fn take_line(&mut self, alloc: Global, line: &LineDemands) -> Result<(), TableFault>
+        ensures joined { OnOk result (JoinsEntries self.old line.now self.new) }
+        ensures valid { IsValidEntry line.now }
         ensures faults { IfErr result (λ e. e ≡ TableFault.NoMemory) }
     {
-        // Where a field is read, the invariant is at hand.
-        let _ = &versions.bounds;
-        // Its clause tells that what else is demanded may stay as it is.
-        in_order(&self.others);
-        self.versions.meet_line(alloc, versions)
+        line.as_entry();
+        join_line(alloc, &mut self.others, line)?;
+        self.versions.meet_line(alloc, line)
     }
 
     /// What is gathered, which has to be an entry, as for `entry`. The only fault is `NoMemory`, 42.

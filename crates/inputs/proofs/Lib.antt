@@ -6,7 +6,7 @@ pub mod Pieces
 pub mod FirstLines
 pub mod TakenLines
 pub mod TakenTexts
-pub mod LeftOfLines
+pub mod WalkedLines
 pub mod StreamLemmas
 pub mod WantedDemands
 pub mod AcceptedInputs

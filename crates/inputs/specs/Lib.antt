@@ -1,6 +1,5 @@
 pub mod Gathered
 pub mod GatheredLines
-pub mod LeftOfLines
 pub mod LineReading
 pub mod ListedText
 pub mod Lists

@@ -15,8 +15,9 @@ ghost use Rattle.std.specs.Prelude.{
   map,
   option_copied,
 };
-ghost use Rattle.pep_require.specs.LineParts.{StartsLine};
+ghost use Rattle.pep_marker.specs.Environment.{EnvironmentParts};
 ghost use Rattle.pep_require.specs.Requirement.{HasUndefinedMarker};
+ghost use Rattle.pep_require.specs.Sink.{IsWalked};
 ghost use Rattle.pep_require.specs.View.{requirement_parts};
 ghost use Rattle.demands.specs.Table.{HasExactPoints, IsTable};
 ghost use Rattle.inputs.specs.GatheredLines.{
@@ -25,9 +26,8 @@ ghost use Rattle.inputs.specs.GatheredLines.{
   RefusesAsInput,
 };
 ghost use Rattle.inputs.specs.Gathered.{Gathered, IsAccepted};
-ghost use Rattle.inputs.specs.LeftOfLines.{LeftSays, RefusesLeft, judged_fault};
 ghost use Rattle.inputs.specs.Refusal.{IsUndefinedAt, RefusesInputs, no_memory};
-ghost use Rattle.clause_memory.specs.Behind.{DemandsBehind};
+ghost use Rattle.clause_memory.specs.Taken.{HoldsLine};
 ghost use Rattle.inputs.specs.TakenTexts.{GathersText, RefusesTextIn};
 ghost use Rattle.inputs.specs.Wanted.{
   TakesWanted,
@@ -39,22 +39,37 @@ ghost use Rattle.inputs.specs.Wanted.{
 use crate::input::{Input, Kind};
 use crate::lines::{Taker, take_lines};
 use crate::table_file::table_in;
-use clause_memory::ClauseMemory;
+use clause_memory::{DemandSink, LineSoFar};
 use documents::project_requirements;
 use faults::{Cause, Fault, LineFault, Place, fault_in};
-use pep_marker::{Environment, JudgedMarkers, MarkerFault, Name};
-use pep_require::{RequireFault, Requirement, marker_text};
-use pep_table::{Gathering, LineVersions};
+use pep_marker::{Environment, MarkerFault, Name};
+use pep_require::{RequireFault, Requirement, walk};
+use pep_table::Gathering;
 use std::alloc::Global;
+use std::marker::Model;
 
-// Takes each text as a requirement, whose demands count if it applies in the environment, and, where
-// one name alone is wanted, is on that. Markers are remembered, and clauses.
+// Where what there is of a line is kept. Contracts see nothing of it: each line begins it anew.
+#[derive(Drop)]
+struct LineRoom {
+    line: LineSoFar,
+}
+
+impl Model for LineRoom {
+    ghost use Rattle.std.specs.Prelude.{⊤};
+
+    ghost Value = { ⊤ };
+
+    ghost view = { λ r. tt };
+}
+
+// Takes each text as a requirement, whose demands count if it applies in the environment of the sink, and, where
+// one name alone is wanted, is on that.
 #[derive(Drop)]
 pub(crate) struct DemandTaker<'a> {
     pub(crate) alloc: Global,
-    pub(crate) markers: JudgedMarkers<'a>,
-    pub(crate) clauses: ClauseMemory,
+    pub(crate) sink: DemandSink<'a>,
     pub(crate) wanted: Option<&'a Name>,
+    room: LineRoom,
 }
 
 impl Taker for DemandTaker<'_> {
@@ -63,129 +78,79 @@ impl Taker for DemandTaker<'_> {
 
     type Taken = Gathering;
 
-    ghost takes = { λ j text old new. GathersText j.markers (wanted_name j.wanted) text old new };
+    ghost takes = { λ j text old new. GathersText j.sink (wanted_name j.wanted) text old new };
 
-    ghost refuses = { λ j text fault. RefusesTextIn j.markers text fault };
+    ghost refuses = { λ j text fault. RefusesTextIn j.sink text fault };
 
     fn take(&mut self, gathering: Gathering, text: &str) -> Result<Gathering, LineFault> {
-        let start = Requirement::start(self.alloc, text)?;
-        let mut versions = LineVersions::all();
-        let found = self.clauses.read(self.alloc, start.rest, &mut versions)?;
-        match found {
-            Some(left) => self.take_known(gathering, start.name, &versions, left),
-            None => self.take_whole(gathering, start.name, start.rest),
-        }
+        let name = walk(self.alloc, &mut self.sink, &mut self.room.line, text)?;
+        take_walked(self.alloc, gathering, name, &self.room.line, self.wanted)
+    }
+}
+
+// Whether what is demanded of the package with this name counts.
+fn is_wanted(wanted: Option<&Name>, name: &Name) -> bool
+    ensures { result ≡ wants (wanted_name wanted.entry) name.now }
+{
+    match wanted {
+        Some(wanted) => *name == *wanted,
+        None => true,
+    }
+}
+
+// What is demanded so far and by a line that is walked, and begins with this name.
+fn take_walked(
+    alloc: Global,
+    gathering: Gathering,
+    name: Name,
+    line: &LineSoFar,
+    wanted: Option<&Name>,
+) -> Result<Gathering, LineFault>
+    ensures ok { IfOk result (λ new. (e : EnvironmentParts) (text : List ℕ)
+        → IsWalked text name (HoldsLine e line.now)
+        → GathersText e (wanted_name wanted.entry) text gathering new) }
+    ensures refused { IfErr result (λ fault. (e : EnvironmentParts) (text : List ℕ)
+        → IsWalked text name (HoldsLine e line.now) → RefusesTextIn e text fault) }
+{
+    let Some(applies) = line.applies else {
+        return Err(LineFault::Undefined);
+    };
+    if !applies || !is_wanted(wanted, &name) {
+        return Ok(gathering);
+    }
+    match gathering.take_line(alloc, name, &line.demands) {
+        Ok(new) => Ok(new),
+        Err(_) => Err(LineFault::Requirement(RequireFault::NoMemory)),
     }
 }
 
 impl<'a> DemandTaker<'a> {
-    // No marker is judged yet.
+    // No line is taken yet.
     pub(crate) fn new(
         alloc: Global,
         environment: &'a Environment,
         wanted: Option<&'a Name>,
     ) -> DemandTaker<'a>
-        ensures environment { result.markers ≡ environment.now }
+        ensures environment { result.sink ≡ environment.now }
         ensures wanted { wanted_name result.wanted ≡ wanted_name wanted.entry }
     {
         DemandTaker {
             alloc,
-            markers: JudgedMarkers::new(alloc, environment),
-            clauses: ClauseMemory::new(alloc),
+            sink: DemandSink::new(alloc, environment),
             wanted,
-        }
-    }
-
-    // Whether what is demanded of the package with this name counts.
-    fn wants(&self, name: &Name) -> bool
-        ensures { result ≡ wants (wanted_name self.now.wanted) name.now }
-    {
-        match self.wanted {
-            Some(wanted) => *name == *wanted,
-            None => true,
-        }
-    }
-
-    // Whether a requirement applies behind which this is left of its line.
-    fn is_applied(&mut self, left: &str) -> Result<bool, LineFault>
-        ensures same { self.new ≡ self.old }
-        ensures value { IfOk result (λ b. LeftSays self.old.markers left.now (Some b)) }
-        ensures refused { IfErr result (RefusesLeft self.old.markers left.now) }
-    {
-        let found = marker_text(left)?;
-        let Some(text) = found else {
-            return Ok(true);
-        };
-        match self.markers.judge(self.alloc, text) {
-            Ok(truth) => Ok(truth),
-            Err(fault) => Err(judged_fault(fault)),
-        }
-    }
-
-    // What is demanded so far and by a line with this name, behind which clauses stand that demand these
-    // versions alone, and this is left.
-    fn take_known(
-        &mut self,
-        gathering: Gathering,
-        name: Name,
-        versions: &LineVersions,
-        left: &str,
-    ) -> Result<Gathering, LineFault>
-        ensures same { self.new ≡ self.old }
-        ensures ok { IfOk result (λ new. (line : List ℕ)
-            → DemandsBehind line name versions.now left.now
-            → GathersText self.old.markers (wanted_name self.old.wanted) line gathering new) }
-        ensures refused { IfErr result (λ fault. (line : List ℕ)
-            → DemandsBehind line name versions.now left.now
-            → RefusesTextIn self.old.markers line fault) }
-    {
-        let applies = self.is_applied(left)?;
-        if !applies {
-            return Ok(gathering);
-        }
-        if !self.wants(&name) {
-            return Ok(gathering);
-        }
-        match gathering.take_versions(self.alloc, name, versions) {
-            Ok(new) => Ok(new),
-            Err(_) => Err(LineFault::Requirement(RequireFault::NoMemory)),
-        }
-    }
-
-    // What is demanded so far and by a line with this name, behind which this stands.
-    fn take_whole(
-        &mut self,
-        gathering: Gathering,
-        name: Name,
-        rest: &str,
-    ) -> Result<Gathering, LineFault>
-        ensures same { self.new ≡ self.old }
-        ensures ok { IfOk result (λ new. (line : List ℕ) → StartsLine line name rest.now
-            → GathersText self.old.markers (wanted_name self.old.wanted) line gathering new) }
-        ensures refused { IfErr result (λ fault. (line : List ℕ) → StartsLine line name rest.now
-            → RefusesTextIn self.old.markers line fault) }
-    {
-        let front = Requirement::front_behind(self.alloc, name, rest)?;
-        let applies = self.is_applied(front.left)?;
-        if !applies {
-            return Ok(gathering);
-        }
-        if !self.wants(front.requirement.name()) {
-            return Ok(gathering);
-        }
-        match gathering.take(self.alloc, &front.requirement) {
-            Ok(new) => Ok(new),
-            Err(_) => Err(LineFault::Requirement(RequireFault::NoMemory)),
+            room: LineRoom {
+                line: LineSoFar::new(alloc),
+            },
         }
     }
 
     // What is demanded so far and by a list.
     fn take_list(&mut self, gathering: Gathering, bytes: &[u8]) -> Result<Gathering, Cause>
         ensures same { self.new ≡ self.old }
-        ensures ok { IfOk result (GathersBytes self.old.markers (wanted_name self.old.wanted)
+        ensures ok { IfOk result (GathersBytes self.old.sink (wanted_name self.old.wanted)
             Kind.List None bytes.now gathering) }
         ensures refused { IfErr result
-            (RefusesAsInput self.old.markers Kind.List None bytes.now) }
+            (RefusesAsInput self.old.sink Kind.List None bytes.now) }
     {
         let alloc = self.alloc;
         take_lines(alloc, self, gathering, bytes)
@@ -197,14 +162,14 @@ impl<'a> DemandTaker<'a> {
         gathering: Gathering,
         requirement: &Requirement,
     ) -> Result<Gathering, MarkerFault>
-        ensures taken { IfOk result (λ new. TakesWanted self.now.markers
+        ensures taken { IfOk result (λ new. TakesWanted self.now.sink
             (wanted_name self.now.wanted) gathering (requirement_parts requirement.now ∷ []) new) }
         ensures faults { IfErr result (λ e. (e ≡ MarkerFault.NoMemory)
             ⊎ ((e ≡ MarkerFault.Undefined)
-            × HasUndefinedMarker self.now.markers (requirement_parts requirement.now))) }
+            × HasUndefinedMarker self.now.sink (requirement_parts requirement.now))) }
     {
-        let environment = self.markers.environment();
-        if self.wants(requirement.name()) {
+        let environment = self.sink.environment();
+        if is_wanted(self.wanted, requirement.name()) {
             return gathering.take_applying(self.alloc, requirement, environment);
         }
         match requirement.applies(self.alloc, environment) {
@@ -219,10 +184,10 @@ impl<'a> DemandTaker<'a> {
         gathering: Gathering,
         requirements: &[Requirement],
     ) -> Result<Gathering, Cause>
-        ensures ok { IfOk result (λ new. TakesWanted self.now.markers
+        ensures ok { IfOk result (λ new. TakesWanted self.now.sink
             (wanted_name self.now.wanted) gathering (map requirement_parts requirements.now) new) }
         ensures refused { IfErr result (λ cause. (cause ≡ Cause.NoMemory) ⊎ IsUndefinedAt
-            self.now.markers (map requirement_parts requirements.now) cause) }
+            self.now.sink (map requirement_parts requirements.now) cause) }
     {
         let mut gathering = gathering;
         let mut number: u64 = 0;
@@ -247,24 +212,24 @@ impl<'a> DemandTaker<'a> {
         bytes: &[u8],
         group: Option<&Name>,
     ) -> Result<Gathering, Cause>
-        ensures ok { IfOk result (GathersBytes self.now.markers (wanted_name self.now.wanted)
+        ensures ok { IfOk result (GathersBytes self.now.sink (wanted_name self.now.wanted)
             Kind.Project (option_copied group.entry) bytes.now gathering) }
         ensures refused { IfErr result
-            (RefusesAsInput self.now.markers Kind.Project (option_copied group.entry) bytes.now) }
+            (RefusesAsInput self.now.sink Kind.Project (option_copied group.entry) bytes.now) }
     {
-        let extra = self.markers.environment().value("extra").unwrap_or("");
+        let extra = self.sink.environment().value("extra").unwrap_or("");
         let requirements = project_requirements(self.alloc, bytes, extra, group)?;
         self.take_requirements(gathering, requirements.as_slice())
     }
 
     // What is demanded so far and by a table file.
     fn take_table(&self, gathering: Gathering, bytes: &[u8]) -> Result<Gathering, Cause>
-        ensures ok { IfOk result (GathersBytes self.now.markers (wanted_name self.now.wanted)
+        ensures ok { IfOk result (GathersBytes self.now.sink (wanted_name self.now.wanted)
             Kind.Table None bytes.now gathering) }
         ensures refused { IfErr result
-            (RefusesAsInput self.now.markers Kind.Table None bytes.now) }
+            (RefusesAsInput self.now.sink Kind.Table None bytes.now) }
     {
-        let environment = self.markers.environment();
+        let environment = self.sink.environment();
         let table = table_in(self.alloc, bytes, environment, self.wanted)?;
         match gathering.take_table(self.alloc, table) {
             Ok(new) => Ok(new),
@@ -275,9 +240,9 @@ impl<'a> DemandTaker<'a> {
     // What is demanded so far and by an input.
     fn take_input(&mut self, gathering: Gathering, input: &Input) -> Result<Gathering, Cause>
         ensures same { self.new ≡ self.old }
-        ensures ok { IfOk result (GathersBytes self.old.markers (wanted_name self.old.wanted)
+        ensures ok { IfOk result (GathersBytes self.old.sink (wanted_name self.old.wanted)
             input.now.kind input.now.group input.now.bytes.items gathering) }
-        ensures refused { IfErr result (RefusesAsInput self.old.markers input.now.kind
+        ensures refused { IfErr result (RefusesAsInput self.old.sink input.now.kind
             input.now.group input.now.bytes.items) }
     {
         let bytes = input.bytes.as_slice();
@@ -286,17 +251,6 @@ impl<'a> DemandTaker<'a> {
             Kind::Project => self.take_project(gathering, bytes, input.group.as_ref()),
             Kind::Table => self.take_table(gathering, bytes),
         }
-    }
-}
-
-// The fault of a text whose marker can't be judged.
-fn judged_fault(fault: MarkerFault) -> LineFault
-    ensures { result ≡ judged_fault fault }
-{
-    match fault {
-        MarkerFault::NoMemory => LineFault::Requirement(RequireFault::NoMemory),
-        MarkerFault::Undefined => LineFault::Undefined,
-        fault => LineFault::Requirement(RequireFault::BadMarker(fault)),
     }
 }
 

@@ -9,7 +9,7 @@ pub mod TextFronts
 pub mod MergeLaws
 pub mod SameDemands
 pub mod Taking
-pub mod TakenVersions
+pub mod TakenLines
 pub mod EntryRanges
 pub mod CutTexts
 pub mod TableLines

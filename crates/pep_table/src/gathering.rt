@@ -3,9 +3,9 @@
 ghost use Rattle.std.specs.Prelude.{◌≡◌, ◌⊎◌, ◌++◌, ◌∷◌, [], IfErr, IfOk, OnOk, string_bytes};
 ghost use Rattle.pep_require.specs.Requirement.{HasUndefinedMarker, RequirementParts};
 ghost use Rattle.pep_require.specs.View.{requirement_parts};
-ghost use Rattle.demands.specs.Finished.{ranges_entry};
-ghost use Rattle.demands.specs.Gathering.{DemandsVersions, TakesApplying, TakesRequirement};
+ghost use Rattle.demands.specs.Gathering.{TakesApplying, TakesRequirement};
 ghost use Rattle.demands.specs.Join.{JoinsTables};
+ghost use Rattle.demands.specs.LineDemands.{DemandsEntry};
 ghost use Rattle.demands.specs.Table.{IsValidEntry, IsValidTable};
 ghost use Rattle.demands.specs.declared.verdict.Verdict.{Verdict};
 ghost use Rattle.pep_table.specs.TableText.{IsTableText, Shows, entry_text};
@@ -13,7 +13,7 @@ ghost use Rattle.pep_table.specs.TableText.{IsTableText, Shows, entry_text};
 use crate::printout::{Printout, Row, Rows};
 use crate::table::Table;
 use crate::text::header_of;
-use demands::{Entry, Kept, LineVersions, PackageDemands, TableFault};
+use demands::{Entry, Kept, LineDemands, PackageDemands, TableFault};
 use pep_marker::{Environment, MarkerFault, Name};
 use pep_require::Requirement;
 use std::alloc::Global;
@@ -140,28 +140,26 @@ impl Gathering {
         Ok(self)
     }
 
-    /// What is demanded so far, and of one package these versions: what a requirement of this name demands that
-    /// demands nothing else. The only fault is `NoMemory`, 42.
-    pub fn take_versions(
+    /// What is demanded so far, and of one package by a line. The only fault is `NoMemory`, 42.
+    pub fn take_line(
         mut self,
         alloc: Global,
         name: Name,
-        versions: &LineVersions,
+        line: &LineDemands,
     ) -> Result<Gathering, TableFault>
-        ensures joined { IfOk result (λ new.
-            JoinsTables self ((name, ranges_entry versions.now) ∷ []) new) }
+        ensures joined { IfOk result (λ new. JoinsTables self ((name, line.now) ∷ []) new) }
         ensures taken { IfOk result (λ new. (r : RequirementParts) → r.name ≡ name
-            → DemandsVersions r versions.now → TakesRequirement self r new) }
+            → DemandsEntry r line.now → TakesRequirement self r new) }
         ensures faults { IfErr result (λ e. e ≡ TableFault.NoMemory) }
     {
         // Its clause tells that the name is in its normalized form.
         let _ = name.text();
         if let Some(kept) = self.entries.get_mut(&name) {
-            kept.take_versions(alloc, versions)?;
+            kept.take_line(alloc, line)?;
             return Ok(self);
         }
         let mut gathered = PackageDemands::bare();
-        gathered.take_versions(alloc, versions)?;
+        gathered.take_line(alloc, line)?;
         self.entries.insert(name, gathered)?;
         Ok(self)
     }

@@ -23,7 +23,7 @@ use Rattle.specifiers.specs.declared.fault.ClauseFault.{ClauseFault}
 use Rattle.specifiers.specs.declared.fault.ClauseFault.TheVariants as fault
 use Rattle.specifiers.specs.declared.op.Op.{Op}
 use Rattle.specifiers.specs.declared.op.Op.TheVariants as op
-use Rattle.specifiers.specs.Clause.{Clause, IsClause, IsOperatorAndRun, Prefix, PrefixAnswers}
+use Rattle.specifiers.specs.Clause.{Clause, IsClause, IsClauseOf, IsOperatorAndRun, Prefix, PrefixAnswers}
 use Rattle.specifiers.specs.Clause.{ReadsClauseAs}
 use Rattle.specifiers.specs.Clause.{ReadsThen, TargetAnswers, VersionAnswers, compatible, matching}
 use Rattle.specifiers.specs.Clause.{matching_prefix, excluding, excluding_prefix, at_most, at_least}
@@ -36,7 +36,7 @@ use Rattle.specifiers.specs.Clause.{version_clause}
 use Rattle.specifiers.specs.Clause.{final_version}
 use Rattle.specifiers.specs.Valid.{IsPrefix, IsPublic, IsValidClause}
 use Rattle.specifiers.proofs.OneAnswer.{one-clause-of}
-use Rattle.specifiers.proofs.Written.{clause-ink, ink-end, is_ink, written}
+use Rattle.specifiers.proofs.Written.{clause-ink, ink-end, ink-trimmed, is_ink, written}
 use Rattle.specifiers.proofs.ReadLemmas.{lower-demanded, lowered-none}
 use Rattle.specifiers.proofs.FinalVersion.{IsVersion-prefix_of}
 use Rattle.pep_version.proofs.NormalTexts.{list_all-weaker}
@@ -281,6 +281,13 @@ demanded-written xs h =
     && not (is_ascii_uppercase b)) xs) h in
     let bytes = demanded-bytes xs small in
     rw (some, bytes) (ap (λ (t : List ℕ). Ok (demanded t)) (sym (demanded-lower xs small)))
+
+-- .. behind `===`
+pub demanded-read : (xs : List ℕ) → is_demanded_text xs ≡ true → IsClauseOf op.Exact xs (demanded xs)
+demanded-read xs h =
+    let bytes = demanded-bytes xs (and_second (not (is_empty xs)) (list_all (λ b. is_clause_byte b
+    && not (is_ascii_uppercase b)) xs) h) in
+    subst (λ t. Ok (demanded xs) ≡ demanded_of t) (sym (ink-trimmed xs (list_all-weaker is_clause_byte is_ink clause-ink xs bytes))) (demanded-written xs h)
 
 -- the clause of an operator and a version that has no label
 public-gives : (label : List Segment) (answer : Result Clause ClauseFault) → label ≡ [] →

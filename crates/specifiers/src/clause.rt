@@ -4,7 +4,7 @@ mod admits;
 mod read;
 mod text;
 
-pub use crate::clause::read::is_final;
+pub use crate::clause::read::{is_demanded_text, is_final};
 use crate::fault::ClauseFault;
 use crate::op::Op;
 use pep_version::Version;

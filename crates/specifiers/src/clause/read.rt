@@ -1,10 +1,11 @@
 // How a clause is read.
 
-ghost use Rattle.std.specs.Prelude.{◌≡◌, ◌&&◌, not, Ok};
+ghost use Rattle.std.specs.Prelude.{◌≡◌, ◌&&◌, IsTrue, not, Ok};
+ghost use Rattle.std.specs.Char.{is_ascii_uppercase};
 ghost use Rattle.std.specs.List.{list_all};
 ghost use Rattle.pep_version.specs.Version.{IsVersion};
 ghost use Rattle.texts.specs.Lists.{is_empty};
-ghost use Rattle.specifiers.specs.Clause.{TargetAnswers, ends_in_space, is_final, prefix_answer};
+ghost use Rattle.specifiers.specs.Clause.{IsClauseOf, TargetAnswers, demanded, ends_in_space, is_demanded_text, is_final, prefix_answer};
 ghost use Rattle.specifiers.specs.Clause.{version_answer};
 ghost use Rattle.texts.specs.Bytes.{is_clause_byte};
 
@@ -13,7 +14,7 @@ use crate::fault::ClauseFault;
 use crate::op::Op;
 use pep_version::Version;
 use std::alloc::Global;
-use texts::{has_clause_bytes, trimmed, without_trailing_space};
+use texts::{has_clause_bytes, is_clause_byte, trimmed, without_trailing_space};
 
 // Whether the text may stand behind `===`.
 fn is_clause_text(text: &[u8]) -> bool
@@ -38,6 +39,22 @@ pub fn is_final(version: &Version) -> bool
         && version.post().is_none()
         && version.dev().is_none()
         && version.label().is_empty()
+}
+
+// Whether the bytes may stand in a clause, and none is a letter in upper case.
+fn are_lower(bytes: &[u8]) -> bool
+    ensures { result ≡ list_all (λ b. is_clause_byte b && not (is_ascii_uppercase b)) bytes.now }
+{
+    bytes.iter().all(|b| is_clause_byte(*b) && !b.is_ascii_uppercase())
+}
+
+/// Whether `===` and this text are a clause that demands the text as it is written (PEP 440, "Arbitrary equality"): one or
+/// more letters in lower case, digits and bytes of `-_.*+!`. Public for the crate that reads lines and keeps no clause.
+pub fn is_demanded_text(text: &str) -> bool
+    ensures text { result ≡ is_demanded_text text.now }
+    ensures clause { IsTrue result → IsClauseOf Op.Exact text.now (demanded text.now) }
+{
+    !text.is_empty() && are_lower(text.as_bytes())
 }
 
 // `===` and the text behind it.

@@ -29,6 +29,6 @@ loop-input-preserved c =
           (subst (λ f. GathersBytes f (wanted_name c.loop-input.taker.wanted) k group bytes old new)
           c.loop-input.invariant.2 c.in-Ok.ensures.ok)),
       omega (arith, c.loop-input.invariant.1),
-      ap (λ taker. taker.markers) c.in-Ok.ensures.same ∙ c.loop-input.invariant.2,
+      ap (λ taker. taker.sink) c.in-Ok.ensures.same ∙ c.loop-input.invariant.2,
       ap (λ taker. wanted_name taker.wanted) c.in-Ok.ensures.same ∙ c.loop-input.invariant.3,
     )

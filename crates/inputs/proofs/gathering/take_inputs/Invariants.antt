@@ -6,5 +6,5 @@ use Rattle.inputs.proofs.gathering.take_inputs.Given as goal
 abbrev pub invariant-loop-input : goal.invariant-loop-input
 invariant-loop-input l =
     GathersInputs l.environment (wanted_name l.wanted) (take l.input-index l.inputs) [] l.gathering
-    × (l.number ≡ l.input-index) × (l.taker.markers ≡ l.environment)
+    × (l.number ≡ l.input-index) × (l.taker.sink ≡ l.environment)
     × (wanted_name l.taker.wanted ≡ wanted_name l.wanted)

@@ -10,7 +10,7 @@ use Rattle.inputs.proofs.gathering.DemandTaker.take_project.Goals.{After-unwrap_
 
 -- the file is read for the extra of the environment
 same_extra : (c : After-unwrap_or-extra) →
-    c.unwrap_or-extra.result.now ≡ extra_in c.args.self.now.markers
+    c.unwrap_or-extra.result.now ≡ extra_in c.args.self.now.sink
 same_extra c =
     extra_of c.environment.result.now c.value.result _ c.unwrap_or-extra.result
     c.value.ensures c.unwrap_or-extra.ensures ∙ ap extra_in c.environment.ensures
@@ -19,14 +19,14 @@ pub returns-in_err-requirements-clause-refused : goal.returns-in_err-requirement
 returns-in_err-requirements-clause-refused c =
     let at = goal.at.returns-in_err-requirements-clause-refused c in
     let p = err_from_is_err_and c.from_residual.result c.from_residual.ensures.1 in
-    rw (p.1, p.2) (project_refuses_in c.args.self.now.markers _ (option_copied c.args.group) c.args.bytes.now
+    rw (p.1, p.2) (project_refuses_in c.args.self.now.sink _ (option_copied c.args.group) c.args.bytes.now
     c.in_err-requirements.field-0.0 (same_extra at.After-unwrap_or-extra)
     c.in_err-requirements.ensures.refused)
 
 pub returns-clause-ok : goal.returns-clause-ok
 returns-clause-ok c =
     let at = goal.at.returns-clause-ok c in
-    project_taken c.args.self.now.markers _ (option_copied c.args.group) c.args.bytes.now _ _
+    project_taken c.args.self.now.sink _ (option_copied c.args.group) c.args.bytes.now _ _
     (same_extra at.After-unwrap_or-extra) (ap (map requirement_parts) c.as_slice.ensures.value)
     c.in_ok-requirements.ensures.ok (wanted_name c.args.self.now.wanted) c.args.gathering
     c.take_requirements.result
@@ -35,6 +35,6 @@ returns-clause-ok c =
 pub returns-clause-refused : goal.returns-clause-refused
 returns-clause-refused c =
     let at = goal.at.returns-clause-refused c in
-    project_undefined c.args.self.now.markers _ (option_copied c.args.group) c.args.bytes.now _ _
+    project_undefined c.args.self.now.sink _ (option_copied c.args.group) c.args.bytes.now _ _
     (same_extra at.After-unwrap_or-extra) (ap (map requirement_parts) c.as_slice.ensures.value)
     c.in_ok-requirements.ensures.ok c.take_requirements.result c.take_requirements.ensures.refused

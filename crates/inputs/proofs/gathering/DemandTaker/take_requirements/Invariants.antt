@@ -5,6 +5,6 @@ use Rattle.inputs.proofs.gathering.DemandTaker.take_requirements.Given as goal
 
 abbrev pub invariant-loop-requirement : goal.invariant-loop-requirement
 invariant-loop-requirement l =
-    TakesWanted l.self.markers (wanted_name l.self.wanted) l.fn.gathering
+    TakesWanted l.self.sink (wanted_name l.self.wanted) l.fn.gathering
     (map requirement_parts (take l.requirement-index l.requirements)) l.gathering
     × (l.number ≡ l.requirement-index)

@@ -1,0 +1,151 @@
+//! The clause in front of a text, as what it demands.
+
+ghost use Rattle.std.specs.Prelude.{◌≡◌, ◌⊎◌, ◌≤◌, IfErr, IfOk, OnOk, length};
+ghost use Rattle.std.specs.List.{prefix_len};
+ghost use Rattle.specifiers.specs.Clause.{Clause};
+ghost use Rattle.pep_require.specs.LineParts.{RefusesBound};
+ghost use Rattle.demands.specs.LineDemands.{AddsClause, DemandsRanges};
+ghost use Rattle.clause_memory.specs.Demand.{demanded_ranges};
+ghost use Rattle.clause_memory.specs.Taken.{TakesFront, goes_on};
+
+use crate::demand::{Demand, demand_of};
+use crate::memory::ClauseMemory;
+use crate::plain::plain_demand;
+use crate::text::text_at;
+use demands::LineDemands;
+use pep_clause::{Clause, VersionSet};
+use pep_require::{RequireFault, clause_at};
+use std::alloc::Global;
+
+// How many bytes stand before a `,`, a `;` or a `)`.
+fn piece_run(text: &[u8]) -> usize
+    ensures count { result ≡ prefix_len goes_on text.now }
+    ensures within { result ≤ length text.now }
+{
+    text.iter().take_while(|b| goes_on(**b)).count()
+}
+
+// Whether the byte may stand in a clause or beside it.
+pub(crate) fn goes_on(b: u8) -> bool
+    ensures { result ≡ goes_on b }
+{
+    b != b',' && b != b';' && b != b')'
+}
+
+// Keeps what a clause demands. The only fault is `NoMemory`.
+fn keep(demand: Demand, demands: &mut LineDemands) -> Result<(), RequireFault>
+    requires { (c : Clause) × DemandsRanges c (demanded_ranges demand) }
+    ensures ok { OnOk result ((c : Clause) → DemandsRanges c (demanded_ranges demand)
+        → AddsClause c demands.old demands.new) }
+    ensures faults { IfErr result (λ e. e ≡ RequireFault.NoMemory) }
+{
+    if demand.outside {
+        demands.leave_out(demand.bounds)?;
+        return Ok(());
+    }
+    demands.meet(demand.bounds);
+    Ok(())
+}
+
+// Keeps what the clause demands, whatever it is. The only fault is `NoMemory`.
+fn keep_clause(
+    alloc: Global,
+    clause: &Clause,
+    demands: &mut LineDemands,
+) -> Result<(), RequireFault>
+    ensures ok { OnOk result (AddsClause clause.now demands.old demands.new) }
+    ensures faults { IfErr result (λ e. e ≡ RequireFault.NoMemory) }
+{
+    // Its clause tells that the clause is valid.
+    let _ = clause.op();
+    if let Some(text) = clause.exact_text() {
+        demands.put_text(text)?;
+        return Ok(());
+    }
+    if let Some(demand) = demand_of(clause) {
+        return keep(demand, demands);
+    }
+    match VersionSet::of(alloc, clause) {
+        Ok(versions) => {
+            demands.admit(versions)?;
+            Ok(())
+        }
+        Err(_) => Err(RequireFault::NoMemory),
+    }
+}
+
+// Keeps what the clause demands that is in front of the text, and gives what stands behind it.
+fn take_whole<'a>(
+    alloc: Global,
+    text: &'a str,
+    demands: &mut LineDemands,
+) -> Result<&'a str, RequireFault>
+    ensures taken { IfOk result (λ rest. TakesFront text.now rest.now demands.old demands.new) }
+    ensures refused { IfErr result (λ e. (e ≡ RequireFault.NoMemory) ⊎ RefusesBound text.now e) }
+{
+    let (clause, rest) = clause_at(alloc, text)?;
+    keep_clause(alloc, &clause, demands)?;
+    Ok(rest)
+}
+
+// The same of a clause that has no places, or may be none.
+fn take_unplaced<'a>(
+    alloc: Global,
+    text: &'a str,
+    demands: &mut LineDemands,
+) -> Result<&'a str, RequireFault>
+    ensures taken { IfOk result (λ rest. TakesFront text.now rest.now demands.old demands.new) }
+    ensures refused { IfErr result (λ e. (e ≡ RequireFault.NoMemory) ⊎ RefusesBound text.now e) }
+{
+    let Some((run, rest)) = text_at(text) else {
+        return take_whole(alloc, text, demands);
+    };
+    demands.put_text(run)?;
+    Ok(rest)
+}
+
+impl ClauseMemory {
+    /// Reads the clause in front of a text (PEP 508, "Grammar"), and keeps what it demands. What stands behind it is
+    /// given. The refusals are `BadClause`, 33, with the clause's fault, and `NoMemory`, 40.
+    pub(crate) fn take<'a>(
+        &mut self,
+        alloc: Global,
+        text: &'a str,
+        demands: &mut LineDemands,
+    ) -> Result<&'a str, RequireFault>
+        ensures taken { IfOk result (λ rest. TakesFront text.now rest.now demands.old demands.new) }
+        ensures refused { IfErr result (λ e. (e ≡ RequireFault.NoMemory) ⊎ RefusesBound text.now e) }
+    {
+        let Some((found, rest)) = plain_demand(text) else {
+            return self.take_remembered(alloc, text, demands);
+        };
+        match found {
+            Some(demand) => {
+                keep(demand, demands)?;
+                Ok(rest)
+            }
+            None => take_unplaced(alloc, text, demands),
+        }
+    }
+
+    // The same of a clause that is cut out, up to the byte that ends it, and looked up by its text.
+    fn take_remembered<'a>(
+        &mut self,
+        alloc: Global,
+        text: &'a str,
+        demands: &mut LineDemands,
+    ) -> Result<&'a str, RequireFault>
+        ensures taken { IfOk result (λ rest. TakesFront text.now rest.now demands.old demands.new) }
+        ensures refused { IfErr result (λ e. (e ≡ RequireFault.NoMemory) ⊎ RefusesBound text.now e) }
+    {
+        let (piece, rest) = text.split_at(piece_run(text.as_bytes()));
+        let found = self.demand(alloc, piece)?;
+        match found {
+            Some(demand) => {
+                keep(demand, demands)?;
+                Ok(rest)
+            }
+            None => take_whole(alloc, text, demands),
+        }
+    }
+}

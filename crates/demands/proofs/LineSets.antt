@@ -1,0 +1,110 @@
+-- The versions that the clauses of a line admit: with one clause more, and met with those of a package.
+use Rattle.std.proofs.Common.{◌≡◌, ◌&&◌, Bool, List, [], ◌∷◌, ◌++◌, map, sym, ap, subst, ◌∙◌}
+use Rattle.std.proofs.Math.Bool.{and_assoc}
+use Rattle.std.proofs.lemmas.List.{append_assoc, map_push}
+use Rattle.texts.proofs.Connectives.{and_given, and_given_second}
+use Rattle.pep_clause.specs.Cut.{Cut, IsCut, end, least}
+use Rattle.pep_clause.specs.Joined.{joined}
+use Rattle.pep_clause.specs.VersionSet.{IsNormal, Range, all_versions, is_point}
+use Rattle.pep_clause.proofs.JoinedPoints.{is_point-joined}
+use Rattle.pep_clause.proofs.LeastCut.{IsNormal-all_versions, point-all_versions}
+use Rattle.places.specs.declared.bounds.Bounds.{Bounds}
+use Rattle.demands.specs.Join.{IsIntersection}
+use Rattle.demands.specs.LineSets.{AreLineSets, left_over, line_sets}
+use Rattle.demands.specs.PartialJoins.{AreKept, AreNormal, joined_sets}
+use Rattle.demands.proofs.KeptVersions.{last_two}
+use Rattle.demands.proofs.PartialJoins.{normal_behind, normal_sets, points_behind}
+
+points_both : (xs ys : List (List Range)) (c : Cut) →
+    is_point (joined_sets (xs ++ ys)) c ≡ (is_point (joined_sets xs) c && is_point (joined_sets ys) c)
+points_both [] ys c =
+    and_given_second (is_point all_versions c) (is_point (joined_sets ys) c) (point-all_versions (joined_sets ys) c)
+points_both (x ∷ xs) ys c =
+    is_point-joined x (joined_sets (xs ++ ys)) c
+    ∙ ap (λ b. is_point x c && b) (points_both xs ys c)
+    ∙ sym (and_assoc (is_point x c) (is_point (joined_sets xs) c) (is_point (joined_sets ys) c))
+    ∙ ap (λ b. b && is_point (joined_sets ys) c) (sym (is_point-joined x (joined_sets xs) c))
+
+normal_more : (xs ys : List (List Range)) (t : List Range) → AreNormal (xs ++ ys) → IsNormal t →
+    AreNormal ((xs ++ t ∷ []) ++ ys)
+normal_more [] ys t h n = (n, h)
+normal_more (x ∷ xs) ys t h n = (h.0, normal_more xs ys t h.1 n)
+
+-- ---- what one more leaves out
+
+pub left-normal : (outs new : List Bounds) (b : Bounds) (sets : List (List Range)) → new ≡ outs ++ b ∷ [] →
+    AreNormal (line_sets outs sets) → IsNormal (left_over b) → AreNormal (line_sets new sets)
+left-normal outs new b sets e h n =
+    subst (λ l. AreNormal (l ++ sets)) (sym (ap (map left_over) e ∙ map_push left_over outs b))
+    (normal_more (map left_over outs) sets (left_over b) h n)
+
+pub left-met : (outs new : List Bounds) (b : Bounds) (sets : List (List Range)) → new ≡ outs ++ b ∷ [] →
+    AreNormal (line_sets outs sets) → IsNormal (left_over b) →
+    IsIntersection (joined_sets (line_sets outs sets)) (left_over b) (joined_sets (line_sets new sets))
+left-met outs new b sets e h n = record {
+  normal = normal_sets (line_sets new sets) (left-normal outs new b sets e h n);
+  points = λ cut is.
+      ap (λ l. is_point (joined_sets (l ++ sets)) cut) (ap (map left_over) e ∙ map_push left_over outs b)
+      ∙ points_both (map left_over outs ++ left_over b ∷ []) sets cut
+      ∙ ap (λ t. t && is_point (joined_sets sets) cut) (points_behind (map left_over outs) (left_over b) cut)
+      ∙ last_two (is_point (joined_sets (map left_over outs)) cut) (is_point (left_over b) cut)
+      (is_point (joined_sets sets) cut)
+      ∙ ap (λ t. t && is_point (left_over b) cut) (sym (points_both (map left_over outs) sets cut));
+}
+
+-- ---- one set more
+
+pub set-normal : (outs : List Bounds) (sets new : List (List Range)) (t : List Range) → new ≡ sets ++ t ∷ [] →
+    AreNormal (line_sets outs sets) → IsNormal t → AreNormal (line_sets outs new)
+set-normal outs sets new t e h n =
+    subst AreNormal (append_assoc (map left_over outs) sets (t ∷ []) ∙ ap (λ l. map left_over outs ++ l) (sym e))
+    (normal_behind (line_sets outs sets) t h n)
+
+pub set-met : (outs : List Bounds) (sets new : List (List Range)) (t : List Range) → new ≡ sets ++ t ∷ [] →
+    AreNormal (line_sets outs sets) → IsNormal t →
+    IsIntersection (joined_sets (line_sets outs sets)) t (joined_sets (line_sets outs new))
+set-met outs sets new t e h n = record {
+  normal = normal_sets (line_sets outs new) (set-normal outs sets new t e h n);
+  points = λ cut is.
+      ap (λ l. is_point (joined_sets l) cut)
+      (sym (append_assoc (map left_over outs) sets (t ∷ []) ∙ ap (λ l. map left_over outs ++ l) (sym e)))
+      ∙ points_behind (line_sets outs sets) t cut;
+}
+
+-- ---- what a package is met with, one after the other
+
+-- .. with nothing yet
+pub meets_no_set : (a : List Range) → IsNormal a → IsIntersection a (joined_sets []) a
+meets_no_set a n = record {
+  normal = n;
+  points = λ cut is. and_given (is_point a cut) (is_point all_versions cut) (point-all_versions a cut);
+}
+
+-- .. with one more
+pub meets_one_set : (a b d t : List Range) (done more : List (List Range)) → IsIntersection a (joined_sets done) b →
+    IsIntersection b t d → more ≡ done ++ t ∷ [] → IsIntersection a (joined_sets more) d
+meets_one_set a b d t done more h g e = record {
+  normal = g.normal;
+  points = λ cut is. g.points cut is
+      ∙ (λ i. h.points cut is i && is_point t cut)
+      ∙ and_assoc (is_point a cut) (is_point (joined_sets done) cut) (is_point t cut)
+      ∙ ap (λ x. is_point a cut && x)
+      (sym (ap (λ l. is_point (joined_sets l) cut) e ∙ points_behind done t cut));
+}
+
+-- .. with the places, what they leave out, and the sets
+pub meets_line : (a b d f range : List Range) (outs : List Bounds) (sets : List (List Range)) →
+    IsIntersection a range b → IsIntersection b (joined_sets (map left_over outs)) d →
+    IsIntersection d (joined_sets sets) f →
+    IsIntersection a (joined range (joined_sets (line_sets outs sets))) f
+meets_line a b d f range outs sets h g k = record {
+  normal = k.normal;
+  points = λ cut is. let left = joined_sets (map left_over outs) in
+      k.points cut is
+      ∙ (λ i. g.points cut is i && is_point (joined_sets sets) cut)
+      ∙ (λ i. (h.points cut is i && is_point left cut) && is_point (joined_sets sets) cut)
+      ∙ and_assoc (is_point a cut && is_point range cut) (is_point left cut) (is_point (joined_sets sets) cut)
+      ∙ ap (λ x. (is_point a cut && is_point range cut) && x) (sym (points_both (map left_over outs) sets cut))
+      ∙ and_assoc (is_point a cut) (is_point range cut) (is_point (joined_sets (line_sets outs sets)) cut)
+      ∙ ap (λ x. is_point a cut && x) (sym (is_point-joined range (joined_sets (line_sets outs sets)) cut));
+}

@@ -1,0 +1,33 @@
+-- THE CODE'S WAY, and no part of any meaning: the versions that the clauses of a line admit.
+use Rattle.std.specs.Prelude.{List, ◌++◌, All, IsTrue, map}
+use Rattle.specifiers.specs.Clause.{is_demanded_text}
+use Rattle.pep_clause.specs.OperatorTable.{outside}
+use Rattle.pep_clause.specs.VersionSet.{Range}
+use Rattle.pep_marker.specs.Name.{IsNormalName}
+use Rattle.places.specs.declared.bounds.Bounds.{Bounds}
+use Rattle.demands.specs.Others.{OtherParts}
+use Rattle.demands.specs.PartialJoins.{AreKept, AreNormal, joined_sets, kept_versions}
+use Rattle.demands.specs.Table.{is_url_text}
+
+-- what is left of all versions outside of two places
+abbrev pub left_over : Bounds → List Range
+left_over b = outside b.low b.high
+
+-- what each pair of places leaves over, and the sets
+abbrev pub line_sets : List Bounds → List (List Range) → List (List Range)
+line_sets left_out sets = map left_over left_out ++ sets
+
+-- what lies between two places, in what each pair of places leaves over, and in the sets
+abbrev pub line_versions : Bounds → List Bounds → List (List Range) → List Range
+line_versions b left_out sets = kept_versions b.low b.high (joined_sets (line_sets left_out sets))
+
+-- each part is in its one spelling
+pub record AreLineSets (b : Bounds) (left_out : List Bounds) (sets : List (List Range)) : Type 0 where
+  pub kept : AreKept b.low b.high (joined_sets (line_sets left_out sets))
+  pub normal : AreNormal (line_sets left_out sets)
+
+-- each text may stand in a table
+pub record AreValidOthers (o : OtherParts) : Type 0 where
+  pub extras : All IsNormalName o.extras
+  pub urls : All (λ u. IsTrue (is_url_text u)) o.urls
+  pub texts : All (λ t. IsTrue (is_demanded_text t)) o.texts

@@ -1,0 +1,143 @@
+//! What one line demands of its package.
+
+ghost use Rattle.std.specs.Prelude.{◌≡◌, [], IfErr, IsTrue, OnOk, false};
+ghost use Rattle.specifiers.specs.Clause.{Clause, demanded, is_demanded_text};
+ghost use Rattle.pep_clause.specs.OperatorTable.{outside, range};
+ghost use Rattle.pep_clause.specs.VersionSet.{IsNormal};
+ghost use Rattle.pep_require.specs.Requirement.{UrlParts};
+ghost use Rattle.demands.specs.Gathering.{bare_entry};
+ghost use Rattle.demands.specs.LineDemands.{AddsClause, AddsExtra, AddsUrl, DemandsRanges};
+ghost use Rattle.demands.specs.Table.{IsValidEntry, is_url_text};
+
+use crate::fault::TableFault;
+use crate::others::Others;
+use pep_clause::VersionSet;
+use pep_marker::Name;
+use places::{Bounds, Place};
+use std::alloc::Global;
+use std::marker::Model;
+
+/// What the parts of one line so far demand of its package. It is used again for the next line, so that a line asks for
+/// no memory. Clauses see the entry of it.
+#[derive(Drop)]
+pub struct LineDemands {
+    pub(crate) bounds: Bounds,
+    // What `!=` leaves out.
+    pub(crate) left_out: Vec<Bounds>,
+    // What clauses whose versions have no places admit.
+    pub(crate) sets: Vec<VersionSet>,
+    pub(crate) others: Others,
+}
+
+impl Model for LineDemands {
+    ghost use Rattle.demands.specs.LineSets.{AreLineSets, AreValidOthers, line_versions};
+    ghost use Rattle.demands.specs.Others.{entry_with};
+    ghost use Rattle.demands.specs.Table.{EntryParts};
+
+    ghost Value = { EntryParts };
+
+    ghost view = { λ d. entry_with d.others (line_versions d.bounds d.left_out.items d.sets.items) };
+
+    ghost invariant = { λ d. AreLineSets d.bounds d.left_out.items d.sets.items × AreValidOthers d.others };
+}
+
+// The places between which all versions lie.
+fn unbounded() -> Bounds {
+    Bounds {
+        low: Place::least(),
+        high: Place::end(),
+    }
+}
+
+impl LineDemands {
+    /// Nothing is demanded.
+    pub fn new(alloc: Global) -> LineDemands
+        ensures { result ≡ bare_entry }
+    {
+        LineDemands {
+            bounds: unbounded(),
+            left_out: Vec::new(alloc),
+            sets: Vec::new(alloc),
+            others: Others::new(alloc),
+        }
+    }
+
+    /// Nothing is demanded any more.
+    pub fn clear(&mut self)
+        ensures { self.new ≡ bare_entry }
+    {
+        self.bounds = unbounded();
+        self.left_out.clear();
+        self.sets.clear();
+        self.others.clear();
+    }
+
+    /// Does nothing. Its clause tells that what is demanded can stand in a table.
+    pub(crate) fn as_entry(&self)
+        ensures { IsValidEntry self.now }
+    {
+        self.others.in_order();
+    }
+
+    /// The versions between the bounds are demanded, by a clause that admits just these.
+    pub fn meet(&mut self, bounds: Bounds)
+        ensures { (c : Clause) → DemandsRanges c (range bounds.low bounds.high)
+            → AddsClause c self.old self.new }
+    {
+        // Its clauses tell that both cuts are in their one spelling.
+        let _ = bounds.low.cmp(&bounds.high);
+        self.bounds.low = self.bounds.low.later(bounds.low);
+        self.bounds.high = self.bounds.high.earlier(bounds.high);
+    }
+
+    /// The versions that don't lie between the bounds are demanded, by a clause with `!=` that admits just these (PEP
+    /// 440, "Version exclusion"). The only fault is `NoMemory`, 42; what is demanded is then as before.
+    pub fn leave_out(&mut self, bounds: Bounds) -> Result<(), TableFault>
+        requires { IsNormal (outside bounds.low bounds.high) }
+        ensures ok { OnOk result ((c : Clause) → DemandsRanges c (outside bounds.low bounds.high)
+            → AddsClause c self.old self.new) }
+        ensures faults { IfErr result (λ e. e ≡ TableFault.NoMemory) }
+    {
+        self.left_out.push(bounds)?;
+        Ok(())
+    }
+
+    /// The versions of the set are demanded, by a clause that admits just these. The only fault is `NoMemory`, 42.
+    pub fn admit(&mut self, versions: VersionSet) -> Result<(), TableFault>
+        ensures ok { OnOk result ((c : Clause) → DemandsRanges c versions
+            → AddsClause c self.old self.new) }
+        ensures faults { IfErr result (λ e. e ≡ TableFault.NoMemory) }
+    {
+        // Its clause tells that the ranges are a normal list.
+        let _ = versions.ranges();
+        self.sets.push(versions)?;
+        Ok(())
+    }
+
+    /// An extra is demanded (PEP 508, "Extras"). The only fault is `NoMemory`, 42.
+    pub fn put_extra(&mut self, name: &Name) -> Result<(), TableFault>
+        ensures ok { OnOk result (AddsExtra name.now self.old self.new) }
+        ensures faults { IfErr result (λ e. e ≡ TableFault.NoMemory) }
+    {
+        self.others.put_extra(name.text())
+    }
+
+    /// A text is demanded, as `===` does (PEP 440, "Arbitrary equality"): in lower case. The only fault is `NoMemory`,
+    /// 42.
+    pub fn put_text(&mut self, text: &str) -> Result<(), TableFault>
+        requires { IsTrue (is_demanded_text text.now) }
+        ensures ok { OnOk result (AddsClause (demanded text.now) self.old self.new) }
+        ensures faults { IfErr result (λ e. e ≡ TableFault.NoMemory) }
+    {
+        self.others.put_text(text)
+    }
+
+    /// A URL is demanded that is printed so. The only fault is `NoMemory`, 42.
+    pub fn put_url(&mut self, text: &str) -> Result<(), TableFault>
+        requires { IsTrue (is_url_text text.now) }
+        ensures ok { OnOk result ((u : UrlParts) → u.text ≡ text.now → AddsUrl u self.old self.new) }
+        ensures faults { IfErr result (λ e. e ≡ TableFault.NoMemory) }
+    {
+        self.others.put_url(text)
+    }
+}
