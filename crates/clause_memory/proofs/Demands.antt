@@ -14,7 +14,7 @@ use Rattle.pep_require.specs.Reads.{IsBound}
 use Rattle.pep_require.proofs.BoundPieces.{bound_read, bound_whole, found_piece}
 use Rattle.demands.specs.Join.{IsIntersection}
 use Rattle.demands.proofs.TakenClauses.{meets_more, meets_none, meets_one, text_of_none, texts_append}
-use Rattle.clause_memory.specs.Behind.{DemandThese, DemandsFront}
+use Rattle.clause_memory.specs.Taken.{DemandThese, DemandsFront}
 use Rattle.clause_memory.specs.Demand.{IsDemandOf, KnowsDemand, ReadsDemand, demanded_ranges}
 use Rattle.clause_memory.specs.declared.demand.Demand.{Demand}
 
@@ -31,27 +31,6 @@ whole_clause x rest c ranges found nothing valid none versions =
       valid = valid;
       no_text = none;
       versions = versions;
-    }
-
--- no clause demands all versions
-pub none_demand : DemandThese [] all_versions
-none_demand = record {
-  valid = All-nil IsValidClause;
-  texts = refl;
-  versions = meets_none all_versions IsNormal-all_versions;
-}
-
--- one clause more
-pub more_demand : (cs : List Clause) (x rest : List ℕ) (old new ranges : List Range) → DemandThese cs old →
-    (f : DemandsFront x ranges rest) → IsIntersection old ranges new → DemandThese (cs ++ f.clause ∷ []) new
-more_demand cs x rest old new ranges d f i =
-    let c = f.clause in
-    record {
-      valid = All-push IsValidClause cs c d.valid f.valid;
-      texts = texts_append cs (cs ++ c ∷ []) c refl
-          ∙ (λ i. d.texts i ++ text_of_none c f.no_text i);
-      versions = meets_more all_versions old new cs (cs ++ c ∷ []) c d.versions
-          (meets_one old new ranges c f.versions i) refl;
     }
 
 pub demanded_here : (x rest : List ℕ) (c : Clause) (found : Option Demand) → BoundFrom x c rest → {b : Bool} →

@@ -1,3 +1,3 @@
 pub mod Demands
-pub mod BehindLaws
+pub mod FrontClauses
 pub mod PlainClauses

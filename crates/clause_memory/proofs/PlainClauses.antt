@@ -41,11 +41,11 @@ use Rattle.pep_require.proofs.BlankLemmas.{leading, leading_blank, leading_whole
 use Rattle.places.specs.Bounds.{HoldsPrefix, HoldsRelease, IsBetween}
 use Rattle.places.specs.Place.{release_alone}
 use Rattle.places.specs.declared.bounds.Bounds.{Bounds}
-use Rattle.clause_memory.specs.Behind.{DemandsFront, goes_on}
+use Rattle.clause_memory.specs.Taken.{DemandsFront, goes_on}
 use Rattle.clause_memory.specs.Demand.{demanded_ranges}
 use Rattle.clause_memory.specs.Plain.{MakesClause, MakesDemand, NumberFrom, OperandFrom, is_release_byte, leaves_out, star_text}
 use Rattle.clause_memory.specs.declared.demand.Demand.{Demand}
-use Rattle.clause_memory.proofs.BehindLaws.{front_bound}
+use Rattle.clause_memory.proofs.FrontClauses.{front_bound}
 
 -- ---- bytes
 
@@ -395,11 +395,12 @@ plain_read x operand after rest o ns starred d found behind f stripped stops m =
     let here = front_bound x piece rest c whole stops bound in
     record {
       clause = c;
-      found = here.found;
-      bare = here.bare;
-      valid = clause-valid (operator_text o ++ run) c is;
-      no_text = no_text o ns starred c m.made;
-      versions = m.versions;
+      found = here;
+      demands = record {
+        valid = clause-valid (operator_text o ++ run) c is;
+        no_text = no_text o ns starred c m.made;
+        versions = m.versions;
+      };
     }
 
 -- ---- what it demands

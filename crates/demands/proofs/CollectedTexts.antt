@@ -1,7 +1,7 @@
 -- Texts that are collected: those of two lists, and one more.
 use Rattle.std.proofs.Common.{◌≡◌, ℕ, List, [], ◌∷◌, ◌++◌, sym, subst}
 use Rattle.std.specs.Prelude.{Contains}
-use Rattle.std.proofs.Math.Logic.{⊎_elim}
+use Rattle.std.proofs.Math.Logic.{⊎_elim, ⊎_map}
 use Rattle.std.proofs.lemmas.List.Elements.{Contains-append_cases, Contains-append_left}
 use Rattle.std.proofs.lemmas.List.Elements.{Contains-append_right}
 use Rattle.demands.specs.Collected.{collected_texts}
@@ -17,6 +17,16 @@ union_collected xs ys = record {
     λ m. Contains-append_cases xs ys x ((members_collected (xs ++ ys) x).0 m),
     λ m. (members_collected (xs ++ ys) x).1
         (⊎_elim (λ l. Contains-append_left xs ys x l) (λ r. Contains-append_right xs ys x r) m),
+  );
+}
+
+-- the union with texts is that with them as they are collected
+pub with_collected : (xs ys zs : List (List ℕ)) → IsUnion xs ys zs → IsUnion xs (collected_texts ys) zs
+with_collected xs ys zs u = record {
+  ascending = u.ascending;
+  members = λ x. (
+    λ m. ⊎_map (λ l. l) (members_collected ys x).1 ((u.members x).0 m),
+    λ m. (u.members x).1 (⊎_map (λ l. l) (members_collected ys x).0 m),
   );
 }
 

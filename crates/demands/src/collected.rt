@@ -1,13 +1,12 @@
 //! Texts that come one by one, of which each counts once.
 
-ghost use Rattle.std.specs.Prelude.{◌≡◌, ◌∷◌, [], All, IfErr, IfOk, IsTrue, OnOk, map};
+ghost use Rattle.std.specs.Prelude.{◌≡◌, ◌∷◌, [], All, IfOk, IsTrue, OnErr, OnOk, map};
 ghost use Rattle.pep_require.specs.Requirement.{IsAscending};
 ghost use Rattle.demands.specs.Collected.{collected_texts};
 ghost use Rattle.demands.specs.Join.{IsUnion};
 
-use crate::fault::TableFault;
 use crate::sorted::Kept;
-use std::alloc::Global;
+use std::alloc::{AllocError, Global};
 use std::marker::Model;
 use texts::Arena;
 
@@ -36,9 +35,9 @@ impl Model for Collected {
 }
 
 // Puts the texts in order, and keeps each once.
-fn put_in_order(texts: &mut Arena) -> Result<(), TableFault>
+fn put_in_order(texts: &mut Arena) -> Result<(), AllocError>
     ensures once { OnOk result (texts.new ≡ collected_texts texts.old) }
-    ensures faults { IfErr result (λ e. e ≡ TableFault.NoMemory) }
+    ensures kept { OnErr result (collected_texts texts.new ≡ collected_texts texts.old) }
 {
     texts.sort()?;
     texts.dedup()?;
@@ -79,9 +78,8 @@ impl Collected {
     }
 
     // Puts the texts in order, where their number has reached the limit.
-    fn settle(&mut self) -> Result<(), TableFault>
-        ensures same { OnOk result (self.new ≡ self.old) }
-        ensures faults { IfErr result (λ e. e ≡ TableFault.NoMemory) }
+    fn settle(&mut self) -> Result<(), AllocError>
+        ensures { self.new ≡ self.old }
     {
         if self.texts.len() < self.limit {
             return Ok(());
@@ -98,10 +96,10 @@ impl Collected {
         self.texts.len() <= FEW && self.texts.has(text)
     }
 
-    /// Takes one text more. The only fault is `NoMemory`, 42; what is collected is then of no more use.
-    pub(crate) fn put(&mut self, text: &str) -> Result<(), TableFault>
+    /// Takes one text more. Where that fails, what is collected stays.
+    pub(crate) fn put(&mut self, text: &str) -> Result<(), AllocError>
         ensures put { OnOk result (IsUnion self.old (text.now ∷ []) self.new) }
-        ensures faults { IfErr result (λ e. e ≡ TableFault.NoMemory) }
+        ensures kept { OnErr result (self.new ≡ self.old) }
     {
         if self.has(text) {
             return Ok(());
@@ -112,20 +110,18 @@ impl Collected {
     }
 
     // Takes the text of the value.
-    fn put_value<T: Kept>(&mut self, value: &T) -> Result<(), TableFault>
+    fn put_value<T: Kept>(&mut self, value: &T) -> Result<(), AllocError>
         ensures put { OnOk result (IsUnion self.old (T.text value.now ∷ []) self.new) }
         ensures value { T.is_value value.now }
-        ensures faults { IfErr result (λ e. e ≡ TableFault.NoMemory) }
     {
         value.as_value();
         self.put(value.as_text())
     }
 
-    /// Takes the texts of the values. The only fault is `NoMemory`, 42; what is collected is then of no more use.
-    pub(crate) fn put_all<T: Kept>(&mut self, values: &[T]) -> Result<(), TableFault>
+    /// Takes the texts of the values. Where that fails, what is collected is of no more use.
+    pub(crate) fn put_all<T: Kept>(&mut self, values: &[T]) -> Result<(), AllocError>
         ensures put { OnOk result (IsUnion self.old (map T.text values.now) self.new) }
         ensures values { OnOk result (All T.is_value values.now) }
-        ensures faults { IfErr result (λ e. e ≡ TableFault.NoMemory) }
     {
         self.in_order();
         for value in values {
@@ -134,10 +130,9 @@ impl Collected {
         Ok(())
     }
 
-    /// Takes the texts that others are. The only fault is `NoMemory`, 42; what is collected is then of no more use.
-    pub(crate) fn join(&mut self, others: &Collected) -> Result<(), TableFault>
+    /// Takes the texts that others are. Where that fails, what is collected is of no more use.
+    pub(crate) fn join(&mut self, others: &Collected) -> Result<(), AllocError>
         ensures joined { OnOk result (IsUnion self.old others.now self.new) }
-        ensures faults { IfErr result (λ e. e ≡ TableFault.NoMemory) }
     {
         self.in_order();
         for index in 0..others.texts.len() {
@@ -146,10 +141,9 @@ impl Collected {
         Ok(())
     }
 
-    /// The texts in order, each once. The only fault is `NoMemory`, 42.
-    pub(crate) fn into_texts(self) -> Result<Arena, TableFault>
+    /// The texts in order, each once.
+    pub(crate) fn into_texts(self) -> Result<Arena, AllocError>
         ensures same { IfOk result (λ texts. texts ≡ self) }
-        ensures faults { IfErr result (λ e. e ≡ TableFault.NoMemory) }
     {
         let mut texts = self.texts;
         put_in_order(&mut texts)?;

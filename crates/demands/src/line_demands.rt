@@ -1,6 +1,6 @@
 //! What one line demands of its package.
 
-ghost use Rattle.std.specs.Prelude.{◌≡◌, [], IfErr, IsTrue, OnOk, false};
+ghost use Rattle.std.specs.Prelude.{◌≡◌, IsTrue, OnOk};
 ghost use Rattle.specifiers.specs.Clause.{Clause, demanded, is_demanded_text};
 ghost use Rattle.pep_clause.specs.OperatorTable.{outside, range};
 ghost use Rattle.pep_clause.specs.VersionSet.{IsNormal};
@@ -9,12 +9,11 @@ ghost use Rattle.demands.specs.Gathering.{bare_entry};
 ghost use Rattle.demands.specs.LineDemands.{AddsClause, AddsExtra, AddsUrl, DemandsRanges};
 ghost use Rattle.demands.specs.Table.{IsValidEntry, is_url_text};
 
-use crate::fault::TableFault;
 use crate::others::Others;
 use pep_clause::VersionSet;
 use pep_marker::Name;
 use places::{Bounds, Place};
-use std::alloc::Global;
+use std::alloc::{AllocError, Global};
 use std::marker::Model;
 
 /// What the parts of one line so far demand of its package. It is used again for the next line, so that a line asks for
@@ -91,22 +90,20 @@ impl LineDemands {
     }
 
     /// The versions that don't lie between the bounds are demanded, by a clause with `!=` that admits just these (PEP
-    /// 440, "Version exclusion"). The only fault is `NoMemory`, 42; what is demanded is then as before.
-    pub fn leave_out(&mut self, bounds: Bounds) -> Result<(), TableFault>
+    /// 440, "Version exclusion").
+    pub fn leave_out(&mut self, bounds: Bounds) -> Result<(), AllocError>
         requires { IsNormal (outside bounds.low bounds.high) }
-        ensures ok { OnOk result ((c : Clause) → DemandsRanges c (outside bounds.low bounds.high)
+        ensures { OnOk result ((c : Clause) → DemandsRanges c (outside bounds.low bounds.high)
             → AddsClause c self.old self.new) }
-        ensures faults { IfErr result (λ e. e ≡ TableFault.NoMemory) }
     {
         self.left_out.push(bounds)?;
         Ok(())
     }
 
-    /// The versions of the set are demanded, by a clause that admits just these. The only fault is `NoMemory`, 42.
-    pub fn admit(&mut self, versions: VersionSet) -> Result<(), TableFault>
-        ensures ok { OnOk result ((c : Clause) → DemandsRanges c versions
+    /// The versions of the set are demanded, by a clause that admits just these.
+    pub fn admit(&mut self, versions: VersionSet) -> Result<(), AllocError>
+        ensures { OnOk result ((c : Clause) → DemandsRanges c versions
             → AddsClause c self.old self.new) }
-        ensures faults { IfErr result (λ e. e ≡ TableFault.NoMemory) }
     {
         // Its clause tells that the ranges are a normal list.
         let _ = versions.ranges();
@@ -114,29 +111,25 @@ impl LineDemands {
         Ok(())
     }
 
-    /// An extra is demanded (PEP 508, "Extras"). The only fault is `NoMemory`, 42.
-    pub fn put_extra(&mut self, name: &Name) -> Result<(), TableFault>
-        ensures ok { OnOk result (AddsExtra name.now self.old self.new) }
-        ensures faults { IfErr result (λ e. e ≡ TableFault.NoMemory) }
+    /// An extra is demanded (PEP 508, "Extras").
+    pub fn put_extra(&mut self, name: &Name) -> Result<(), AllocError>
+        ensures { OnOk result (AddsExtra name.now self.old self.new) }
     {
         self.others.put_extra(name.text())
     }
 
-    /// A text is demanded, as `===` does (PEP 440, "Arbitrary equality"): in lower case. The only fault is `NoMemory`,
-    /// 42.
-    pub fn put_text(&mut self, text: &str) -> Result<(), TableFault>
+    /// A text is demanded, as `===` does (PEP 440, "Arbitrary equality"): in lower case.
+    pub fn put_text(&mut self, text: &str) -> Result<(), AllocError>
         requires { IsTrue (is_demanded_text text.now) }
-        ensures ok { OnOk result (AddsClause (demanded text.now) self.old self.new) }
-        ensures faults { IfErr result (λ e. e ≡ TableFault.NoMemory) }
+        ensures { OnOk result (AddsClause (demanded text.now) self.old self.new) }
     {
         self.others.put_text(text)
     }
 
-    /// A URL is demanded that is printed so. The only fault is `NoMemory`, 42.
-    pub fn put_url(&mut self, text: &str) -> Result<(), TableFault>
+    /// A URL is demanded that is printed so.
+    pub fn put_url(&mut self, text: &str) -> Result<(), AllocError>
         requires { IsTrue (is_url_text text.now) }
-        ensures ok { OnOk result ((u : UrlParts) → u.text ≡ text.now → AddsUrl u self.old self.new) }
-        ensures faults { IfErr result (λ e. e ≡ TableFault.NoMemory) }
+        ensures { OnOk result ((u : UrlParts) → u.text ≡ text.now → AddsUrl u self.old self.new) }
     {
         self.others.put_url(text)
     }

@@ -1,6 +1,6 @@
 // What requirements demand of a package besides its versions.
 
-ghost use Rattle.std.specs.Prelude.{◌≡◌, ◌∷◌, [], All, IfErr, IfOk, IsTrue, OnOk, false};
+ghost use Rattle.std.specs.Prelude.{◌≡◌, ◌∷◌, [], All, IfErr, IfOk, IsTrue, OnErr, OnOk, false};
 ghost use Rattle.pep_require.specs.Requirement.{IsAscending};
 ghost use Rattle.pep_require.specs.View.{requirement_parts, target_parts};
 ghost use Rattle.demands.specs.Gathering.{bare_entry, target_clauses, target_urls, texts_of};
@@ -20,7 +20,7 @@ use crate::fault::TableFault;
 use crate::sorted::Sorted;
 use pep_clause::{Clause, VersionSet};
 use pep_require::{Requirement, Target, UrlText};
-use std::alloc::Global;
+use std::alloc::{AllocError, Global};
 use std::marker::Model;
 use texts::Arena;
 
@@ -46,9 +46,8 @@ impl Model for Others {
 }
 
 // Takes the text that a clause demands, where it demands one.
-fn take_text(texts: &mut Collected, clause: &Clause) -> Result<(), TableFault>
+fn take_text(texts: &mut Collected, clause: &Clause) -> Result<(), AllocError>
     ensures texts { OnOk result (IsUnion texts.old (texts_of (clause.now ∷ [])) texts.new) }
-    ensures faults { IfErr result (λ e. e ≡ TableFault.NoMemory) }
 {
     texts.in_order();
     match clause.exact_text() {
@@ -58,9 +57,8 @@ fn take_text(texts: &mut Collected, clause: &Clause) -> Result<(), TableFault>
 }
 
 // Takes the texts that clauses demand.
-fn take_texts(texts: &mut Collected, clauses: &[Clause]) -> Result<(), TableFault>
+fn take_texts(texts: &mut Collected, clauses: &[Clause]) -> Result<(), AllocError>
     ensures texts { OnOk result (IsUnion texts.old (texts_of clauses.now) texts.new) }
-    ensures faults { IfErr result (λ e. e ≡ TableFault.NoMemory) }
 {
     texts.in_order();
     for clause in clauses {
@@ -70,10 +68,9 @@ fn take_texts(texts: &mut Collected, clauses: &[Clause]) -> Result<(), TableFaul
 }
 
 // Takes the text of a URL.
-fn take_url(urls: &mut Collected, url: &UrlText) -> Result<(), TableFault>
+fn take_url(urls: &mut Collected, url: &UrlText) -> Result<(), AllocError>
     ensures urls { OnOk result (IsUnion urls.old (url.now.text ∷ []) urls.new) }
     ensures valid { IsTrue (is_url_text url.now.text) }
-    ensures faults { IfErr result (λ e. e ≡ TableFault.NoMemory) }
 {
     urls.put(url.text())
 }
@@ -132,41 +129,40 @@ impl Others {
     }
 
     /// Takes an extra.
-    pub(crate) fn put_extra(&mut self, text: &str) -> Result<(), TableFault>
+    pub(crate) fn put_extra(&mut self, text: &str) -> Result<(), AllocError>
         ensures extras { OnOk result (IsUnion self.old.extras (text.now ∷ []) self.new.extras) }
+        ensures kept_extras { OnErr result (self.new.extras ≡ self.old.extras) }
         ensures urls { self.new.urls ≡ self.old.urls }
         ensures texts { self.new.texts ≡ self.old.texts }
-        ensures faults { IfErr result (λ e. e ≡ TableFault.NoMemory) }
     {
         self.extras.put(text)
     }
 
     /// Takes the text of a URL.
-    pub(crate) fn put_url(&mut self, text: &str) -> Result<(), TableFault>
+    pub(crate) fn put_url(&mut self, text: &str) -> Result<(), AllocError>
         ensures extras { self.new.extras ≡ self.old.extras }
         ensures urls { OnOk result (IsUnion self.old.urls (text.now ∷ []) self.new.urls) }
+        ensures kept_urls { OnErr result (self.new.urls ≡ self.old.urls) }
         ensures texts { self.new.texts ≡ self.old.texts }
-        ensures faults { IfErr result (λ e. e ≡ TableFault.NoMemory) }
     {
         self.urls.put(text)
     }
 
     /// Takes a demanded text.
-    pub(crate) fn put_text(&mut self, text: &str) -> Result<(), TableFault>
+    pub(crate) fn put_text(&mut self, text: &str) -> Result<(), AllocError>
         ensures extras { self.new.extras ≡ self.old.extras }
         ensures urls { self.new.urls ≡ self.old.urls }
         ensures texts { OnOk result (IsUnion self.old.texts (text.now ∷ []) self.new.texts) }
-        ensures faults { IfErr result (λ e. e ≡ TableFault.NoMemory) }
+        ensures kept_texts { OnErr result (self.new.texts ≡ self.old.texts) }
     {
         self.texts.put(text)
     }
 
-    /// Takes what others are. The only fault is `NoMemory`.
-    pub(crate) fn join_others(&mut self, others: &Others) -> Result<(), TableFault>
+    /// Takes what others are.
+    pub(crate) fn join_others(&mut self, others: &Others) -> Result<(), AllocError>
         ensures extras { OnOk result (IsUnion self.old.extras others.now.extras self.new.extras) }
         ensures urls { OnOk result (IsUnion self.old.urls others.now.urls self.new.urls) }
         ensures texts { OnOk result (IsUnion self.old.texts others.now.texts self.new.texts) }
-        ensures faults { IfErr result (λ e. e ≡ TableFault.NoMemory) }
     {
         self.extras.join(&others.extras)?;
         self.urls.join(&others.urls)?;
@@ -186,7 +182,7 @@ impl Others {
     }
 
     // Takes the URL or the texts that a target demands.
-    fn take_target(&mut self, target: &Target) -> Result<(), TableFault>
+    fn take_target(&mut self, target: &Target) -> Result<(), AllocError>
         ensures extras { OnOk result (self.new.extras ≡ self.old.extras) }
         ensures urls { OnOk result (IsUnion self.old.urls (target_urls (target_parts target.now))
             self.new.urls) }
@@ -194,7 +190,6 @@ impl Others {
             (texts_of (target_clauses (target_parts target.now))) self.new.texts) }
         ensures valid { OnOk result (All (λ u. IsTrue (is_url_text u))
             (target_urls (target_parts target.now))) }
-        ensures faults { IfErr result (λ e. e ≡ TableFault.NoMemory) }
     {
         self.urls.in_order();
         self.texts.in_order();
@@ -205,29 +200,26 @@ impl Others {
     }
 
     /// Takes what a requirement demands.
-    pub(crate) fn take(&mut self, requirement: &Requirement) -> Result<(), TableFault>
+    pub(crate) fn take(&mut self, requirement: &Requirement) -> Result<(), AllocError>
         ensures taken { OnOk result (TakesOthers self.old (requirement_parts requirement.now)
             self.new) }
-        ensures faults { IfErr result (λ e. e ≡ TableFault.NoMemory) }
     {
         self.extras.put_all(requirement.extras())?;
         self.take_target(requirement.target())
     }
 
     /// Takes what an entry demands.
-    pub(crate) fn join(&mut self, entry: &Entry) -> Result<(), TableFault>
+    pub(crate) fn join(&mut self, entry: &Entry) -> Result<(), AllocError>
         ensures joined { OnOk result (JoinsOthers self.old entry.now self.new) }
-        ensures faults { IfErr result (λ e. e ≡ TableFault.NoMemory) }
     {
         self.extras.put_all(entry.extras().items())?;
         self.urls.put_all(entry.urls().items())?;
         self.texts.put_all(entry.texts().items())
     }
 
-    /// The same in order. The only fault is `NoMemory`.
-    pub(crate) fn finish(self) -> Result<OtherTexts, TableFault>
+    /// The same in order.
+    pub(crate) fn finish(self) -> Result<OtherTexts, AllocError>
         ensures same { IfOk result (λ o. o ≡ self) }
-        ensures faults { IfErr result (λ e. e ≡ TableFault.NoMemory) }
     {
         let Others {
             extras,

@@ -1,6 +1,6 @@
 use Rattle.std.proofs.Common.{◌≡◌, ◌-◌, ◌∙◌, ap, drop, length, rules}
 use Rattle.texts.specs.Runs.{without_leading_blanks}
-use Rattle.clause_memory.proofs.BehindLaws.{end_stripped, left_is}
+use Rattle.clause_memory.proofs.FrontClauses.{end_stripped, left_is}
 use Rattle.clause_memory.proofs.plain.left_behind.Goals as goal
 
 pub returns-clause-ends : goal.returns-clause-ends

@@ -1,8 +1,10 @@
-use Rattle.std.proofs.Common.{◌∙◌}
+use Rattle.std.proofs.Common.{◌∙◌, ap}
+use Rattle.texts.proofs.Results.{at_err}
+use Rattle.demands.specs.Collected.{collected_texts}
 use Rattle.demands.proofs.CollectedTexts.{pushed_behind}
 use Rattle.demands.proofs.collected.Collected.put.Goals as goal
 
 pub returns-clause-put : goal.returns-clause-put
 returns-clause-put c =
     pushed_behind c.args.self.now c.self.inside.texts c.push.new.self c.args.text.now
-    (c.self.view_is ∙ c.in_ok-settle.ensures.same) c.in_ok-push.ensures.pushed
+    (c.self.view_is ∙ c.settle.ensures) c.in_ok-push.ensures.pushed

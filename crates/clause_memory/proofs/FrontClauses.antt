@@ -1,0 +1,116 @@
+-- The clause in front of a text, and where it ends.
+use Rattle.std.proofs.Common.{◌≡◌, ℕ, ◌<◌, Bool, false, List, [], ◌∷◌, ◌++◌, refl, sym, subst, ap, ◌∙◌}
+use Rattle.std.proofs.Common.{◌-◌, append_assoc, arith, length, length-append, take, drop, None, Some}
+use Rattle.std.proofs.Common.{Option}
+use Rattle.std.specs.Prelude.{IfSome}
+use Rattle.std.proofs.Math.Seq.{drop-append_seam}
+use Rattle.std.specs.List.{prefix_len}
+use Rattle.std.proofs.lemmas.Bool.Decides.{nat_tests}
+use Rattle.std.proofs.lemmas.List.{take-append-drop}
+use Rattle.specifiers.specs.Clause.{Clause, demanded, demanded_text}
+use Rattle.specifiers.specs.Clause.{at_least, at_most, compatible, excluding, excluding_prefix, greater_than, is_demanded_text}
+use Rattle.specifiers.specs.Clause.{less_than, matching, matching_prefix}
+use Rattle.specifiers.specs.Valid.{IsValidClause}
+use Rattle.pep_clause.specs.VersionSet.{Range}
+use Rattle.texts.specs.Bytes.{is_blank_byte, is_clause_byte}
+use Rattle.texts.specs.Runs.{begins, without_leading_blanks}
+use Rattle.texts.proofs.RunLemmas.{begins-rest}
+use Rattle.pep_require.specs.LineParts.{BoundFrom}
+use Rattle.pep_require.specs.Reads.{IsBound}
+use Rattle.pep_require.proofs.BlankLemmas.{leading, leading_whole, no_leading}
+use Rattle.pep_require.proofs.BoundPieces.{bound_found}
+use Rattle.demands.specs.LineDemands.{AddsClause, DemandsRanges}
+use Rattle.demands.specs.Table.{EntryParts}
+use Rattle.clause_memory.specs.Taken.{DemandsFront, TakesFront, goes_on}
+use Rattle.clause_memory.specs.Demand.{KnowsDemand, ReadsDemand, demanded_ranges}
+use Rattle.clause_memory.specs.declared.demand.Demand.{Demand}
+
+-- ---- where a clause ends
+
+stop_no_blank : (b : ℕ) → goes_on b ≡ false → is_blank_byte b ≡ false
+stop_no_blank b h = grind (arith, nat_tests)
+
+stop_no_clause : (b : ℕ) → goes_on b ≡ false → is_clause_byte b ≡ false
+stop_no_clause b h = grind (arith, nat_tests)
+
+pub stop_small : (b : ℕ) → goes_on b ≡ false → b < 128
+stop_small b h = grind (arith, nat_tests)
+
+-- what ends a clause is no white space
+pub stop_bare : (rest : List ℕ) → begins goes_on rest ≡ false → without_leading_blanks rest ≡ rest
+stop_bare [] h = refl
+stop_bare (b ∷ rest) h = no_leading (b ∷ rest) (stop_no_blank b h)
+
+pub stop_off : (rest : List ℕ) → begins goes_on rest ≡ false → begins is_clause_byte rest ≡ false
+stop_off [] h = refl
+stop_off (b ∷ rest) h = stop_no_clause b h
+
+pub front_bound : (left piece rest : List ℕ) (c : Clause) → piece ++ rest ≡ left → begins goes_on rest ≡ false →
+    IsBound piece c → BoundFrom left c rest
+front_bound left piece rest c whole stops is =
+    let bare = stop_bare rest stops in
+    let off : begins is_clause_byte (without_leading_blanks rest) ≡ false =
+    ap (begins is_clause_byte) bare ∙ stop_off rest stops in
+    subst (λ t. BoundFrom left c t) bare
+    (subst (λ t. BoundFrom t c (without_leading_blanks rest)) whole (bound_found piece rest c is off))
+
+-- a text that is cut where a clause ends
+pub demand_here : (left piece rest : List ℕ) (n : ℕ) (ranges : List Range) → n ≡ prefix_len goes_on left →
+    piece ≡ take n left → rest ≡ drop n left → ReadsDemand piece ranges → DemandsFront left ranges rest
+demand_here left piece rest n ranges count front back d =
+    let whole : piece ++ rest ≡ left = (λ i. front i ++ back i) ∙ take-append-drop n left in
+    let stops : begins goes_on rest ≡ false =
+    ap (begins goes_on) (back ∙ (λ i. drop (count i) left)) ∙ begins-rest goes_on left in
+    let cut = front_bound left piece rest d.clause whole stops d.read in
+    record { clause = d.clause; found = cut; demands = record { valid = d.valid; no_text = d.no_text; versions = d.versions } }
+
+pub found_here : (left piece rest : List ℕ) (n : ℕ) (found : Option Demand) → n ≡ prefix_len goes_on left →
+    piece ≡ take n left → rest ≡ drop n left → KnowsDemand piece found →
+    IfSome found (λ d. DemandsFront left (demanded_ranges d) rest)
+found_here left piece rest n None count front back h = tt
+found_here left piece rest n (Some d) count front back h =
+    demand_here left piece rest n (demanded_ranges d) count front back h
+
+-- what stands at the end of a text, cut off by its length
+pub left_is : (x front rest : List ℕ) → x ≡ front ++ rest → drop (length x - length rest) x ≡ rest
+left_is x front rest whole =
+    let long : length x - length rest ≡ length front = rw whole (omega (arith, length-append front rest)) in
+    ap (λ n. drop n x) long ∙ ap (drop (length front)) whole ∙ drop-append_seam front rest
+
+-- .. and so is what stands there behind white space
+pub end_stripped : (x last : List ℕ) → (front : List ℕ) × (x ≡ front ++ last) →
+    (front : List ℕ) × (x ≡ front ++ without_leading_blanks last)
+end_stripped x last (front, whole) = (
+  front ++ leading last,
+  whole ∙ ap (λ t. front ++ t) (leading_whole last)
+      ∙ sym (append_assoc front (leading last) (without_leading_blanks last)),
+)
+
+-- ---- what is kept of a clause that is found in front
+
+pub front_taken : (x rest : List ℕ) (old new : EntryParts) (ranges : List Range) → DemandsFront x ranges rest →
+    ((c : Clause) → DemandsRanges c ranges → AddsClause c old new) → TakesFront x rest old new
+front_taken x rest old new ranges f adds = record {
+  clause = f.clause;
+  found = f.found;
+  adds = adds f.clause f.demands;
+}
+
+pub text_taken : (x rest text : List ℕ) (old new : EntryParts) → BoundFrom x (demanded text) rest →
+    AddsClause (demanded text) old new → TakesFront x rest old new
+text_taken x rest text old new found adds = record { clause = demanded text; found = found; adds = adds }
+
+-- ---- the text of a clause
+
+-- a clause that demands this text
+pub demanded_is : (c : Clause) (t : List ℕ) → demanded_text c ≡ Some t → c ≡ demanded t
+demanded_is (demanded u) t e = let same : u ≡ t = cc e in ap demanded same
+demanded_is (compatible v) t e = cc e
+demanded_is (matching v) t e = cc e
+demanded_is (matching_prefix p) t e = cc e
+demanded_is (excluding v) t e = cc e
+demanded_is (excluding_prefix p) t e = cc e
+demanded_is (at_most v) t e = cc e
+demanded_is (at_least v) t e = cc e
+demanded_is (less_than v) t e = cc e
+demanded_is (greater_than v) t e = cc e

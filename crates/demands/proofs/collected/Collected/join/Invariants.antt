@@ -1,0 +1,6 @@
+use Rattle.std.proofs.Common.{take}
+use Rattle.demands.specs.Join.{IsUnion}
+use Rattle.demands.proofs.collected.Collected.join.Given as goal
+
+abbrev pub invariant-loop-index : goal.invariant-loop-index
+invariant-loop-index l = IsUnion l.initial.self (take l.index l.others-inside.texts) l.self
