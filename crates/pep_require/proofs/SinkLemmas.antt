@@ -8,7 +8,7 @@ use Rattle.pep_require.proofs.SortedNames.{collected_rise, collected_texts, memb
 use Rattle.pep_require.proofs.ExtrasLoops.{none_read}
 use Rattle.specifiers.specs.Clause.{Clause}
 use Rattle.pep_require.specs.Requirement.{IsAscending, RequirementParts, TargetParts, bounds, direct}
-use Rattle.pep_require.specs.Sink.{Adds, ExtrasNamed, more_clauses, targeted, with_clauses, with_extra, with_extras, with_name, with_named, with_target}
+use Rattle.pep_require.specs.Sink.{Adds, AddsClauses, AddsTarget, ExtrasNamed, more_clauses, targeted, with_clauses, with_extra, with_extras, with_name, with_named, with_target}
 
 more : (cs ds : List Clause) (t : TargetParts) →
     more_clauses ds (more_clauses cs t) ≡ more_clauses (cs ++ ds) t
@@ -20,14 +20,15 @@ nothing (bounds es) = ap bounds (append-nil es)
 nothing (direct u) = refl
 
 -- no clause yet
-pub no_more : (H : RequirementParts → Type 0) → Adds H H (with_clauses [])
-no_more H p h = subst (λ t. H (with_target t p)) (sym (nothing p.target)) h
+pub no_more : (H : RequirementParts → Type 0) → AddsClauses H H []
+no_more H p ds bare h = subst (λ t. H (with_target t p)) (sym (nothing p.target)) h
 
 -- one more behind others
 pub and_more : (A B C : RequirementParts → Type 0) (cs ds : List Clause) →
-    Adds A B (with_clauses cs) → Adds B C (with_clauses ds) → Adds A C (with_clauses (cs ++ ds))
-and_more A B C cs ds f g p h =
-    subst (λ t. C (with_target t p)) (more cs ds p.target) (g (with_clauses cs p) (f p h))
+    AddsClauses A B cs → AddsClauses B C ds → AddsClauses A C (cs ++ ds)
+and_more A B C cs ds f g p es bare h =
+    subst (λ t. C (with_target t p)) (more cs ds p.target)
+    (g (with_clauses cs p) (es ++ cs) (ap (more_clauses cs) bare) (f p es bare h))
 
 -- ---- extras
 
@@ -72,14 +73,14 @@ named ns h = h (sorted ns).0 (sorted ns).1 (sorted ns).2
 module _ {S L : Type 0} (H : S → L → RequirementParts → Type 0) where
   pub whole : (s0 s1 s2 s3 : S) (k0 k1 k2 k3 : L) (name : List ℕ) (ns : List (List ℕ)) (t : TargetParts)
       (m : Option MarkerParts) → s1 ≡ s0 → s2 ≡ s1 → s3 ≡ s2 → H s0 k0 (with_name name) →
-      Adds (H s1 k0) (H s1 k1) (with_named ns) → Adds (H s2 k1) (H s2 k2) (targeted t) →
+      Adds (H s1 k0) (H s1 k1) (with_named ns) → AddsTarget (H s2 k1) (H s2 k2) t →
       ((p : RequirementParts) → p.marker ≡ None → H s3 k2 p → H s3 k3 (with_marker m p)) →
       H s0 k3 (record { name = name; extras = ns; target = t; marker = m })
   whole s0 s1 s2 s3 k0 k1 k2 k3 name ns t m e f g h named target marker =
       let two = subst (λ s. H s k1 (with_named ns (with_name name))) (sym f)
       (named (with_name name) (subst (λ s. H s k0 (with_name name)) (sym e) h)) in
       let three = subst (λ s. H s k2 (targeted t (with_named ns (with_name name)))) (sym g)
-      (target (with_named ns (with_name name)) two) in
+      (target (with_named ns (with_name name)) refl two) in
       let all = subst (λ s. H s k3 (with_marker m (targeted t (with_named ns (with_name name))))) (g ∙ f ∙ e)
       (marker (targeted t (with_named ns (with_name name))) (same_marker t (with_named ns (with_name name))) three) in
       last t all

@@ -39,7 +39,16 @@ abbrev pub targeted : TargetParts → RequirementParts → RequirementParts
 targeted (bounds cs) p = with_clauses cs p
 targeted (direct u) p = with_target (direct u) p
 
--- what held of the parts before holds of those with more
+-- what held of the parts before holds of those with these clauses more, where they have no URL
+abbrev pub AddsClauses : (RequirementParts → Type 0) → (RequirementParts → Type 0) → List Clause → Type 0
+AddsClauses old new cs = (p : RequirementParts) (ds : List Clause) → p.target ≡ bounds ds → old p →
+    new (with_clauses cs p)
+
+-- .. of those with the target, where they have none yet
+abbrev pub AddsTarget : (RequirementParts → Type 0) → (RequirementParts → Type 0) → TargetParts → Type 0
+AddsTarget old new t = (p : RequirementParts) → p.target ≡ bounds [] → old p → new (targeted t p)
+
+-- .. and of those with other parts more
 abbrev pub Adds : (RequirementParts → Type 0) → (RequirementParts → Type 0) →
     (RequirementParts → RequirementParts) → Type 0
 Adds old new more = (p : RequirementParts) → old p → new (more p)

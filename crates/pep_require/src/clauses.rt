@@ -9,7 +9,7 @@ ghost use Rattle.pep_require.specs.LineParts.{
   RefusesBounds,
   is_end,
 };
-ghost use Rattle.pep_require.specs.Sink.{Adds, with_clauses};
+ghost use Rattle.pep_require.specs.Sink.{AddsClauses};
 
 use crate::fault::RequireFault;
 use crate::front::{behind, pieces, stripped};
@@ -147,7 +147,7 @@ pub(crate) fn walk_clauses<'a, S: LineSink>(
     ensures same { sink.new ≡ sink.old }
     ensures ok { IfOk result (λ rest. (cs : List ClauseParts)
         × BoundsFrom closed text.now cs rest.now
-        × Adds (S.holds sink.old line.old) (S.holds sink.old line.new) (with_clauses cs)) }
+        × AddsClauses (S.holds sink.old line.old) (S.holds sink.old line.new) cs) }
     ensures refused { IfErr result (λ e. (e ≡ RequireFault.NoMemory)
         ⊎ RefusesBounds closed text.now e) }
 {

@@ -14,10 +14,10 @@ ghost use Rattle.pep_require.specs.Reads.{ReadsUrl};
 ghost use Rattle.pep_require.specs.Requirement.{UrlParts, direct};
 ghost use Rattle.pep_require.specs.Sink.{
   Adds,
-  with_clauses,
+  AddsClauses,
+  AddsTarget,
   with_extra,
   with_name,
-  with_target,
 };
 
 use crate::fault::RequireFault;
@@ -59,7 +59,7 @@ pub trait LineSink {
     fn clause<'a>(&mut self, line: &mut Self::Line, text: &'a str) -> Result<&'a str, RequireFault>
         ensures same { self.new ≡ self.old }
         ensures ok { IfOk result (λ rest. (c : Clause) × BoundFrom text.now c rest.now
-            × Adds (holds self.old line.old) (holds self.old line.new) (with_clauses (c ∷ []))) }
+            × AddsClauses (holds self.old line.old) (holds self.old line.new) (c ∷ [])) }
         ensures refused { IfErr result (λ e. (e ≡ RequireFault.NoMemory) ⊎ RefusesBound text.now e) };
 
     /// The URL that is written so (PEP 508, "Grammar"), in place of clauses. The refusals are `BadUrl`, 34,
@@ -67,7 +67,7 @@ pub trait LineSink {
     fn url(&mut self, line: &mut Self::Line, written: &str) -> Result<(), RequireFault>
         ensures same { self.new ≡ self.old }
         ensures ok { OnOk result ((u : UrlParts) × ReadsUrl written.now u
-            × Adds (holds self.old line.old) (holds self.old line.new) (with_target (direct u))) }
+            × AddsTarget (holds self.old line.old) (holds self.old line.new) (direct u)) }
         ensures refused { IfErr result (λ e. (e ≡ RequireFault.NoMemory)
             ⊎ RefusesWritten written.now e) };
 

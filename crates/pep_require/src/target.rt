@@ -6,7 +6,7 @@ ghost use Rattle.texts.specs.Runs.{begins};
 ghost use Rattle.texts.specs.Bytes.{is_blank_byte};
 ghost use Rattle.pep_require.specs.LineParts.{RefusesTarget, TargetFrom, is_bare_byte};
 ghost use Rattle.pep_require.specs.Requirement.{TargetParts};
-ghost use Rattle.pep_require.specs.Sink.{Adds, targeted};
+ghost use Rattle.pep_require.specs.Sink.{AddsTarget};
 ghost use Rattle.pep_require.specs.View.{target_parts};
 
 use crate::clauses::{clauses_at, walk_clauses};
@@ -122,7 +122,7 @@ pub(crate) fn walk_target<'a, S: LineSink>(
 ) -> Result<&'a str, RequireFault>
     ensures same { sink.new ≡ sink.old }
     ensures ok { IfOk result (λ rest. (t : TargetParts) × TargetFrom text.now t rest.now
-        × Adds (S.holds sink.old line.old) (S.holds sink.old line.new) (targeted t)) }
+        × AddsTarget (S.holds sink.old line.old) (S.holds sink.old line.new) t) }
     ensures refused { IfErr result (λ e. (e ≡ RequireFault.NoMemory)
         ⊎ RefusesTarget text.now e) }
 {
@@ -148,7 +148,7 @@ fn walk_bare<'a, S: LineSink>(
     requires { begins is_bare_byte text.now ≡ true }
     ensures same { sink.new ≡ sink.old }
     ensures ok { IfOk result (λ rest. (t : TargetParts) × TargetFrom text.now t rest.now
-        × Adds (S.holds sink.old line.old) (S.holds sink.old line.new) (targeted t)) }
+        × AddsTarget (S.holds sink.old line.old) (S.holds sink.old line.new) t) }
     ensures refused { IfErr result (λ e. (e ≡ RequireFault.NoMemory)
         ⊎ RefusesTarget text.now e) }
 {
@@ -163,7 +163,7 @@ fn walk_closed<'a, S: LineSink>(
 ) -> Result<&'a str, RequireFault>
     ensures same { sink.new ≡ sink.old }
     ensures ok { IfOk result (λ rest. (t : TargetParts) × TargetFrom (40 ∷ text.now) t rest.now
-        × Adds (S.holds sink.old line.old) (S.holds sink.old line.new) (targeted t)) }
+        × AddsTarget (S.holds sink.old line.old) (S.holds sink.old line.new) t) }
     ensures refused { IfErr result (λ e. (e ≡ RequireFault.NoMemory)
         ⊎ RefusesTarget (40 ∷ text.now) e) }
 {
@@ -182,7 +182,7 @@ fn walk_url<'a, S: LineSink>(
 ) -> Result<&'a str, RequireFault>
     ensures same { sink.new ≡ sink.old }
     ensures ok { IfOk result (λ rest. (t : TargetParts) × TargetFrom (64 ∷ text.now) t rest.now
-        × Adds (S.holds sink.old line.old) (S.holds sink.old line.new) (targeted t)) }
+        × AddsTarget (S.holds sink.old line.old) (S.holds sink.old line.new) t) }
     ensures refused { IfErr result (λ e. (e ≡ RequireFault.NoMemory)
         ⊎ RefusesTarget (64 ∷ text.now) e) }
 {

@@ -1,7 +1,7 @@
 use Rattle.std.proofs.Common.{◌∙◌, ◌++◌, ◌∷◌, [], refl, sym, subst}
 use Rattle.std.proofs.lemmas.Result.{err_from_is_err_and}
 use Rattle.pep_require.proofs.BoundLoops.{ends_at_comma, ends_here, less_left, none_yet, one_more, refused_here}
-use Rattle.pep_require.specs.Sink.{Adds, with_clauses}
+use Rattle.pep_require.specs.Sink.{AddsClauses}
 use Rattle.pep_require.proofs.SinkLemmas.{and_more, no_more}
 use Rattle.pep_require.proofs.clauses.walk_clauses.Given as given
 use Rattle.pep_require.proofs.clauses.walk_clauses.Goals as goal
@@ -29,13 +29,13 @@ returns-in_default-clause-same g c = c.in_ok-rest.ensures.same ∙ c.loop-rest.i
 
 -- what the sink keeps of the clauses with one more
 more : (g : given.Over) (c : In_ok-rest g) →
-    Adds (g.S.LineSink.holds c.args.sink.now c.args.line.now)
+    AddsClauses (g.S.LineSink.holds c.args.sink.now c.args.line.now)
     (g.S.LineSink.holds c.args.sink.now c.clause.new.line)
-    (with_clauses (c.loop-rest.invariant.2.0 ++ c.in_ok-rest.ensures.ok.0 ∷ []))
+    (c.loop-rest.invariant.2.0 ++ c.in_ok-rest.ensures.ok.0 ∷ [])
 more g c =
     let holds = g.S.LineSink.holds in
-    let here = subst (λ s. Adds (holds s c.loop-rest.line) (holds s c.clause.new.line)
-    (with_clauses (c.in_ok-rest.ensures.ok.0 ∷ []))) c.loop-rest.invariant.1 c.in_ok-rest.ensures.ok.2 in
+    let here = subst (λ s. AddsClauses (holds s c.loop-rest.line) (holds s c.clause.new.line)
+    (c.in_ok-rest.ensures.ok.0 ∷ [])) c.loop-rest.invariant.1 c.in_ok-rest.ensures.ok.2 in
     and_more (holds c.args.sink.now c.args.line.now) (holds c.args.sink.now c.loop-rest.line)
     (holds c.args.sink.now c.clause.new.line) c.loop-rest.invariant.2.0 (c.in_ok-rest.ensures.ok.0 ∷ [])
     c.loop-rest.invariant.2.2 here

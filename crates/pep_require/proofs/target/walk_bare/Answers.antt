@@ -1,3 +1,4 @@
+use Rattle.std.proofs.Common.{[]}
 use Rattle.std.proofs.lemmas.Result.{IfErr-weaker, IfOk-weaker}
 use Rattle.pep_require.specs.LineParts.{bad_bare, bare_target}
 use Rattle.pep_require.specs.Requirement.{bounds}
@@ -11,5 +12,5 @@ returns-clause-refused g c =
 
 pub returns-clause-ok : goal.returns-clause-ok
 returns-clause-ok g c =
-    IfOk-weaker c.walk_clauses.result _ _ (λ rest h. (bounds h.0, bare_target c.requires h.1, h.2))
+    IfOk-weaker c.walk_clauses.result _ _ (λ rest h. (bounds h.0, bare_target c.requires h.1, λ p bare held. h.2 p [] bare held))
     c.walk_clauses.ensures.ok

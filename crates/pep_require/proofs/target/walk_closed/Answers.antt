@@ -1,4 +1,4 @@
-use Rattle.std.proofs.Common.{inr, subst, true}
+use Rattle.std.proofs.Common.{[], inr, subst, true}
 use Rattle.std.proofs.lemmas.Result.{err_from_is_err_and}
 use Rattle.pep_require.specs.LineParts.{BoundsFrom, bad_closed, closed_target, not_closed}
 use Rattle.pep_require.specs.Requirement.{bounds}
@@ -19,5 +19,5 @@ returns-in-Some-clause-ok g c =
     let found = c.in_ok-inside.ensures.ok in (
       bounds found.0,
       closed_target (subst (BoundsFrom true c.args.text.now found.0) c.in-Some.ensures found.1),
-      found.2,
+      λ p bare held. found.2 p [] bare held,
     )

@@ -10,5 +10,5 @@ returns-clause-ok g c = (
   bounds [],
   no_target (no_target_byte c.args.text.now c.in_default.ensures c.in_default-behind.ensures
       (sym c.is_bare.ensures ∙ c.if-is_bare.false)),
-  no_more (g.S.LineSink.holds c.args.sink.now c.args.line.now),
+  λ p bare held. no_more (g.S.LineSink.holds c.args.sink.now c.args.line.now) p [] bare held,
 )
