@@ -16,4 +16,7 @@ pub mod TextLemmas
 pub mod RequirementTexts
 pub mod CommonUrls
 pub mod UrlRuns
+pub mod SortedNames
+pub mod SinkLemmas
+pub mod KeptLines
 mod Witnesses

@@ -1,5 +1,6 @@
 -- Why edits are refused: at one input, what the turned body gives is not what the clause says.
-use Rattle.std.proofs.Common.{◌≡◌, inl, inr, [], ◌∷◌, Some, None, true, false, codes, refl, arith}
+use Rattle.std.proofs.Common.{◌≡◌, ◌<◌, inl, inr, [], ◌∷◌, Some, None, true, false, codes, refl, arith}
+use Rattle.std.specs.Prelude.{IsTrue, ⊤}
 use Rattle.std.specs.Bool.{◌==◌}
 use Rattle.texts.specs.Bytes.{is_letter_or_digit}
 use Rattle.texts.specs.Runs.{begins, without_leading_blanks}
@@ -11,10 +12,16 @@ use Rattle.pep_marker.specs.declared.fault.MarkerFault.TheVariants as marker_fau
 use Rattle.pep_require.specs.CommonUrl.{IsCommonUrl}
 use Rattle.pep_require.specs.Code.{IsSameFault, require_inner_code}
 use Rattle.pep_require.specs.LineParts.{RefusesLine, RefusesWritten, StartsLine, bad_beginning}
-use Rattle.pep_require.specs.Requirement.{MarkerSays, UrlParts, bounds}
+use Rattle.pep_require.specs.LineParts.{bad_ending, no_target}
+use Rattle.pep_require.specs.Requirement.{MarkerSays, UrlParts, bounds, direct}
 use Rattle.pep_require.specs.RequirementText.{requirement_text}
 use Rattle.pep_require.specs.declared.fault.RequireFault.TheVariants as fault
+use Rattle.pep_require.specs.Sink.{IsWalked, more_clauses, with_extra, with_extras, with_name}
+use Rattle.pep_require.proofs.ExtrasLoops.{none_read}
 use Rattle.pep_require.proofs.FaultLaws.{one_fault}
+use Rattle.pep_require.proofs.LineLaws.{refused_is_not_read}
+use Rattle.pep_require.proofs.SinkLemmas.{sorted}
+use Rattle.specifiers.specs.Clause.{Clause}
 
 -- `extra ~= "a"`, which is undefined
 abbrev undefined_marker : MarkerParts
@@ -48,6 +55,48 @@ Requirement_read-trailing_where_no_name_begins h =
 pub Requirement_start-all_stands_behind : ¬ StartsLine (codes "a") (codes "a") (codes "a")
 unfolding is_letter_or_digit
 Requirement_start-all_stands_behind h = cc h.behind
+
+-- an empty line
+pub walk-trailing_where_no_name_begins : ¬ RefusesLine [] fault.Trailing
+walk-trailing_where_no_name_begins h =
+    differ (one_fault [] fault.Trailing fault.BadName (λ e. cc e) (λ e. cc e) (λ e. cc e) (λ e. cc e) h
+    (bad_beginning refl))
+
+trailing : RefusesLine (codes "a b") fault.Trailing
+unfolding is_letter_or_digit
+trailing = bad_ending refl (none_read (codes "b") [] refl refl) (no_target refl) (inr (refl, refl))
+
+-- `a b`
+pub walk-something_behind_the_target : ¬ IsWalked (codes "a b") (codes "a") (λ p. ⊤)
+walk-something_behind_the_target w =
+    let extras = sorted w.parts.extras in
+    refused_is_not_read (codes "a b") (with_extras extras.0 w.parts) fault.Trailing (λ e. cc e) (λ e. cc e) trailing
+    (w.read extras.0 extras.1 extras.2)
+
+-- what has an extra already
+pub Keeper_begin-what_was_kept : ¬ ((with_name (codes "a")).extras ≡ codes "b" ∷ [])
+Keeper_begin-what_was_kept e = cc e
+
+-- `c` behind `b`
+pub Keeper_extra-the_first_alone : ¬ ((with_extra (codes "c") (with_extra (codes "b") (with_name (codes "a")))).extras
+    ≡ codes "b" ∷ [])
+Keeper_extra-the_first_alone e = cc e
+
+-- any clause, the first of the line
+pub Keeper_clause-read_and_dropped : (c : Clause) → ¬ (more_clauses (c ∷ []) (bounds []) ≡ bounds [])
+Keeper_clause-read_and_dropped c e = cc e
+
+-- any URL
+pub Keeper_url-no_target : (u : UrlParts) → ¬ (direct u ≡ bounds [])
+Keeper_url-no_target u e = cc e
+
+-- any marker
+pub Keeper_marker-none : (m : MarkerParts) → ¬ (Some m ≡ None)
+Keeper_marker-none m e = cc e
+
+-- an empty text
+pub UrlText_is_its_text-any_text : ¬ (IsTrue true → 0 < 0)
+UrlText_is_its_text-any_text h = omega (arith, h refl)
 
 -- `a` with a marker
 pub Requirement_text-without_the_marker : ¬ (codes "a" ≡ requirement_text (record {

@@ -1,6 +1,7 @@
 // The clauses of a line (PEP 508, "Grammar"), read from left to right. No text is copied.
 
-ghost use Rattle.std.specs.Prelude.{◌≡◌, ◌⊎◌, ◌++◌, ◌∷◌, [], if◌then◌else◌, IfErr, IfOk, OnOk};
+ghost use Rattle.std.specs.Prelude.{◌≡◌, ◌⊎◌, ◌++◌, ◌∷◌, [], if◌then◌else◌, IfErr, IfOk, List, OnOk};
+ghost use Rattle.specifiers.specs.Clause.{Clause as ClauseParts};
 ghost use Rattle.pep_require.specs.LineParts.{
   BoundFrom,
   BoundsFrom,
@@ -8,9 +9,11 @@ ghost use Rattle.pep_require.specs.LineParts.{
   RefusesBounds,
   is_end,
 };
+ghost use Rattle.pep_require.specs.Sink.{AddsClauses};
 
 use crate::fault::RequireFault;
 use crate::front::{behind, pieces, stripped};
+use crate::sink::LineSink;
 use specifiers::{Clause, ClauseFault, Op};
 use std::alloc::Global;
 use texts::{clause_run, first_part};
@@ -123,6 +126,34 @@ fn read_clauses<'a>(
     loop {
         let (clause, rest) = clause_at(alloc, left)?;
         keep_clause(clauses, clause, rest, closed)?;
+        let Some(others) = behind(rest, ',') else {
+            return Ok(rest);
+        };
+        left = stripped(others);
+        if is_end(closed, left) {
+            return Ok(left);
+        }
+    }
+}
+
+// The clauses in front of the text, one or more, joined by `,`, go to the sink. What stands behind them is given; a `,`
+// behind the last one is dropped. The faults are those of the first clause that is refused.
+pub(crate) fn walk_clauses<'a, S: LineSink>(
+    sink: &mut S,
+    line: &mut S::Line,
+    text: &'a str,
+    closed: bool,
+) -> Result<&'a str, RequireFault>
+    ensures same { sink.new ≡ sink.old }
+    ensures ok { IfOk result (λ rest. (cs : List ClauseParts)
+        × BoundsFrom closed text.now cs rest.now
+        × AddsClauses (S.holds sink.old line.old) (S.holds sink.old line.new) cs) }
+    ensures refused { IfErr result (λ e. (e ≡ RequireFault.NoMemory)
+        ⊎ RefusesBounds closed text.now e) }
+{
+    let mut left = text;
+    loop {
+        let rest = sink.clause(line, left)?;
         let Some(others) = behind(rest, ',') else {
             return Ok(rest);
         };

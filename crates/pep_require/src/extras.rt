@@ -1,13 +1,15 @@
 // The extras of a requirement line (PEP 508, "Extras").
 
-ghost use Rattle.std.specs.Prelude.{◌≡◌, ◌⊎◌, ◌↔◌, ℕ, Contains, IfErr, IfOk, List};
+ghost use Rattle.std.specs.Prelude.{◌≡◌, ◌⊎◌, ◌↔◌, ℕ, Contains, IfErr, IfOk, List, OnOk};
 ghost use Rattle.pep_require.specs.ExtrasParts.{NamesWithin, NoExtra, NoneWithin};
 ghost use Rattle.pep_require.specs.LineParts.{ExtrasFrom, RefusesExtras};
 ghost use Rattle.pep_require.specs.Reads.{IsExtra};
 ghost use Rattle.pep_require.specs.Requirement.{IsAscending};
+ghost use Rattle.pep_require.specs.Sink.{Adds, ExtrasNamed, with_named};
 
 use crate::fault::RequireFault;
 use crate::front::{behind, pieces, stripped};
+use crate::sink::LineSink;
 use pep_marker::{MarkerFault, Name};
 use std::alloc::Global;
 use texts::name_run;
@@ -76,8 +78,57 @@ fn extra(alloc: Global, piece: &str) -> Result<Name, RequireFault>
     }
 }
 
+// The extras in front of the text, and none where it doesn't begin with `[`, go to the sink. What stands behind them is
+// given.
+#[inline(always)]
+pub(crate) fn walk_extras<'a, S: LineSink>(
+    alloc: Global,
+    sink: &mut S,
+    line: &mut S::Line,
+    text: &'a str,
+) -> Result<&'a str, RequireFault>
+    ensures same { sink.new ≡ sink.old }
+    ensures ok { IfOk result (λ rest. (names : List (List ℕ))
+        × ExtrasNamed text.now names rest.now
+        × Adds (S.holds sink.old line.old) (S.holds sink.old line.new) (with_named names)) }
+    ensures refused { IfErr result (λ e. (e ≡ RequireFault.NoMemory)
+        ⊎ RefusesExtras text.now e) }
+{
+    let Some(behind) = behind(text, '[') else {
+        return Ok(text);
+    };
+    let Some((inner, rest)) = behind.split_once(']') else {
+        return Err(RequireFault::BadExtras);
+    };
+    walk_names(alloc, sink, line, inner)?;
+    Ok(rest)
+}
+
+// The names between the brackets, in the order of the text: white space alone, or names joined by `,`.
+fn walk_names<S: LineSink>(
+    alloc: Global,
+    sink: &mut S,
+    line: &mut S::Line,
+    inner: &str,
+) -> Result<(), RequireFault>
+    ensures same { sink.new ≡ sink.old }
+    ensures ok { OnOk result ((names : List (List ℕ)) × NamesWithin inner.now names
+        × Adds (S.holds sink.old line.old) (S.holds sink.old line.new) (with_named names)) }
+    ensures refused { IfErr result (λ e. (e ≡ RequireFault.NoMemory)
+        ⊎ ((e ≡ RequireFault.BadExtras) × NoneWithin inner.now)) }
+{
+    if stripped(inner).is_empty() {
+        return Ok(());
+    }
+    for piece in inner.split(',') {
+        let name = extra(alloc, piece)?;
+        sink.extra(line, name)?;
+    }
+    Ok(())
+}
+
 // Sorts the names, and keeps each once.
-fn sort(names: &mut Vec<Name>)
+pub(crate) fn sort(names: &mut Vec<Name>)
     ensures ascending { IsAscending names.new.items }
     ensures same { (n : List ℕ) → Contains names.new.items n ↔ Contains names.old.items n }
 {

@@ -1,19 +1,18 @@
 // How a requirement line is read, part by part from left to right.
 
 ghost use Rattle.std.specs.Prelude.{◌≡◌, ◌⊎◌, ◌∷◌, [], IfErr, IfOk, MatchOption, None, Some};
-ghost use Rattle.std.specs.Option.{option_map};
 ghost use Rattle.pep_marker.specs.Name.{name_of};
-ghost use Rattle.pep_marker.specs.View.{marker_parts};
 ghost use Rattle.pep_require.specs.Faults.{after_name, beginning_fault, name_run};
 ghost use Rattle.pep_require.specs.LineParts.{RefusesEnding};
-ghost use Rattle.pep_require.specs.Reads.{ReadsMarker};
 
 use crate::extras::extras_at;
 use crate::fault::RequireFault;
 use crate::front::{behind, stripped};
+use crate::keeping::{Keeper, Kept};
 use crate::requirement::Requirement;
 use crate::target::target_at;
-use pep_marker::{Marker, MarkerFault, Name};
+use crate::walking::walk;
+use pep_marker::Name;
 use std::alloc::Global;
 use texts::LINE_LIMIT;
 
@@ -36,26 +35,9 @@ impl Requirement {
         ensures ok { IfOk result (λ r. Reads line.now (requirement_parts r)) }
         ensures refused { IfErr result (RefusesLine line.now) }
     {
-        let front = Requirement::front(alloc, line)?;
-        let marker = marker_at(alloc, front.left)?;
-        let requirement = front.requirement;
-        Ok(Requirement {
-            name: requirement.name,
-            extras: requirement.extras,
-            target: requirement.target,
-            marker,
-        })
-    }
-
-    // A requirement line up to its marker.
-    #[inline(always)]
-    fn front<'a>(alloc: Global, line: &'a str) -> Result<Front<'a>, RequireFault>
-        ensures ok { IfOk result (λ front.
-            ReadsFront line.now (requirement_parts front.requirement) front.left.now) }
-        ensures refused { IfErr result (RefusesLine line.now) }
-    {
-        let start = Requirement::start(alloc, line)?;
-        Requirement::front_behind(alloc, start.name, start.rest)
+        let mut kept = Kept::new(alloc);
+        let name = walk(alloc, &mut Keeper { alloc, text: line }, &mut kept, line)?;
+        Ok(kept.requirement(name))
     }
 
     /// Reads the name that a requirement line begins with (PEP 508, "Grammar"), for
@@ -118,7 +100,7 @@ pub struct Start<'a> {
 }
 
 // The name at the front of a line, with the white space before and behind it.
-fn name_at<'a>(alloc: Global, line: &'a str) -> Result<Start<'a>, RequireFault>
+pub(crate) fn name_at<'a>(alloc: Global, line: &'a str) -> Result<Start<'a>, RequireFault>
     ensures begun { IfOk result (λ _. beginning_fault line.now ≡ None) }
     ensures name { IfOk result (λ start. name_of (name_run line.now) ≡ Some start.name) }
     ensures rest { IfOk result (λ start. start.rest.now ≡ after_name line.now) }
@@ -153,22 +135,5 @@ pub fn marker_text(left: &str) -> Result<Option<&str>, RequireFault>
     match behind(left, ';') {
         Some(text) => Ok(Some(text)),
         None => Err(RequireFault::Trailing),
-    }
-}
-
-// The marker of a line, whose end this text is, without white space before it.
-fn marker_at(alloc: Global, left: &str) -> Result<Option<Marker>, RequireFault>
-    ensures read { IfOk result (λ found. ReadsMarker left.now (option_map marker_parts found)) }
-    ensures refused { IfErr result (λ e. (e ≡ RequireFault.NoMemory)
-        ⊎ RefusesEnding left.now e) }
-{
-    let found = marker_text(left)?;
-    let Some(text) = found else {
-        return Ok(None);
-    };
-    match Marker::read(alloc, text) {
-        Ok(marker) => Ok(Some(marker)),
-        Err(MarkerFault::NoMemory) => Err(RequireFault::NoMemory),
-        Err(fault) => Err(RequireFault::BadMarker(fault)),
     }
 }

@@ -5,12 +5,15 @@ ghost use Rattle.std.specs.List.{prefix_len};
 ghost use Rattle.texts.specs.Runs.{begins};
 ghost use Rattle.texts.specs.Bytes.{is_blank_byte};
 ghost use Rattle.pep_require.specs.LineParts.{RefusesTarget, TargetFrom, is_bare_byte};
+ghost use Rattle.pep_require.specs.Requirement.{TargetParts};
+ghost use Rattle.pep_require.specs.Sink.{AddsTarget};
 ghost use Rattle.pep_require.specs.View.{target_parts};
 
-use crate::clauses::clauses_at;
+use crate::clauses::{clauses_at, walk_clauses};
 use crate::fault::RequireFault;
 use crate::front::{behind, stripped};
 use crate::requirement::Target;
+use crate::sink::LineSink;
 use crate::url_text::UrlText;
 use memchr::memchr2;
 use std::alloc::Global;
@@ -108,4 +111,83 @@ fn url_run(text: &[u8]) -> usize
         Some(at) => at,
         None => text.len(),
     }
+}
+
+// The target in front of the text, before which no white space stands, goes to the sink. What stands behind it is given.
+#[inline(always)]
+pub(crate) fn walk_target<'a, S: LineSink>(
+    sink: &mut S,
+    line: &mut S::Line,
+    text: &'a str,
+) -> Result<&'a str, RequireFault>
+    ensures same { sink.new ≡ sink.old }
+    ensures ok { IfOk result (λ rest. (t : TargetParts) × TargetFrom text.now t rest.now
+        × AddsTarget (S.holds sink.old line.old) (S.holds sink.old line.new) t) }
+    ensures refused { IfErr result (λ e. (e ≡ RequireFault.NoMemory)
+        ⊎ RefusesTarget text.now e) }
+{
+    if let Some(rest) = behind(text, '@') {
+        return walk_url(sink, line, rest);
+    }
+    if let Some(rest) = behind(text, '(') {
+        return walk_closed(sink, line, rest);
+    }
+    if is_bare(text) {
+        return walk_bare(sink, line, text);
+    }
+    Ok(text)
+}
+
+// The clauses in front of the text, without parentheses.
+#[inline(always)]
+fn walk_bare<'a, S: LineSink>(
+    sink: &mut S,
+    line: &mut S::Line,
+    text: &'a str,
+) -> Result<&'a str, RequireFault>
+    requires { begins is_bare_byte text.now ≡ true }
+    ensures same { sink.new ≡ sink.old }
+    ensures ok { IfOk result (λ rest. (t : TargetParts) × TargetFrom text.now t rest.now
+        × AddsTarget (S.holds sink.old line.old) (S.holds sink.old line.new) t) }
+    ensures refused { IfErr result (λ e. (e ≡ RequireFault.NoMemory)
+        ⊎ RefusesTarget text.now e) }
+{
+    walk_clauses(sink, line, text, false)
+}
+
+// The clauses behind a `(`, and the `)` behind them.
+fn walk_closed<'a, S: LineSink>(
+    sink: &mut S,
+    line: &mut S::Line,
+    text: &'a str,
+) -> Result<&'a str, RequireFault>
+    ensures same { sink.new ≡ sink.old }
+    ensures ok { IfOk result (λ rest. (t : TargetParts) × TargetFrom (40 ∷ text.now) t rest.now
+        × AddsTarget (S.holds sink.old line.old) (S.holds sink.old line.new) t) }
+    ensures refused { IfErr result (λ e. (e ≡ RequireFault.NoMemory)
+        ⊎ RefusesTarget (40 ∷ text.now) e) }
+{
+    let inside = walk_clauses(sink, line, text, true)?;
+    match behind(inside, ')') {
+        Some(rest) => Ok(rest),
+        None => Err(RequireFault::Trailing),
+    }
+}
+
+// The URL behind an `@`, up to the next white space.
+fn walk_url<'a, S: LineSink>(
+    sink: &mut S,
+    line: &mut S::Line,
+    text: &'a str,
+) -> Result<&'a str, RequireFault>
+    ensures same { sink.new ≡ sink.old }
+    ensures ok { IfOk result (λ rest. (t : TargetParts) × TargetFrom (64 ∷ text.now) t rest.now
+        × AddsTarget (S.holds sink.old line.old) (S.holds sink.old line.new) t) }
+    ensures refused { IfErr result (λ e. (e ≡ RequireFault.NoMemory)
+        ⊎ RefusesTarget (64 ∷ text.now) e) }
+{
+    let text = stripped(text);
+    let (written, rest) = text.split_at(url_run(text.as_bytes()));
+    sink.url(line, written)?;
+    Ok(rest)
 }

@@ -86,6 +86,20 @@ impl UrlText {
         })
     }
 
+    /// Whether the text is a URL of the common form (see
+    /// [`common_url_is_its_text`](crate::laws::common_url_is_its_text)): then it is read as a URL that is printed as it is
+    /// written. So no memory is needed to know the URL's text. Any other text may be a URL too.
+    pub fn is_its_text(written: &str) -> bool
+        ensures reads { IsTrue result → ReadsUrl written.now (record {
+          written = written.now;
+          text = written.now;
+        }) }
+        ensures some { IsTrue result → 0 < length written.now }
+        ensures bytes { IsTrue result → IsTrue (list_all is_url_byte written.now) }
+    {
+        is_common(written)
+    }
+
     // A URL of the common form, which is printed as it is written.
     fn common(alloc: Global, written: &str) -> Result<UrlText, AllocError>
         requires { IsCommonUrl written.now }

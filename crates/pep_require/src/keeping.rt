@@ -1,0 +1,182 @@
+// A sink that keeps the parts of a line.
+
+ghost use Rattle.std.specs.Prelude.{◌≡◌, ◌⊎◌, ◌++◌, ◌∷◌, [], IfErr, IfOk, None, OnOk};
+ghost use Rattle.pep_marker.specs.Marker.{IsMarker};
+ghost use Rattle.pep_marker.specs.View.{marker_parts};
+ghost use Rattle.pep_require.specs.LineParts.{RefusesMarker};
+ghost use Rattle.pep_require.specs.Requirement.{bounds};
+ghost use Rattle.pep_require.specs.Sink.{more_clauses};
+ghost use Rattle.pep_require.specs.View.{target_parts};
+
+use crate::clauses::clause_at;
+use crate::extras::sort;
+use crate::fault::RequireFault;
+use crate::front::{behind, pieces};
+use crate::requirement::{Requirement, Target};
+use crate::sink::LineSink;
+use crate::url_text::UrlText;
+use pep_marker::{Marker, MarkerFault, Name};
+use specifiers::Clause;
+use std::alloc::Global;
+use texts::first_part;
+
+// Keeps the parts of this line.
+#[derive(Drop)]
+pub(crate) struct Keeper<'t> {
+    pub(crate) alloc: Global,
+    pub(crate) text: &'t str,
+}
+
+// The parts of a line but its name, the extras as they stand in it.
+#[derive(Drop)]
+pub(crate) struct Kept {
+    pub(crate) extras: Vec<Name>,
+    pub(crate) target: Target,
+    pub(crate) marker: Option<Marker>,
+}
+
+impl Kept {
+    ghost use Rattle.std.specs.Prelude.{List, ℕ};
+    ghost use Rattle.pep_require.specs.Kept.{Keeps};
+    ghost use Rattle.pep_require.specs.Reads.{Reads};
+    ghost use Rattle.pep_require.specs.Sink.{IsWalked};
+    ghost use Rattle.pep_require.specs.View.{requirement_parts};
+
+    // Nothing of any line.
+    pub(crate) fn new(alloc: Global) -> Kept
+        ensures extras { result.extras.items ≡ [] }
+        ensures target { target_parts result.target ≡ bounds [] }
+        ensures marker { result.marker ≡ None }
+    {
+        Kept {
+            extras: Vec::new(alloc),
+            target: Target::Bounds(Vec::new(alloc)),
+            marker: None,
+        }
+    }
+
+    // The requirement that the line is read as of which this is kept.
+    #[inline(always)]
+    pub(crate) fn requirement(self, name: Name) -> Requirement
+        ensures { (line : List ℕ) → IsWalked line name (Keeps self)
+            → Reads line (requirement_parts result) }
+    {
+        let mut extras = self.extras;
+        let mut target = self.target;
+        sort(&mut extras);
+        shrink(&mut target);
+        Requirement {
+            name,
+            extras,
+            target,
+            marker: self.marker,
+        }
+    }
+}
+
+// A `,` behind the last clause was counted.
+fn shrink(target: &mut Target)
+    ensures { target_parts target.new ≡ target_parts target.old }
+{
+    if let Target::Bounds(clauses) = target {
+        clauses.shrink_to_fit();
+    }
+}
+
+// How many extras a line has at most, behind whose `[` the first one stands.
+fn count_extras(line: &str) -> usize {
+    let (_, Some(rest)) = first_part(line.as_bytes(), b'[') else {
+        return 1;
+    };
+    let (listed, _) = first_part(rest, b']');
+    pieces(listed)
+}
+
+// How many clauses a list has at most whose first one stands before this text: most lists have one, behind which no `,`
+// stands.
+fn count_clauses(rest: &str) -> usize {
+    if behind(rest, ',').is_none() {
+        return 1;
+    }
+    let (listed, _) = first_part(rest.as_bytes(), b';');
+    let (listed, _) = first_part(listed, b')');
+    pieces(listed)
+}
+
+// A clause behind which this text stands goes to the end of the list, which has room for all clauses once it has the
+// first.
+#[inline(always)]
+fn keep_clause(clauses: &mut Vec<Clause>, clause: Clause, rest: &str) -> Result<(), RequireFault>
+    ensures items { OnOk result (clauses.new.items ≡ clauses.old.items ++ clause ∷ []) }
+    ensures faults { IfErr result (λ e. e ≡ RequireFault.NoMemory) }
+{
+    if clauses.is_empty() {
+        clauses.reserve_exact(count_clauses(rest))?;
+    }
+    clauses.push(clause)?;
+    Ok(())
+}
+
+// A clause behind which this text stands goes to those of the target. A URL has none.
+#[inline(always)]
+fn target_clause(target: &mut Target, clause: Clause, rest: &str) -> Result<(), RequireFault>
+    ensures target { OnOk result (target_parts target.new
+        ≡ more_clauses (clause ∷ []) (target_parts target.old)) }
+    ensures faults { IfErr result (λ e. e ≡ RequireFault.NoMemory) }
+{
+    match target {
+        Target::Bounds(clauses) => keep_clause(clauses, clause, rest),
+        Target::Direct(_) => Ok(()),
+    }
+}
+
+// An extra goes to the end of the list, which has room for all extras of the line once it has the first.
+fn keep_extra(names: &mut Vec<Name>, name: Name, line: &str) -> Result<(), RequireFault>
+    ensures items { OnOk result (names.new.items ≡ names.old.items ++ name ∷ []) }
+    ensures faults { IfErr result (λ e. e ≡ RequireFault.NoMemory) }
+{
+    if names.is_empty() {
+        names.reserve_exact(count_extras(line))?;
+    }
+    names.push(name)?;
+    Ok(())
+}
+
+impl<'t> LineSink for Keeper<'t> {
+    ghost use Rattle.pep_require.specs.Kept.{Keeps};
+
+    type Line = Kept;
+
+    ghost holds = { λ _ line p. Keeps line p };
+
+    fn begin(&mut self, line: &mut Kept) {
+        *line = Kept::new(self.alloc);
+    }
+
+    fn extra(&mut self, line: &mut Kept, name: Name) -> Result<(), RequireFault> {
+        keep_extra(&mut line.extras, name, self.text)
+    }
+
+    #[inline(always)]
+    fn clause<'a>(&mut self, line: &mut Kept, text: &'a str) -> Result<&'a str, RequireFault> {
+        let (clause, rest) = clause_at(self.alloc, text)?;
+        target_clause(&mut line.target, clause, rest)?;
+        Ok(rest)
+    }
+
+    fn url(&mut self, line: &mut Kept, written: &str) -> Result<(), RequireFault> {
+        line.target = Target::Direct(UrlText::read(self.alloc, written)?);
+        Ok(())
+    }
+
+    fn marker(&mut self, line: &mut Kept, text: &str) -> Result<(), RequireFault> {
+        match Marker::read(self.alloc, text) {
+            Ok(marker) => {
+                line.marker = Some(marker);
+                Ok(())
+            }
+            Err(MarkerFault::NoMemory) => Err(RequireFault::NoMemory),
+            Err(fault) => Err(RequireFault::BadMarker(fault)),
+        }
+    }
+}

@@ -1,0 +1,61 @@
+// The walk of a requirement line, from left to right, into a sink.
+
+ghost use Rattle.std.specs.Prelude.{◌≡◌, ◌⊎◌, IfErr, IfOk, None, OnOk, Option};
+ghost use Rattle.pep_marker.specs.Marker.{MarkerParts};
+ghost use Rattle.pep_require.specs.LineParts.{RefusesEnding, RefusesLine, with_marker};
+ghost use Rattle.pep_require.specs.Reads.{ReadsMarker};
+ghost use Rattle.pep_require.specs.Requirement.{RequirementParts};
+ghost use Rattle.pep_require.specs.Sink.{IsWalked};
+
+use crate::extras::walk_extras;
+use crate::fault::RequireFault;
+use crate::front::stripped;
+use crate::read::{marker_text, name_at};
+use crate::sink::LineSink;
+use crate::target::walk_target;
+use pep_marker::Name;
+use std::alloc::Global;
+
+// The marker of a line, whose end this text is, without white space before it.
+#[inline(always)]
+fn walk_ending<S: LineSink>(
+    sink: &mut S,
+    line: &mut S::Line,
+    left: &str,
+) -> Result<(), RequireFault>
+    ensures same { sink.new ≡ sink.old }
+    ensures ok { OnOk result ((m : Option MarkerParts) × ReadsMarker left.now m
+        × ((p : RequirementParts) → p.marker ≡ None → S.holds sink.old line.old p
+        → S.holds sink.old line.new (with_marker m p))) }
+    ensures refused { IfErr result (λ e. (e ≡ RequireFault.NoMemory) ⊎ RefusesEnding left.now e) }
+{
+    match marker_text(left)? {
+        Some(text) => sink.marker(line, text),
+        None => Ok(()),
+    }
+}
+
+/// Walks a requirement line once (PEP 508, "Grammar"): tells the sink its parts, in the order of the line, and gives
+/// the name. What the sink then keeps of the line holds of the parts that the line is read as, with the extras as they
+/// stand in it.
+///
+/// The refusals are those of [`Requirement::read`](crate::Requirement::read), for the first part at fault, from left
+/// to right; the sink's value may then hold anything. So a caller judges what was kept behind the walk.
+#[inline(always)]
+pub fn walk<S: LineSink>(
+    alloc: Global,
+    sink: &mut S,
+    line: &mut S::Line,
+    text: &str,
+) -> Result<Name, RequireFault>
+    ensures same { sink.new ≡ sink.old }
+    ensures ok { IfOk result (λ name. IsWalked text.now name (S.holds sink.old line.new)) }
+    ensures refused { IfErr result (RefusesLine text.now) }
+{
+    sink.begin(line);
+    let start = name_at(alloc, text)?;
+    let behind_extras = walk_extras(alloc, sink, line, start.rest)?;
+    let behind_target = walk_target(sink, line, stripped(behind_extras))?;
+    walk_ending(sink, line, stripped(behind_target))?;
+    Ok(start.name)
+}
