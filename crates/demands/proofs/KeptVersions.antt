@@ -21,7 +21,6 @@ use Rattle.places.specs.LeftOut.{IsPart}
 use Rattle.places.specs.declared.bounds.Bounds.{Bounds}
 use Rattle.places.proofs.LeftOver.{all_points, is_below, outside_points}
 use Rattle.demands.specs.Join.{IsIntersection}
-use Rattle.demands.specs.LineVersions.{left_out_versions}
 use Rattle.demands.specs.PartialJoins.{AreKept, AreNormal, joined_sets, kept_versions}
 use Rattle.demands.proofs.PartialJoins.{normal_sets}
 use Rattle.demands.proofs.TakenClauses.{all_meets}

@@ -5,14 +5,16 @@ use Rattle.std.proofs.lemmas.List.Elements.{All-nil, All-push}
 use Rattle.specifiers.specs.Clause.{Clause, demanded, demanded_text, is_demanded_text}
 use Rattle.specifiers.specs.Valid.{IsValidClause}
 use Rattle.pep_clause.specs.VersionSet.{IsNormal, Range, all_versions}
+use Rattle.pep_clause.proofs.LeastCut.{IsNormal-all_versions}
 use Rattle.pep_marker.specs.Name.{IsNormalName}
-use Rattle.pep_require.specs.Requirement.{RequirementParts, UrlParts, bounds, direct}
+use Rattle.pep_require.specs.Requirement.{RequirementParts, UrlParts, bounds}
+use Rattle.pep_require.specs.Sink.{more_clauses, with_clauses, with_name, with_target}
 use Rattle.demands.specs.Gathering.{MeetsClauses, bare_entry, target_clauses, target_urls, texts_of}
 use Rattle.demands.specs.Join.{IsIntersection, IsUnion}
 use Rattle.demands.specs.LineDemands.{AddsClause, AddsExtra, AddsUrl, DemandsEntry, DemandsRanges}
 use Rattle.demands.specs.Table.{EntryParts, is_url_text}
-use Rattle.demands.proofs.KeptSets.{union_more}
-use Rattle.demands.proofs.TakenClauses.{meets_more, meets_one, meets_text, text_of_none, texts_append, texts_more}
+use Rattle.demands.proofs.KeptSets.{union_more, union_none}
+use Rattle.demands.proofs.TakenClauses.{meets_more, meets_none, meets_one, meets_text, text_of_none, texts_append, texts_more}
 
 -- the URLs of clauses are none, whatever they are
 no_urls : (r : RequirementParts) (cs : List Clause) (old new : List (List ℕ)) → r.target ≡ bounds cs → new ≡ old →
@@ -44,11 +46,16 @@ more_versions r cs c old new same h g =
     meets_more all_versions old new cs (cs ++ c ∷ []) c
     (subst (λ t. MeetsClauses all_versions (target_clauses t) old) same h) g refl
 
+-- the requirement whose clauses are these, with one behind them
+behind_clauses : (r : RequirementParts) (cs : List Clause) (c : Clause) (e : EntryParts) → r.target ≡ bounds cs →
+    DemandsEntry (with_target (bounds (cs ++ c ∷ [])) r) e → DemandsEntry (with_clauses (c ∷ []) r) e
+behind_clauses r cs c e same h = subst (λ t. DemandsEntry (with_target (more_clauses (c ∷ []) t) r) e) (sym same) h
+
 -- a clause that demands versions
 pub clause_added : (c : Clause) (ranges : List Range) (old new : EntryParts) → DemandsRanges c ranges →
     new.extras ≡ old.extras → new.urls ≡ old.urls → new.texts ≡ old.texts →
     IsIntersection old.versions ranges new.versions → AddsClause c old new
-clause_added c ranges old new d e u t i r cs same h = record {
+clause_added c ranges old new d e u t i r cs same h = behind_clauses r cs c new same (record {
   extras = h.extras;
   urls = All-nil (λ u. IsTrue (is_url_text u));
   clauses = valid_clauses r cs c same h.clauses d.valid;
@@ -59,13 +66,13 @@ clause_added c ranges old new d e u t i r cs same h = record {
     versions = more_versions r cs c old.versions new.versions same h.demands.versions
         (meets_one old.versions new.versions ranges c d.versions i);
   };
-}
+})
 
 -- a clause that demands a text
 pub text_added : (text : List ℕ) (old new : EntryParts) → IsTrue (is_demanded_text text) → IsNormal old.versions →
     new.extras ≡ old.extras → new.urls ≡ old.urls → IsUnion old.texts (text ∷ []) new.texts →
     new.versions ≡ old.versions → AddsClause (demanded text) old new
-text_added text old new valid normal e u t v r cs same h = record {
+text_added text old new valid normal e u t v r cs same h = behind_clauses r cs (demanded text) new same (record {
   extras = h.extras;
   urls = All-nil (λ u. IsTrue (is_url_text u));
   clauses = valid_clauses r cs (demanded text) same h.clauses valid;
@@ -78,7 +85,7 @@ text_added text old new valid normal e u t v r cs same h = record {
         (subst (λ l. MeetsClauses old.versions (demanded text ∷ []) l) (sym v)
         (meets_text old.versions (demanded text) text normal refl));
   };
-}
+})
 
 -- an extra
 pub extra_added : (n : List ℕ) (old new : EntryParts) → IsNormalName n → IsUnion old.extras (n ∷ []) new.extras →
@@ -113,5 +120,19 @@ url_added text old new valid e x t v u named r same h = record {
         (subst (λ s. IsUnion [] (texts_of (target_clauses s)) old.texts) same h.demands.texts);
     versions = subst (λ l. MeetsClauses all_versions [] l) (sym v)
         (subst (λ s. MeetsClauses all_versions (target_clauses s) old.versions) same h.demands.versions);
+  };
+}
+
+-- a line that begins demands nothing
+pub bare_demanded : (name : List ℕ) → DemandsEntry (with_name name) bare_entry
+bare_demanded name = record {
+  extras = All-nil IsNormalName;
+  urls = All-nil (λ u. IsTrue (is_url_text u));
+  clauses = All-nil IsValidClause;
+  demands = record {
+    extras = union_none [] tt;
+    urls = union_none [] tt;
+    texts = union_none [] tt;
+    versions = meets_none all_versions IsNormal-all_versions;
   };
 }

@@ -1,7 +1,11 @@
 -- The versions that the clauses of a line admit: with one clause more, and met with those of a package.
-use Rattle.std.proofs.Common.{◌≡◌, ◌&&◌, Bool, List, [], ◌∷◌, ◌++◌, map, sym, ap, subst, ◌∙◌}
+use Rattle.std.proofs.Common.{◌≡◌, ◌&&◌, ℕ, Bool, List, [], ◌∷◌, ◌++◌, Result, Ok, Err, map, sym, ap, subst, ◌∙◌}
+use Rattle.std.specs.Prelude.{OnErr, OnOk}
+use Rattle.std.specs.List.{All}
+use Rattle.std.proofs.lemmas.List.Elements.{All-nil, All-push}
 use Rattle.std.proofs.Math.Bool.{and_assoc}
-use Rattle.std.proofs.lemmas.List.{append_assoc, map_push}
+use Rattle.std.proofs.Common.{append_assoc}
+use Rattle.std.proofs.lemmas.List.{map_push}
 use Rattle.texts.proofs.Connectives.{and_given, and_given_second}
 use Rattle.pep_clause.specs.Cut.{Cut, IsCut, end, least}
 use Rattle.pep_clause.specs.Joined.{joined}
@@ -9,11 +13,16 @@ use Rattle.pep_clause.specs.VersionSet.{IsNormal, Range, all_versions, is_point}
 use Rattle.pep_clause.proofs.JoinedPoints.{is_point-joined}
 use Rattle.pep_clause.proofs.LeastCut.{IsNormal-all_versions, point-all_versions}
 use Rattle.places.specs.declared.bounds.Bounds.{Bounds}
-use Rattle.demands.specs.Join.{IsIntersection}
-use Rattle.demands.specs.LineSets.{AreLineSets, left_over, line_sets}
-use Rattle.demands.specs.PartialJoins.{AreKept, AreNormal, joined_sets}
-use Rattle.demands.proofs.KeptVersions.{last_two}
+use Rattle.pep_require.specs.Requirement.{IsAscending}
+use Rattle.demands.specs.Gathering.{bare_entry}
+use Rattle.demands.specs.Join.{IsIntersection, IsUnion}
+use Rattle.demands.specs.LineSets.{AreLineSets, AreValidOthers, left_over, line_sets, line_versions}
+use Rattle.demands.specs.Others.{OtherParts, entry_with, no_others}
+use Rattle.demands.specs.PartialJoins.{AreNormal, joined_sets, kept_versions}
+use Rattle.demands.specs.Table.{IsValidEntry}
+use Rattle.demands.proofs.KeptVersions.{kept-normal, last_two}
 use Rattle.demands.proofs.PartialJoins.{normal_behind, normal_sets, points_behind}
+use Rattle.demands.proofs.ValidEntries.{union_holds}
 
 points_both : (xs ys : List (List Range)) (c : Cut) →
     is_point (joined_sets (xs ++ ys)) c ≡ (is_point (joined_sets xs) c && is_point (joined_sets ys) c)
@@ -108,3 +117,36 @@ meets_line a b d f range outs sets h g k = record {
       ∙ and_assoc (is_point a cut) (is_point range cut) (is_point (joined_sets (line_sets outs sets)) cut)
       ∙ ap (λ x. is_point a cut && x) (sym (is_point-joined range (joined_sets (line_sets outs sets)) cut));
 }
+
+-- ---- a line that demands nothing
+
+pub nothing_kept : (b : Bounds) (outs : List Bounds) (sets : List (List Range)) (o : OtherParts) → b.low ≡ least →
+    b.high ≡ end → outs ≡ [] → sets ≡ [] → o ≡ no_others → entry_with o (line_versions b outs sets) ≡ bare_entry
+nothing_kept b outs sets o low high none no_set bare =
+    λ i. entry_with (bare i) (kept_versions (low i) (high i) (joined_sets (line_sets (none i) (no_set i))))
+
+-- ---- all of it may stand in a table
+
+pub line_valid : (b : Bounds) (outs : List Bounds) (sets : List (List Range)) (o : OtherParts) →
+    AreLineSets b outs sets → AreValidOthers o → IsAscending o.extras → IsAscending o.urls → IsAscending o.texts →
+    IsValidEntry (entry_with o (line_versions b outs sets))
+line_valid b outs sets o are valid e u t = record {
+  extras = (e, valid.extras);
+  urls = (u, valid.urls);
+  texts = (t, valid.texts);
+  versions = kept-normal b.low b.high (joined_sets (line_sets outs sets)) are.kept;
+}
+
+-- with other sets beside the places
+pub other_sets : (b : Bounds) (outs new : List Bounds) (sets more : List (List Range)) → AreLineSets b outs sets →
+    AreNormal (line_sets new more) → AreLineSets b new more
+other_sets b outs new sets more are normal = record {
+  kept = record { low = are.kept.low; high = are.kept.high; beside = normal_sets (line_sets new more) normal };
+  normal = normal;
+}
+
+-- what is so of texts, is so of them with one that is put there, or isn't where memory runs out
+pub put_holds : {A E : Type 0} (r : Result A E) (P : List ℕ → Type 0) (xs zs : List (List ℕ)) (y : List ℕ) →
+    OnOk r (IsUnion xs (y ∷ []) zs) → OnErr r (zs ≡ xs) → All P xs → P y → All P zs
+put_holds (Ok a) P xs zs y u k h p = union_holds P xs (y ∷ []) zs u h (All-push P [] y (All-nil P) p)
+put_holds (Err e) P xs zs y u k h p = subst (All P) (sym k) h

@@ -1,11 +1,12 @@
 -- What the parts of one line demand of a package, part by part.
-use Rattle.std.specs.Prelude.{◌≡◌, ℕ, List, [], ◌∷◌, ◌++◌, All, IsTrue, None}
+use Rattle.std.specs.Prelude.{◌≡◌, ℕ, List, [], ◌∷◌, All, IsTrue, None}
 use Rattle.specifiers.specs.Clause.{Clause, demanded_text}
 use Rattle.specifiers.specs.Valid.{IsValidClause}
 use Rattle.pep_clause.specs.OperatorTable.{set_of}
 use Rattle.pep_clause.specs.VersionSet.{Range}
 use Rattle.pep_marker.specs.Name.{IsNormalName}
-use Rattle.pep_require.specs.Requirement.{RequirementParts, TargetParts, UrlParts, bounds, direct}
+use Rattle.pep_require.specs.Requirement.{RequirementParts, UrlParts, direct}
+use Rattle.pep_require.specs.Sink.{Adds, AddsClauses, AddsTarget, with_extra}
 use Rattle.demands.specs.Gathering.{TakesEntry, bare_entry, target_clauses, target_urls}
 use Rattle.demands.specs.Table.{EntryParts, is_url_text}
 
@@ -16,27 +17,17 @@ pub record DemandsEntry (r : RequirementParts) (e : EntryParts) : Type 0 where
   pub clauses : All IsValidClause (target_clauses r.target)
   pub demands : TakesEntry bare_entry r e
 
--- ---- with one part more
-
-abbrev pub with_extra : List ℕ → RequirementParts → RequirementParts
-with_extra n r = record { name = r.name; extras = r.extras ++ n ∷ []; target = r.target; marker = r.marker }
-
-abbrev pub targeted : TargetParts → RequirementParts → RequirementParts
-targeted t r = record { name = r.name; extras = r.extras; target = t; marker = r.marker }
-
--- the entry of any requirement, and that of the one with this extra besides
+-- whatever requirement demands the old entry, demands the new one with this extra besides
 abbrev pub AddsExtra : List ℕ → EntryParts → EntryParts → Type 0
-AddsExtra n old new = (r : RequirementParts) → DemandsEntry r old → DemandsEntry (with_extra n r) new
+AddsExtra n old new = Adds (λ r. DemandsEntry r old) (λ r. DemandsEntry r new) (with_extra n)
 
--- .. with this clause behind its other clauses
+-- .. with this clause besides, where it has no URL
 abbrev pub AddsClause : Clause → EntryParts → EntryParts → Type 0
-AddsClause c old new = (r : RequirementParts) (cs : List Clause) → r.target ≡ bounds cs → DemandsEntry r old →
-    DemandsEntry (targeted (bounds (cs ++ c ∷ [])) r) new
+AddsClause c old new = AddsClauses (λ r. DemandsEntry r old) (λ r. DemandsEntry r new) (c ∷ [])
 
 -- .. with this URL, where it has no clause
 abbrev pub AddsUrl : UrlParts → EntryParts → EntryParts → Type 0
-AddsUrl u old new = (r : RequirementParts) → r.target ≡ bounds [] → DemandsEntry r old →
-    DemandsEntry (targeted (direct u) r) new
+AddsUrl u old new = AddsTarget (λ r. DemandsEntry r old) (λ r. DemandsEntry r new) (direct u)
 
 -- the clause demands the versions in these ranges, and no text
 pub record DemandsRanges (c : Clause) (ranges : List Range) : Type 0 where

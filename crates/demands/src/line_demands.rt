@@ -2,6 +2,7 @@
 
 ghost use Rattle.std.specs.Prelude.{◌≡◌, IsTrue, OnOk};
 ghost use Rattle.specifiers.specs.Clause.{Clause, demanded, is_demanded_text};
+ghost use Rattle.pep_clause.specs.Cut.{end, least};
 ghost use Rattle.pep_clause.specs.OperatorTable.{outside, range};
 ghost use Rattle.pep_clause.specs.VersionSet.{IsNormal};
 ghost use Rattle.pep_require.specs.Requirement.{UrlParts};
@@ -41,7 +42,10 @@ impl Model for LineDemands {
 }
 
 // The places between which all versions lie.
-fn unbounded() -> Bounds {
+fn unbounded() -> Bounds
+    ensures low { result.low ≡ least }
+    ensures high { result.high ≡ end }
+{
     Bounds {
         low: Place::least(),
         high: Place::end(),

@@ -15,7 +15,7 @@ returns-clause-once c = once (goal.at.returns-clause-once c).After-dedup
 
 pub returns-in_err-sort-clause-kept : goal.returns-in_err-sort-clause-kept
 returns-in_err-sort-clause-kept c =
-    at_err c.from_residual-in_err-sort.result (collected_moved c.args.texts.now c.sort.new.self c.sort.ensures.permutation)
+    at_err c.from_residual.result (collected_moved c.args.texts.now c.sort.new.self c.sort.ensures.permutation)
 
 pub returns-in_err-dedup-clause-kept : goal.returns-in_err-dedup-clause-kept
 returns-in_err-dedup-clause-kept c =

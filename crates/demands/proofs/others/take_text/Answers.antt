@@ -5,10 +5,12 @@ use Rattle.demands.proofs.KeptSets.{union_none}
 use Rattle.demands.proofs.TakenClauses.{text_of_none}
 use Rattle.demands.proofs.others.take_text.Goals as goal
 
-pub returns-in-None-clause-texts : goal.returns-in-None-clause-texts
-returns-in-None-clause-texts c =
+pub returns-in-None : goal.returns-in-None
+returns-in-None c =
     let texts = c.args.texts.now in
     let no_text : demanded_text c.args.clause.now ≡ None =
     sym c.exact_text.ensures ∙ ap (option_map (λ t. t.now)) c.in-None.is in
-    subst (λ more. IsUnion texts more texts) (sym (text_of_none c.args.clause.now no_text))
-    (union_none texts c.in_order.ensures)
+    record {
+      texts = subst (λ more. IsUnion texts more texts) (sym (text_of_none c.args.clause.now no_text))
+          (union_none texts c.in_order.ensures);
+    }

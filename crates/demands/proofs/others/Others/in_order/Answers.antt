@@ -4,8 +4,8 @@ use Rattle.demands.specs.Others.{JoinsOthers, OtherParts}
 use Rattle.demands.proofs.KeptSets.{union_none}
 use Rattle.demands.proofs.others.Others.in_order.Goals as goal
 
-pub returns : goal.returns
-returns c =
+pub returns-clause-same : goal.returns-clause-same
+returns-clause-same c =
     let i = c.self.inside in
     subst (λ (o : OtherParts). JoinsOthers o bare_entry o) c.self.view_is (record {
       extras = union_none i.extras c.in_order.ensures;

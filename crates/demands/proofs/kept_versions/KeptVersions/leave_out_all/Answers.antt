@@ -1,0 +1,25 @@
+use Rattle.std.proofs.Common.{◌+◌, ◌∙◌, ap, map, rules, subst, take}
+use Rattle.std.specs.Prelude.{option_map}
+use Rattle.std.proofs.lemmas.List.{map_push}
+use Rattle.pep_clause.specs.VersionSet.{IsNormal}
+use Rattle.demands.specs.LineSets.{left_over}
+use Rattle.demands.specs.PartialJoins.{beside_versions}
+use Rattle.demands.proofs.KeptSets.{next_taken}
+use Rattle.demands.proofs.KeptVersions.{kept-normal}
+use Rattle.demands.proofs.LineSets.{meets_no_set, meets_one_set}
+use Rattle.demands.proofs.kept_versions.KeptVersions.leave_out_all.Goals as goal
+
+pub loop-bounds-init : goal.loop-bounds-init
+loop-bounds-init c =
+    let i = c.self.inside in
+    let s = beside_versions (option_map (λ b. b.value) i.beside) in
+    meets_no_set c.args.self.now (subst IsNormal c.self.view_is (kept-normal i.low i.high s c.self.invariant))
+
+pub loop-bounds-preserved : goal.loop-bounds-preserved
+loop-bounds-preserved c =
+    let outs = c.args.left_out.now in
+    let i = c.loop-bounds.bounds-index in
+    let b = c.bounds-item.result in
+    let step = next_taken outs i b c.bounds-item.is (search rules) in
+    meets_one_set _ _ _ (left_over b) (map left_over (take i outs)) (map left_over (take (i + 1) outs))
+    c.loop-bounds.invariant c.in_ok-leave_out.ensures.ok (ap (map left_over) step ∙ map_push left_over (take i outs) b)

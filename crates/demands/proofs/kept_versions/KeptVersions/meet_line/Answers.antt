@@ -1,0 +1,22 @@
+use Rattle.std.proofs.Common.{map, subst}
+use Rattle.std.proofs.lemmas.Result.{on_ok_weaker}
+use Rattle.pep_clause.specs.OperatorTable.{range}
+use Rattle.demands.specs.Join.{IsIntersection}
+use Rattle.demands.specs.LineSets.{left_over}
+use Rattle.demands.specs.PartialJoins.{joined_sets}
+use Rattle.demands.specs.Table.{EntryParts}
+use Rattle.demands.proofs.LineSets.{meets_line}
+use Rattle.demands.proofs.kept_versions.KeptVersions.meet_line.Goals as goal
+
+pub returns-clause-ok : goal.returns-clause-ok
+returns-clause-ok c =
+    let i = c.line.inside in
+    let mid = c.leave_out_all.new.self in
+    let new = c.meet_all.new.self in
+    let left = subst (λ outs. IsIntersection c.narrow_to.new.self (joined_sets (map left_over outs)) mid)
+    c.as_slice.ensures.value c.in_ok-leave_out_all.ensures.ok in
+    on_ok_weaker c.meet_all.result
+    (λ k. subst (λ (e : EntryParts). IsIntersection c.args.self.now e.versions new) c.line.view_is
+    (meets_line c.args.self.now c.narrow_to.new.self mid new (range i.bounds.low i.bounds.high)
+    i.left_out.items i.sets.items c.narrow_to.ensures left
+    (subst (λ sets. IsIntersection mid (joined_sets sets) new) c.as_slice-2.ensures.value k))) c.meet_all.ensures.ok

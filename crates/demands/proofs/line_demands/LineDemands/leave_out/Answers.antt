@@ -1,0 +1,35 @@
+use Rattle.std.proofs.Common.{refl, subst}
+use Rattle.demands.specs.LineDemands.{AddsClause}
+use Rattle.demands.specs.LineSets.{left_over, line_sets, line_versions}
+use Rattle.demands.specs.Others.{entry_with}
+use Rattle.demands.specs.PartialJoins.{joined_sets}
+use Rattle.demands.proofs.KeptVersions.{met-versions}
+use Rattle.demands.proofs.LineParts.{clause_added}
+use Rattle.demands.proofs.LineSets.{left-met, left-normal, other_sets}
+use Rattle.demands.proofs.PartialJoins.{normal_sets}
+use Rattle.demands.proofs.line_demands.LineDemands.leave_out.Goals as goal
+
+pub invariant_of-self-2 : goal.invariant_of-self-2
+invariant_of-self-2 c =
+    let i = c.self.inside in (
+      other_sets i.bounds i.left_out.items c.push.new.self.items i.sets.items i.sets.items c.self.invariant.0
+          (left-normal i.left_out.items c.push.new.self.items c.args.bounds i.sets.items c.in_ok-push.ensures.items
+          c.self.invariant.0.normal c.requires),
+      c.self.invariant.1,
+    )
+
+pub returns : goal.returns
+returns c =
+    let i = c.self.inside in
+    let sets = i.sets.items in
+    let more = c.push.new.self.items in
+    let old = entry_with i.others (line_versions i.bounds i.left_out.items sets) in
+    let new = entry_with i.others (line_versions i.bounds more sets) in
+    let normal = left-normal i.left_out.items more c.args.bounds sets c.in_ok-push.ensures.items c.self.invariant.0.normal
+    c.requires in
+    λ clause d. subst (λ e. AddsClause clause e new) c.self.view_is
+    (clause_added clause (left_over c.args.bounds) old new d refl refl refl
+    (met-versions i.bounds.low i.bounds.high (joined_sets (line_sets i.left_out.items sets))
+    (joined_sets (line_sets more sets)) (left_over c.args.bounds) c.self.invariant.0.kept
+    (normal_sets (line_sets more sets) normal)
+    (left-met i.left_out.items more c.args.bounds sets c.in_ok-push.ensures.items c.self.invariant.0.normal c.requires)))
