@@ -178,7 +178,7 @@ not_told : (t : Bool) → not t ≡ true → t ≡ false
 not_told true e = absurd (cc e)
 not_told false e = refl
 
-none_pass : (c : ℕ) (x : List ℕ) → all_but c x ≡ true → All (λ b. (b == c) ≡ false) x
+pub none_pass : (c : ℕ) (x : List ℕ) → all_but c x ≡ true → All (λ b. (b == c) ≡ false) x
 none_pass c [] h = search rules
 none_pass c (b ∷ x) h =
     All-cons (λ b. (b == c) ≡ false) b x

@@ -10,6 +10,7 @@ pub mod ExtrasPieces
 pub mod FaultLaws
 pub mod ExtrasLaws
 pub mod ExtrasLoops
+pub mod ExtrasCuts
 pub mod TargetLaws
 pub mod LineLaws
 pub mod TextLemmas

@@ -95,8 +95,8 @@ pub Keeper_marker-none : (m : MarkerParts) → ¬ (Some m ≡ None)
 Keeper_marker-none m e = cc e
 
 -- an empty text
-pub UrlText_is_its_text-any_text : ¬ (IsTrue true → 0 < 0)
-UrlText_is_its_text-any_text h = omega (arith, h refl)
+pub UrlText_is_its_text-an_empty_text : ¬ (IsTrue true → 0 < 0)
+UrlText_is_its_text-an_empty_text h = omega (arith, h refl)
 
 -- `a` with a marker
 pub Requirement_text-without_the_marker : ¬ (codes "a" ≡ requirement_text (record {

@@ -1,6 +1,7 @@
 // The extras of a requirement line (PEP 508, "Extras").
 
-ghost use Rattle.std.specs.Prelude.{◌≡◌, ◌⊎◌, ◌↔◌, ℕ, Contains, IfErr, IfOk, List, OnOk};
+ghost use Rattle.std.specs.Prelude.{◌≡◌, ◌⊎◌, ◌↔◌, ◌==◌, ◌≤◌, ℕ, Contains, IfErr, IfOk, List, OnOk, length, not};
+ghost use Rattle.std.specs.List.{prefix_len};
 ghost use Rattle.pep_require.specs.ExtrasParts.{NamesWithin, NoExtra, NoneWithin};
 ghost use Rattle.pep_require.specs.LineParts.{ExtrasFrom, RefusesExtras};
 ghost use Rattle.pep_require.specs.Reads.{IsExtra};
@@ -10,6 +11,7 @@ ghost use Rattle.pep_require.specs.Sink.{Adds, ExtrasNamed, with_named};
 use crate::fault::RequireFault;
 use crate::front::{behind, pieces, stripped};
 use crate::sink::LineSink;
+use memchr::memchr;
 use pep_marker::{MarkerFault, Name};
 use std::alloc::Global;
 use texts::name_run;
@@ -94,14 +96,26 @@ pub(crate) fn walk_extras<'a, S: LineSink>(
     ensures refused { IfErr result (λ e. (e ≡ RequireFault.NoMemory)
         ⊎ RefusesExtras text.now e) }
 {
-    let Some(behind) = behind(text, '[') else {
+    let Some(listed) = behind(text, '[') else {
         return Ok(text);
     };
-    let Some((inner, rest)) = behind.split_once(']') else {
+    let (inner, closed) = listed.split_at(run_before(listed.as_bytes(), b']'));
+    let Some(rest) = behind(closed, ']') else {
         return Err(RequireFault::BadExtras);
     };
     walk_names(alloc, sink, line, inner)?;
     Ok(rest)
+}
+
+// How many bytes stand in front of the first such byte, or else in the whole text.
+pub(crate) fn run_before(text: &[u8], byte: u8) -> usize
+    ensures count { result ≡ prefix_len (λ b. not (b == byte)) text.now }
+    ensures within { result ≤ length text.now }
+{
+    match memchr(byte, text) {
+        Some(at) => at,
+        None => text.len(),
+    }
 }
 
 // The names between the brackets, in the order of the text: white space alone, or names joined by `,`.
@@ -120,15 +134,31 @@ fn walk_names<S: LineSink>(
     if stripped(inner).is_empty() {
         return Ok(());
     }
-    for piece in inner.split(',') {
+    let mut left = inner;
+    loop {
+        let (piece, after) = left.split_at(run_before(left.as_bytes(), b','));
         let name = extra(alloc, piece)?;
         sink.extra(line, name)?;
+        let Some(others) = behind(after, ',') else {
+            return Ok(());
+        };
+        left = others;
     }
-    Ok(())
 }
 
 // Sorts the names, and keeps each once.
+#[inline(always)]
 pub(crate) fn sort(names: &mut Vec<Name>)
+    ensures ascending { IsAscending names.new.items }
+    ensures same { (n : List ℕ) → Contains names.new.items n ↔ Contains names.old.items n }
+{
+    if names.as_slice().len() < 2 {
+        return;
+    }
+    sort_all(names);
+}
+
+fn sort_all(names: &mut Vec<Name>)
     ensures ascending { IsAscending names.new.items }
     ensures same { (n : List ℕ) → Contains names.new.items n ↔ Contains names.old.items n }
 {

@@ -9,16 +9,16 @@ ghost use Rattle.pep_require.specs.Sink.{more_clauses};
 ghost use Rattle.pep_require.specs.View.{target_parts};
 
 use crate::clauses::clause_at;
-use crate::extras::sort;
+use crate::extras::{run_before, sort};
 use crate::fault::RequireFault;
 use crate::front::{behind, pieces};
 use crate::requirement::{Requirement, Target};
 use crate::sink::LineSink;
 use crate::url_text::UrlText;
+use memchr::memchr2;
 use pep_marker::{Marker, MarkerFault, Name};
 use specifiers::Clause;
 use std::alloc::Global;
-use texts::first_part;
 
 // Keeps the parts of this line.
 #[derive(Drop)]
@@ -85,11 +85,9 @@ fn shrink(target: &mut Target)
 
 // How many extras a line has at most, behind whose `[` the first one stands.
 fn count_extras(line: &str) -> usize {
-    let (_, Some(rest)) = first_part(line.as_bytes(), b'[') else {
-        return 1;
-    };
-    let (listed, _) = first_part(rest, b']');
-    pieces(listed)
+    let bytes = line.as_bytes();
+    let listed = &bytes[run_before(bytes, b'[')..];
+    pieces(&listed[..run_before(listed, b']')])
 }
 
 // How many clauses a list has at most whose first one stands before this text: most lists have one, behind which no `,`
@@ -98,9 +96,11 @@ fn count_clauses(rest: &str) -> usize {
     if behind(rest, ',').is_none() {
         return 1;
     }
-    let (listed, _) = first_part(rest.as_bytes(), b';');
-    let (listed, _) = first_part(listed, b')');
-    pieces(listed)
+    let bytes = rest.as_bytes();
+    match memchr2(b')', b';', bytes) {
+        Some(end) => pieces(&bytes[..end]),
+        None => pieces(bytes),
+    }
 }
 
 // A clause behind which this text stands goes to the end of the list, which has room for all clauses once it has the

@@ -31,6 +31,7 @@ use pep_marker::Name;
 /// is told it.
 ///
 /// A sink reads the clause, the URL and the marker by itself, as whole as it likes, and refuses each that is none.
+/// Public for the crates above alone.
 pub trait LineSink {
     ghost use Rattle.pep_require.specs.Requirement.{RequirementParts};
 

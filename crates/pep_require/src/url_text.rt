@@ -88,7 +88,7 @@ impl UrlText {
 
     /// Whether the text is a URL of the common form (see
     /// [`common_url_is_its_text`](crate::laws::common_url_is_its_text)): then it is read as a URL that is printed as it is
-    /// written. So no memory is needed to know the URL's text. Any other text may be a URL too.
+    /// written. So no memory is needed to know the URL's text. Any other text may be a URL too. Public for sinks alone.
     pub fn is_its_text(written: &str) -> bool
         ensures reads { IsTrue result → ReadsUrl written.now (record {
           written = written.now;

@@ -36,11 +36,10 @@ fn walk_ending<S: LineSink>(
 }
 
 /// Walks a requirement line once (PEP 508, "Grammar"): tells the sink its parts, in the order of the line, and gives
-/// the name. What the sink then keeps of the line holds of the parts that the line is read as, with the extras as they
-/// stand in it.
+/// the name. What the sink then keeps holds of the parts that the line is read as, with the extras as they stand in it.
 ///
-/// The refusals are those of [`Requirement::read`](crate::Requirement::read), for the first part at fault, from left
-/// to right; the sink's value may then hold anything. So a caller judges what was kept behind the walk.
+/// The refusals are those of [`Requirement::read`](crate::Requirement::read), for the first part at fault, from left to
+/// right. What a sink has kept of a line that is refused says nothing. Public for the crates above alone.
 #[inline(always)]
 pub fn walk<S: LineSink>(
     alloc: Global,
