@@ -1,20 +1,18 @@
 -- Clauses that are found in a text, and what they demand.
-use Rattle.std.proofs.Common.{◌≡◌, ℕ, ◌==◌, Bool, true, length, List, [], ◌∷◌, ◌++◌, Option, Some, None, refl, sym}
+use Rattle.std.proofs.Common.{◌≡◌, ℕ, ◌==◌, Bool, true, false, length, List, [], ◌∷◌, ◌++◌, Option, Some, None, refl, sym}
 use Rattle.std.proofs.Common.{subst, ◌∙◌, append-nil}
 use Rattle.std.specs.Prelude.{IfSome}
 use Rattle.std.proofs.lemmas.List.Elements.{All-nil, All-push}
 use Rattle.specifiers.specs.Clause.{Clause, demanded_text}
 use Rattle.specifiers.specs.Valid.{IsValidClause}
-use Rattle.pep_clause.specs.OperatorTable.{set_of}
-use Rattle.pep_clause.specs.VersionSet.{Range, all_versions}
-use Rattle.pep_clause.proofs.LeastCut.{IsNormal-all_versions}
+use Rattle.pep_clause.specs.OperatorTable.{outside, range, set_of}
+use Rattle.pep_clause.specs.VersionSet.{IsNormal, Range}
+use Rattle.pep_clause.proofs.SetLemmas.{IsNormal-set_of}
 use Rattle.texts.proofs.ListLemmas.{nothing_in}
 use Rattle.pep_require.specs.LineParts.{BoundFrom}
 use Rattle.pep_require.specs.Reads.{IsBound}
 use Rattle.pep_require.proofs.BoundPieces.{bound_read, bound_whole, found_piece}
-use Rattle.demands.specs.Join.{IsIntersection}
-use Rattle.demands.proofs.TakenClauses.{meets_more, meets_none, meets_one, text_of_none, texts_append}
-use Rattle.clause_memory.specs.Taken.{DemandThese, DemandsFront}
+use Rattle.demands.specs.LineDemands.{DemandsRanges}
 use Rattle.clause_memory.specs.Demand.{IsDemandOf, KnowsDemand, ReadsDemand, demanded_ranges}
 use Rattle.clause_memory.specs.declared.demand.Demand.{Demand}
 
@@ -39,3 +37,15 @@ pub demanded_here : (x rest : List ℕ) (c : Clause) (found : Option Demand) →
 demanded_here x rest c None here tests empty valid h = tt
 demanded_here x rest c (Some d) here tests empty valid h =
     whole_clause x rest c (demanded_ranges d) here (nothing_in rest (sym tests ∙ empty)) valid h.no_text h.versions
+
+-- the ranges of what leaves versions out, and of what doesn't
+pub outside_ranges : (d : Demand) → d.outside ≡ true → demanded_ranges d ≡ outside d.bounds.low d.bounds.high
+outside_ranges d e = rw e refl
+
+pub inside_ranges : (d : Demand) → d.outside ≡ false → demanded_ranges d ≡ range d.bounds.low d.bounds.high
+inside_ranges d e = rw e refl
+
+-- .. of a clause are in order
+pub outside_normal : (d : Demand) → d.outside ≡ true → (c : Clause) × DemandsRanges c (demanded_ranges d) →
+    IsNormal (outside d.bounds.low d.bounds.high)
+outside_normal d e (c, h) = subst IsNormal (sym h.versions ∙ outside_ranges d e) (IsNormal-set_of c h.valid)

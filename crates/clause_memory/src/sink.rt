@@ -1,6 +1,6 @@
 //! What takes the parts of a line as what they demand.
 
-ghost use Rattle.std.specs.Prelude.{◌≡◌, ◌⊎◌, IfErr, OnOk, Some};
+ghost use Rattle.std.specs.Prelude.{◌≡◌, ◌⊎◌, IfErr, OnOk, Some, true};
 ghost use Rattle.pep_marker.specs.Environment.{EnvironmentParts};
 ghost use Rattle.pep_marker.specs.Judged.{TextSays};
 ghost use Rattle.pep_require.specs.LineParts.{RefusesMarker, RefusesWritten};
@@ -46,7 +46,7 @@ pub struct DemandSink<'a> {
     clauses: ClauseMemory,
 }
 
-impl Model for DemandSink<'_> {
+impl<'a> Model for DemandSink<'a> {
     ghost use Rattle.pep_marker.specs.Environment.{EnvironmentParts};
 
     ghost Value = { EnvironmentParts };

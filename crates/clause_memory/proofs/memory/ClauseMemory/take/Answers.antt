@@ -1,0 +1,15 @@
+use Rattle.std.proofs.Common.{subst}
+use Rattle.std.specs.Prelude.{IfSome}
+use Rattle.clause_memory.specs.Demand.{demanded_ranges}
+use Rattle.clause_memory.specs.Taken.{DemandsFront}
+use Rattle.clause_memory.proofs.FrontClauses.{front_taken}
+use Rattle.clause_memory.proofs.memory.ClauseMemory.take.Goals as goal
+
+pub returns-in_ok-keep-in-Some-found-clause-taken : goal.returns-in_ok-keep-in-Some-found-clause-taken
+returns-in_ok-keep-in-Some-found-clause-taken c =
+    let x = c.args.text.now in
+    let rest = c.in-Some.rest.now in
+    let front = subst (λ o. IfSome o (λ d. DemandsFront x (demanded_ranges d) rest)) c.in-Some-found.is
+    c.in-Some.ensures.demand in
+    front_taken x rest c.args.demands.now c.keep.new.demands (demanded_ranges c.in-Some-found.demand) front
+    c.in_ok-keep-in-Some-found.ensures.ok

@@ -1,0 +1,22 @@
+use Rattle.std.proofs.Common.{rules, subst}
+use Rattle.pep_require.proofs.FrontLemmas.{boundary-until}
+use Rattle.clause_memory.specs.Demand.{KnowsDemand, demanded_ranges}
+use Rattle.clause_memory.specs.Taken.{goes_on}
+use Rattle.clause_memory.proofs.FrontClauses.{demand_here, front_taken, stop_small}
+use Rattle.clause_memory.proofs.memory.ClauseMemory.take_remembered.Goals as goal
+
+pub split_at-requires : goal.split_at-requires
+split_at-requires c =
+    rw (c.piece_run.ensures.count, c.as_bytes.ensures.value)
+    (boundary-until goes_on stop_small c.args.text.now)
+
+pub returns-in_ok-keep-in-Some-clause-taken : goal.returns-in_ok-keep-in-Some-clause-taken
+returns-in_ok-keep-in-Some-clause-taken c =
+    let x = c.args.text.now in
+    let piece = c.split_at.result.0.now in
+    let rest = c.split_at.result.1.now in
+    let known = subst (KnowsDemand piece) c.in-Some.is c.in_ok-found.ensures.read in
+    front_taken x rest c.args.demands.now c.keep.new.demands (demanded_ranges c.in-Some.demand)
+    (demand_here x piece rest c.piece_run.result (demanded_ranges c.in-Some.demand) (search rules)
+    c.split_at.ensures.front c.split_at.ensures.back known)
+    c.in_ok-keep-in-Some.ensures.ok

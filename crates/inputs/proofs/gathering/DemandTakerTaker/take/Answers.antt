@@ -1,0 +1,20 @@
+use Rattle.std.proofs.Common.{inl, inr, refl}
+use Rattle.std.proofs.lemmas.Result.{IfErr-weaker, IfOk-weaker, err_from_is_err_and}
+use Rattle.inputs.specs.Wanted.{wanted_name}
+use Rattle.inputs.proofs.gathering.DemandTakerTaker.take.Goals as goal
+
+pub returns-clause-ok : goal.returns-clause-ok
+returns-clause-ok c =
+    IfOk-weaker c.take_walked.result _ _
+    (λ new h. h c.args.self.now.sink c.args.text.now c.in_ok-name.ensures.ok) c.take_walked.ensures.ok
+
+pub returns-clause-refused : goal.returns-clause-refused
+returns-clause-refused c =
+    IfErr-weaker c.take_walked.result _ _
+    (λ fault h. h c.args.self.now.sink c.args.text.now c.in_ok-name.ensures.ok) c.take_walked.ensures.refused
+
+pub returns-in_err-name-clause-refused : goal.returns-in_err-name-clause-refused
+returns-in_err-name-clause-refused c =
+    let f = c.in_err-name.field-0.0 in
+    let p = err_from_is_err_and c.from_residual.result c.from_residual.ensures.1 in
+    rw (p.1, p.2) (inl (inr (f, refl, c.in_err-name.ensures.refused)))
