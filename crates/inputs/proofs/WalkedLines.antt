@@ -79,18 +79,20 @@ module _ (e : EnvironmentParts) (w : Option (List ℕ)) (text name : List ℕ) (
     ),
   )
 
-  -- one that counts
-  pub walked_taken : (old new : TableParts) → line.applies ≡ Some true → wants w name ≡ true →
+  -- one that applies, and whose name counts
+  pub walked_taken : (applies : Bool) (old new : TableParts) → line.applies ≡ Some applies →
+      (applies && wants w name) ≡ true →
       ((r : RequirementParts) → r.name ≡ name → DemandsEntry r line.demands → TakesRequirement old r new) →
       GathersText e w text old new
-  walked_taken old new is counts takes = (
+  walked_taken applies old new is counts takes = (
     in_order h.parts,
     read,
     (
       new,
-      true,
-      says (Some true) is,
-      subst (λ b. TakesIf b old (in_order h.parts) new) (sym (ap (wants w) h.named ∙ counts))
+      applies,
+      says (Some applies) is,
+      subst (λ b. TakesIf b old (in_order h.parts) new)
+          (sym (ap (λ n. applies && wants w n) h.named ∙ counts))
           (takes (in_order h.parts) h.named (same_demands h.parts line.demands h.held.demands)),
       refl,
     ),

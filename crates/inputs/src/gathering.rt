@@ -4,6 +4,7 @@ ghost use Rattle.std.specs.Prelude.{
   ◌≡◌,
   ◌⊎◌,
   ◌∷◌,
+  ◌&&◌,
   [],
   All,
   IfErr,
@@ -98,6 +99,13 @@ fn is_wanted(wanted: Option<&Name>, name: &Name) -> bool
     }
 }
 
+// Whether a line with this name counts.
+fn counts(applies: bool, wanted: Option<&Name>, name: &Name) -> bool
+    ensures { result ≡ (applies && wants (wanted_name wanted.entry) name.now) }
+{
+    applies && is_wanted(wanted, name)
+}
+
 // What is demanded so far and by a line that is walked, and begins with this name.
 fn take_walked(
     alloc: Global,
@@ -115,7 +123,7 @@ fn take_walked(
     let Some(applies) = line.applies else {
         return Err(LineFault::Undefined);
     };
-    if !applies || !is_wanted(wanted, &name) {
+    if !counts(applies, wanted, &name) {
         return Ok(gathering);
     }
     match gathering.take_line(alloc, name, &line.demands) {

@@ -82,9 +82,9 @@ versions_of None = []
 versions_of (Some e) = e.versions
 
 -- no entry, and no version of `a`
-pub Gathering_take_versions-all_versions : ¬ JoinsTables [] (named (codes "a") (ranges_entry []))
+pub Gathering_take_line-nothing_demanded : ¬ JoinsTables [] (named (codes "a") (ranges_entry []))
     (named (codes "a") bare_entry)
-Gathering_take_versions-all_versions h = cc (ap versions_of (h.entries (codes "a")))
+Gathering_take_line-nothing_demanded h = cc (ap versions_of (h.entries (codes "a")))
 
 -- an entry
 pub Table_copied-empty : ¬ ([] ≡ named (codes "a") bare_entry)
