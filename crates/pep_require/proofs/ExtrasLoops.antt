@@ -96,6 +96,12 @@ ascending [] h = tt
 ascending (x ∷ []) h = tt
 ascending (x ∷ y ∷ ns) h = (h.0.0, ascending (y ∷ ns) h.1)
 
+-- one name or none
+pub short_ascends : (ns : List (List ℕ)) → length ns < 2 → IsAscending ns
+short_ascends [] h = tt
+short_ascends (x ∷ []) h = tt
+short_ascends (x ∷ y ∷ ns) h = absurd (omega (arith, h))
+
 -- what a sort and a `dedup` leave
 pub ascending_kept : (sorted kept : List (List ℕ)) →
     IsFiltered (DiffersFromLast bytes_eq) [] sorted kept →

@@ -1,12 +1,11 @@
--- Bytes of a URL of the common form behind which the next one stands at the same spot, and where a URL ends.
+-- Bytes of a URL of the common form behind which the next one stands at the same spot, and where a run ends.
 use Rattle.std.proofs.Common.{◌≡◌, ℕ, suc, ◌+◌, ◌⊎◌, Bool, true, false, not, List, [], ◌∷◌, length, drop}
 use Rattle.std.proofs.Common.{Some, arith, refl, sym, ap, ◌∙◌, ◌==◌, inl, inr}
 use Rattle.std.specs.Prelude.{cond}
 use Rattle.std.proofs.lemmas.Bool.Decides.{nat_tests}
 use Rattle.std.specs.List.{prefix_len}
 use Rattle.std.proofs.lemmas.List.Sums.{prefix_len_is}
-use Rattle.memchr.specs.Find.{NoneBefore, Nowhere, Passes, is_byte2}
-use Rattle.texts.specs.Bytes.{is_blank_byte}
+use Rattle.memchr.specs.Find.{NoneBefore, Nowhere, Passes}
 use Rattle.pep_require.specs.CommonUrl.{at_next, behind_spot, goes_on}
 use Rattle.pep_require.specs.CommonUrl.{is_label_byte, is_path_byte, is_tail_byte}
 use Rattle.pep_require.specs.declared.common_url.Spot.{Spot}
@@ -59,27 +58,24 @@ pub tail_passed : (spot : Spot) (x : List ℕ) → (spot ≡ Query) ⊎ (spot �
 tail_passed spot x (inl e) = rw e (passed Query is_tail_byte query_stays x)
 tail_passed spot x (inr e) = rw e (passed Fragment is_tail_byte fragment_stays x)
 
--- ---- where a URL ends
-
-abbrev goes_in_url : ℕ → Bool
-goes_in_url b = not (is_blank_byte b)
+-- ---- where a run ends
 
 not_true : (b : Bool) → ¬ (b ≡ true) → b ≡ false
 not_true true h = absurd (h refl)
 not_true false h = refl
 
--- in front of the first byte of white space
-pub run_before : (x : List ℕ) (k : ℕ) → NoneBefore (Passes (is_byte2 32 9) x) 0 (length x) k →
-    Passes (is_byte2 32 9) x k → prefix_len goes_in_url x ≡ k
-run_before x k none here =
-    prefix_len_is goes_in_url x k 0 (omega (arith, none.high))
+-- in front of the first byte that passes the test
+pub run_before : (test : ℕ → Bool) (x : List ℕ) (k : ℕ) → NoneBefore (Passes test x) 0 (length x) k →
+    Passes test x k → prefix_len (λ b. not (test b)) x ≡ k
+run_before test x k none here =
+    prefix_len_is (λ b. not (test b)) x k 0 (omega (arith, none.high))
     (λ i l. ap not (not_true _ (none.before i (omega arith) l)))
     (λ l. ap not here)
 
 -- or at the end
-pub run_to_end : (x : List ℕ) → Nowhere (Passes (is_byte2 32 9) x) 0 (length x) →
-    prefix_len goes_in_url x ≡ length x
-run_to_end x none =
-    prefix_len_is goes_in_url x (length x) 0 (omega arith)
+pub run_to_end : (test : ℕ → Bool) (x : List ℕ) → Nowhere (Passes test x) 0 (length x) →
+    prefix_len (λ b. not (test b)) x ≡ length x
+run_to_end test x none =
+    prefix_len_is (λ b. not (test b)) x (length x) 0 (omega arith)
     (λ i l. ap not (not_true _ (none i (omega arith) l)))
     (λ l. absurd (omega (arith, l)))

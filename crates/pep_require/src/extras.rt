@@ -11,6 +11,7 @@ ghost use Rattle.pep_require.specs.Sink.{Adds, ExtrasNamed, with_named};
 use crate::fault::RequireFault;
 use crate::front::{behind, pieces, stripped};
 use crate::sink::LineSink;
+use memchr::memchr;
 use pep_marker::{MarkerFault, Name};
 use std::alloc::Global;
 use texts::name_run;
@@ -107,11 +108,14 @@ pub(crate) fn walk_extras<'a, S: LineSink>(
 }
 
 // How many bytes stand in front of the first such byte, or else in the whole text.
-fn run_before(text: &[u8], byte: u8) -> usize
+pub(crate) fn run_before(text: &[u8], byte: u8) -> usize
     ensures count { result ≡ prefix_len (λ b. not (b == byte)) text.now }
     ensures within { result ≤ length text.now }
 {
-    text.iter().take_while(|b| **b != byte).count()
+    match memchr(byte, text) {
+        Some(at) => at,
+        None => text.len(),
+    }
 }
 
 // The names between the brackets, in the order of the text: white space alone, or names joined by `,`.
@@ -143,7 +147,18 @@ fn walk_names<S: LineSink>(
 }
 
 // Sorts the names, and keeps each once.
+#[inline(always)]
 pub(crate) fn sort(names: &mut Vec<Name>)
+    ensures ascending { IsAscending names.new.items }
+    ensures same { (n : List ℕ) → Contains names.new.items n ↔ Contains names.old.items n }
+{
+    if names.as_slice().len() < 2 {
+        return;
+    }
+    sort_all(names);
+}
+
+fn sort_all(names: &mut Vec<Name>)
     ensures ascending { IsAscending names.new.items }
     ensures same { (n : List ℕ) → Contains names.new.items n ↔ Contains names.old.items n }
 {

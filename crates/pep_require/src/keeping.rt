@@ -1,15 +1,12 @@
 // A sink that keeps the parts of a line.
 
-ghost use Rattle.std.specs.Prelude.{◌≡◌, ◌⊎◌, ◌++◌, ◌∷◌, [], IfErr, IfOk, None, OnOk};
-ghost use Rattle.pep_marker.specs.Marker.{IsMarker};
-ghost use Rattle.pep_marker.specs.View.{marker_parts};
-ghost use Rattle.pep_require.specs.LineParts.{RefusesMarker};
+ghost use Rattle.std.specs.Prelude.{◌≡◌, ◌≤◌, ◌++◌, ◌∷◌, [], IfErr, IfOk, None, OnOk, length};
 ghost use Rattle.pep_require.specs.Requirement.{bounds};
 ghost use Rattle.pep_require.specs.Sink.{more_clauses};
 ghost use Rattle.pep_require.specs.View.{target_parts};
 
 use crate::clauses::clause_at;
-use crate::extras::sort;
+use crate::extras::{run_before, sort};
 use crate::fault::RequireFault;
 use crate::front::{behind, pieces};
 use crate::requirement::{Requirement, Target};
@@ -18,7 +15,6 @@ use crate::url_text::UrlText;
 use pep_marker::{Marker, MarkerFault, Name};
 use specifiers::Clause;
 use std::alloc::Global;
-use texts::first_part;
 
 // Keeps the parts of this line.
 #[derive(Drop)]
@@ -83,13 +79,19 @@ fn shrink(target: &mut Target)
     }
 }
 
-// How many extras a line has at most, behind whose `[` the first one stands.
+// How many extras a line has at most: no `,` stands before the first one.
 fn count_extras(line: &str) -> usize {
-    let (_, Some(rest)) = first_part(line.as_bytes(), b'[') else {
-        return 1;
-    };
-    let (listed, _) = first_part(rest, b']');
-    pieces(listed)
+    let bytes = line.as_bytes();
+    pieces(&bytes[..run_before(bytes, b']')])
+}
+
+// How many bytes stand in front of the first one that ends a list of clauses, or else in the whole text.
+fn list_run(text: &[u8]) -> usize
+    ensures { result ≤ length text.now }
+{
+    text.iter()
+        .take_while(|b| !matches!(**b, b')' | b';'))
+        .count()
 }
 
 // How many clauses a list has at most whose first one stands before this text: most lists have one, behind which no `,`
@@ -98,9 +100,8 @@ fn count_clauses(rest: &str) -> usize {
     if behind(rest, ',').is_none() {
         return 1;
     }
-    let (listed, _) = first_part(rest.as_bytes(), b';');
-    let (listed, _) = first_part(listed, b')');
-    pieces(listed)
+    let bytes = rest.as_bytes();
+    pieces(&bytes[..list_run(bytes)])
 }
 
 // A clause behind which this text stands goes to the end of the list, which has room for all clauses once it has the
