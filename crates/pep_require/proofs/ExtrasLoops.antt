@@ -1,5 +1,5 @@
 -- How the extras of a text are read: one name, the names between the brackets, and all of them.
-use Rattle.std.proofs.Common.{◌≡◌, ◌≢◌, ℕ, zero, suc, ◌==◌, ◌<◌, Bool, true, false, not}
+use Rattle.std.proofs.Common.{◌≡◌, ◌≢◌, ℕ, suc, ◌==◌, ◌<◌, Bool, true, false, not}
 use Rattle.std.proofs.Common.{List, [], ◌∷◌, ◌++◌, length, get_or, Some, None}
 use Rattle.std.proofs.Common.{refl, sym, ap, subst, ◌∙◌, arith, append_assoc}
 use Rattle.std.specs.Prelude.{Contains, ◌↔◌, ◌&&◌}
@@ -21,7 +21,7 @@ use Rattle.texts.specs.Bytes.{is_name_byte}
 use Rattle.pep_marker.specs.Name.{name_of}
 use Rattle.texts.specs.Runs.{begins, without_leading_blanks}
 use Rattle.texts.specs.Bytes.{is_blank_byte}
-use Rattle.texts.proofs.RunLemmas.{all-rest, rest-all}
+use Rattle.texts.proofs.RunLemmas.{all-rest}
 use Rattle.pep_require.specs.ExtrasParts.{NamesWithin, NoExtra, NoneWithin, no_names, some_names}
 use Rattle.pep_require.specs.LineParts.{ExtrasFrom, NoExtras, is_bracket}
 use Rattle.pep_require.specs.Reads.{IsExtra, NamesExtras, none, empty, listed}
@@ -67,26 +67,6 @@ one_more [] [] piece n h s = (s, tt)
 one_more [] (m ∷ ns) piece n h s = absurd h
 one_more (x ∷ pieces) [] piece n h s = absurd h
 one_more (x ∷ pieces) (m ∷ ns) piece n h s = (h.0, one_more pieces ns piece n h.1 s)
-
--- a part that is no extra
-no_zip : (parts ns : List (List ℕ)) (piece : List ℕ) (k : ℕ) → k < length parts →
-    piece ≡ get_or parts k piece → NoExtra piece → AllZip IsExtra parts ns → ⊥
-no_zip [] ns piece k less at off h = omega (arith, less)
-no_zip (x ∷ parts) [] piece k less at off h = h
-no_zip (x ∷ parts) (n ∷ ns) piece zero less at off h =
-    off n (subst (λ t. IsExtra t n) (sym at) h.0)
-no_zip (x ∷ parts) (n ∷ ns) piece (suc k) less at off h =
-    no_zip parts ns piece k (omega (arith, less)) at off h.1
-
-pub none_within : (x rest piece : List ℕ) (k : ℕ) → rest ≡ without_leading_blanks x →
-    (length rest == 0) ≡ false →
-    (k < length (slice_split (λ b. b == 44) x))
-    × (piece ≡ get_or (slice_split (λ b. b == 44) x) k piece) → NoExtra piece → NoneWithin x
-none_within x rest piece k stripped more at off ns (no_names h) =
-    let gone : rest ≡ [] = stripped ∙ rest-all is_blank_byte x h in
-    cc (ap (λ t. length t == 0) gone, more)
-none_within x rest piece k stripped more at off ns (some_names h) =
-    no_zip (slice_split (λ b. b == 44) x) ns piece k at.0 at.1 off h
 
 -- ---- sorted names
 

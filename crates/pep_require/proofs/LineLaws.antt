@@ -16,7 +16,7 @@ use Rattle.pep_marker.specs.Name.{is_name, name_of}
 use Rattle.texts.specs.Runs.{begins, without_leading_blanks}
 use Rattle.texts.specs.Bytes.{is_blank_byte}
 use Rattle.pep_require.specs.Faults.{after_name, beginning_fault, name_run}
-use Rattle.pep_require.specs.LineParts.{ExtrasFrom, LineParts, ReadsFront, RefusesLine, TargetFrom}
+use Rattle.pep_require.specs.LineParts.{ExtrasFrom, LineParts, RefusesLine, TargetFrom}
 use Rattle.pep_require.specs.LineParts.{is_bare_byte, is_target_byte}
 use Rattle.pep_require.specs.LineParts.{bad_beginning, bad_extras, bad_target, bad_ending}
 use Rattle.pep_require.specs.LineParts.{no_memory}
@@ -481,9 +481,3 @@ line_read x rest behind y z last r begun name found e target g marker =
       target = subst (λ s. TargetFrom s r.target z) e target;
       marker = subst (λ s. ReadsMarker s r.marker) g marker;
     })
-
--- what is left of a line that is read up to its marker is refused
-pub left_fault : (x left : List ℕ) (r : RequirementParts) (f : RequireFault) → ReadsFront x r left →
-    (f ≡ fault.NoMemory) ⊎ RefusesEnding left f → RefusesLine x f
-left_fault x left r f front (inl h) = no_memory h
-left_fault x left r f front (inr h) = front.refused f h

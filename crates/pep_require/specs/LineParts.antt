@@ -17,7 +17,7 @@ use Rattle.texts.specs.Runs.{begins, without_leading_blanks}
 use Rattle.texts.specs.Bytes.{is_blank_byte}
 use Rattle.pep_marker.specs.declared.fault.MarkerFault.{MarkerFault}
 use Rattle.pep_require.specs.Faults.{beginning_fault, after_name, name_run}
-use Rattle.pep_require.specs.Reads.{Reads, ReadsExtras, ReadsUrl, ReadsMarker}
+use Rattle.pep_require.specs.Reads.{ReadsExtras, ReadsUrl, ReadsMarker}
 use Rattle.pep_require.specs.Requirement.{RequirementParts, TargetParts, bounds, direct, UrlParts}
 use Rattle.pep_require.specs.declared.fault.RequireFault.{RequireFault}
 use Rattle.pep_require.specs.declared.fault.RequireFault.TheVariants as fault
@@ -195,7 +195,7 @@ pub data RefusesLine (x : List ℕ) (f : RequireFault) : Type 0 where
       RefusesEnding (without_leading_blanks behind) f → RefusesLine x f
   no_memory : f ≡ fault.NoMemory → RefusesLine x f
 
--- ---- a line up to its marker
+-- ---- a line up to its name, and a requirement with another marker
 
 -- the line begins with the name, and this stands behind it, without white space before it
 pub record StartsLine (x name rest : List ℕ) : Type 0 where
@@ -205,10 +205,3 @@ pub record StartsLine (x name rest : List ℕ) : Type 0 where
 
 abbrev pub with_marker : Option MarkerParts → RequirementParts → RequirementParts
 with_marker m r = record { name = r.name; extras = r.extras; target = r.target; marker = m }
-
--- The line is read as the requirement, which has no marker, but for what is left of it: with the
--- marker that this is read as, and where it is none, the line is refused as it is.
-pub record ReadsFront (x : List ℕ) (r : RequirementParts) (left : List ℕ) : Type 0 where
-  pub bare : r.marker ≡ None
-  pub read : (m : Option MarkerParts) → ReadsMarker left m → Reads x (with_marker m r)
-  pub refused : (f : RequireFault) → RefusesEnding left f → RefusesLine x f

@@ -12,18 +12,11 @@ ghost use Rattle.pep_require.specs.LineParts.{
 ghost use Rattle.pep_require.specs.Sink.{AddsClauses};
 
 use crate::fault::RequireFault;
-use crate::front::{behind, pieces, stripped};
+use crate::front::{behind, stripped};
 use crate::sink::LineSink;
 use specifiers::{Clause, ClauseFault, Op};
 use std::alloc::Global;
-use texts::{clause_run, first_part};
-
-// The clauses in front of a text, and what stands behind them.
-#[derive(Drop)]
-pub(crate) struct Bounds<'a> {
-    pub(crate) clauses: Vec<Clause>,
-    pub(crate) rest: &'a str,
-}
+use texts::clause_run;
 
 // What ends a list of clauses within the line: `)` where it began with `(`, `;` where it didn't.
 fn end_byte(closed: bool) -> u8
@@ -59,81 +52,6 @@ pub fn clause_at<'a>(alloc: Global, text: &'a str) -> Result<(Clause, &'a str), 
     let (run, rest) = operand.split_at(clause_run(operand.as_bytes()));
     let clause = Clause::of(alloc, operator, run)?;
     Ok((clause, stripped(rest)))
-}
-
-// The clauses in front of the text, one or more, joined by `,`. A `,` behind the last one is
-// dropped. The faults are those of the first clause that is refused, and 40 for want of memory.
-pub(crate) fn clauses_at<'a>(
-    alloc: Global,
-    text: &'a str,
-    closed: bool,
-) -> Result<Bounds<'a>, RequireFault>
-    ensures read { IfOk result (λ found.
-        BoundsFrom closed text.now found.clauses.items found.rest.now) }
-    ensures refused { IfErr result (λ e. (e ≡ RequireFault.NoMemory)
-        ⊎ RefusesBounds closed text.now e) }
-{
-    let mut clauses = Vec::new(alloc);
-    let rest = read_clauses(alloc, text, closed, &mut clauses)?;
-    // A `,` behind the last clause was counted.
-    clauses.shrink_to_fit();
-    Ok(Bounds { clauses, rest })
-}
-
-// How many clauses a list has at most whose first one stands before this text: most lists have one,
-// behind which no `,` stands.
-fn count(rest: &str, closed: bool) -> usize {
-    if behind(rest, ',').is_none() {
-        return 1;
-    }
-    let (listed, _) = first_part(rest.as_bytes(), end_byte(closed));
-    pieces(listed)
-}
-
-// A clause behind which this text stands goes to the end of the list, which has room for all clauses once
-// it has the first.
-fn keep_clause(
-    clauses: &mut Vec<Clause>,
-    clause: Clause,
-    rest: &str,
-    closed: bool,
-) -> Result<(), RequireFault>
-    ensures items { OnOk result (clauses.new.items ≡ clauses.old.items ++ clause ∷ []) }
-    ensures faults { IfErr result (λ e. e ≡ RequireFault.NoMemory) }
-{
-    if clauses.is_empty() {
-        clauses.reserve_exact(count(rest, closed))?;
-    }
-    clauses.push(clause)?;
-    Ok(())
-}
-
-// Reads the clauses in front of the text into the vector, which is empty, and gives the text behind
-// them.
-fn read_clauses<'a>(
-    alloc: Global,
-    text: &'a str,
-    closed: bool,
-    clauses: &mut Vec<Clause>,
-) -> Result<&'a str, RequireFault>
-    requires { clauses.old.items ≡ [] }
-    ensures read { IfOk result (λ rest.
-        BoundsFrom closed text.now clauses.new.items rest.now) }
-    ensures refused { IfErr result (λ e. (e ≡ RequireFault.NoMemory)
-        ⊎ RefusesBounds closed text.now e) }
-{
-    let mut left = text;
-    loop {
-        let (clause, rest) = clause_at(alloc, left)?;
-        keep_clause(clauses, clause, rest, closed)?;
-        let Some(others) = behind(rest, ',') else {
-            return Ok(rest);
-        };
-        left = stripped(others);
-        if is_end(closed, left) {
-            return Ok(left);
-        }
-    }
 }
 
 // The clauses in front of the text, one or more, joined by `,`, go to the sink. What stands behind them is given; a `,`

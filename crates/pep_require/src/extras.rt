@@ -3,63 +3,18 @@
 ghost use Rattle.std.specs.Prelude.{◌≡◌, ◌⊎◌, ◌↔◌, ◌==◌, ◌≤◌, ℕ, Contains, IfErr, IfOk, List, OnOk, length, not};
 ghost use Rattle.std.specs.List.{prefix_len};
 ghost use Rattle.pep_require.specs.ExtrasParts.{NamesWithin, NoExtra, NoneWithin};
-ghost use Rattle.pep_require.specs.LineParts.{ExtrasFrom, RefusesExtras};
+ghost use Rattle.pep_require.specs.LineParts.{RefusesExtras};
 ghost use Rattle.pep_require.specs.Reads.{IsExtra};
 ghost use Rattle.pep_require.specs.Requirement.{IsAscending};
 ghost use Rattle.pep_require.specs.Sink.{Adds, ExtrasNamed, with_named};
 
 use crate::fault::RequireFault;
-use crate::front::{behind, pieces, stripped};
+use crate::front::{behind, stripped};
 use crate::sink::LineSink;
 use memchr::memchr;
 use pep_marker::{MarkerFault, Name};
 use std::alloc::Global;
 use texts::name_run;
-
-// Extras at the front of a text, sorted and each once, and the text behind them.
-#[derive(Drop)]
-pub(crate) struct Extras<'a> {
-    pub(crate) names: Vec<Name>,
-    pub(crate) rest: &'a str,
-}
-
-// The extras at the front of the text, and none where it doesn't begin with `[`.
-pub(crate) fn extras_at<'a>(alloc: Global, text: &'a str) -> Result<Extras<'a>, RequireFault>
-    ensures read { IfOk result (λ found. ExtrasFrom text.now found.names.items found.rest.now) }
-    ensures refused { IfErr result (λ e. (e ≡ RequireFault.NoMemory)
-        ⊎ RefusesExtras text.now e) }
-{
-    let Some(text) = behind(text, '[') else {
-        return Ok(Extras {
-            names: Vec::new(alloc),
-            rest: text,
-        });
-    };
-    let Some((inner, rest)) = text.split_once(']') else {
-        return Err(RequireFault::BadExtras);
-    };
-    let mut names = names_within(alloc, inner)?;
-    sort(&mut names);
-    Ok(Extras { names, rest })
-}
-
-// The names between the brackets, in the order of the text: white space alone, or names joined by
-// `,`.
-fn names_within(alloc: Global, inner: &str) -> Result<Vec<Name>, RequireFault>
-    ensures read { IfOk result (λ names. NamesWithin inner.now names.items) }
-    ensures refused { IfErr result (λ e. (e ≡ RequireFault.NoMemory)
-        ⊎ ((e ≡ RequireFault.BadExtras) × NoneWithin inner.now)) }
-{
-    if stripped(inner).is_empty() {
-        return Ok(Vec::new(alloc));
-    }
-    let mut names = Vec::with_capacity(alloc, pieces(inner.as_bytes()))?;
-    for piece in inner.split(',') {
-        let name = extra(alloc, piece)?;
-        names.push(name)?;
-    }
-    Ok(names)
-}
 
 // The name of one extra, with white space round it.
 fn extra(alloc: Global, piece: &str) -> Result<Name, RequireFault>

@@ -1,9 +1,6 @@
 // A sink that keeps the parts of a line.
 
-ghost use Rattle.std.specs.Prelude.{◌≡◌, ◌⊎◌, ◌++◌, ◌∷◌, [], IfErr, IfOk, None, OnOk};
-ghost use Rattle.pep_marker.specs.Marker.{IsMarker};
-ghost use Rattle.pep_marker.specs.View.{marker_parts};
-ghost use Rattle.pep_require.specs.LineParts.{RefusesMarker};
+ghost use Rattle.std.specs.Prelude.{◌≡◌, ◌≤◌, ◌++◌, ◌∷◌, [], IfErr, IfOk, None, OnOk, length};
 ghost use Rattle.pep_require.specs.Requirement.{bounds};
 ghost use Rattle.pep_require.specs.Sink.{more_clauses};
 ghost use Rattle.pep_require.specs.View.{target_parts};
@@ -15,7 +12,6 @@ use crate::front::{behind, pieces};
 use crate::requirement::{Requirement, Target};
 use crate::sink::LineSink;
 use crate::url_text::UrlText;
-use memchr::memchr2;
 use pep_marker::{Marker, MarkerFault, Name};
 use specifiers::Clause;
 use std::alloc::Global;
@@ -83,11 +79,19 @@ fn shrink(target: &mut Target)
     }
 }
 
-// How many extras a line has at most, behind whose `[` the first one stands.
+// How many extras a line has at most: no `,` stands before the first one.
 fn count_extras(line: &str) -> usize {
     let bytes = line.as_bytes();
-    let listed = &bytes[run_before(bytes, b'[')..];
-    pieces(&listed[..run_before(listed, b']')])
+    pieces(&bytes[..run_before(bytes, b']')])
+}
+
+// How many bytes stand in front of the first one that ends a list of clauses, or else in the whole text.
+fn list_run(text: &[u8]) -> usize
+    ensures { result ≤ length text.now }
+{
+    text.iter()
+        .take_while(|b| !matches!(**b, b')' | b';'))
+        .count()
 }
 
 // How many clauses a list has at most whose first one stands before this text: most lists have one, behind which no `,`
@@ -97,10 +101,7 @@ fn count_clauses(rest: &str) -> usize {
         return 1;
     }
     let bytes = rest.as_bytes();
-    match memchr2(b')', b';', bytes) {
-        Some(end) => pieces(&bytes[..end]),
-        None => pieces(bytes),
-    }
+    pieces(&bytes[..list_run(bytes)])
 }
 
 // A clause behind which this text stands goes to the end of the list, which has room for all clauses once it has the

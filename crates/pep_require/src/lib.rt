@@ -19,7 +19,7 @@ mod walking;
 pub use crate::clauses::clause_at;
 pub use crate::fault::RequireFault;
 pub use crate::front::{behind, stripped};
-pub use crate::read::{Front, Start, marker_text};
+pub use crate::read::{Start, marker_text};
 pub use crate::requirement::{Requirement, Target};
 pub use crate::sink::LineSink;
 pub use crate::url_text::UrlText;

@@ -5,20 +5,18 @@ ghost use Rattle.pep_marker.specs.Name.{name_of};
 ghost use Rattle.pep_require.specs.Faults.{after_name, beginning_fault, name_run};
 ghost use Rattle.pep_require.specs.LineParts.{RefusesEnding};
 
-use crate::extras::extras_at;
 use crate::fault::RequireFault;
 use crate::front::{behind, stripped};
 use crate::keeping::{Keeper, Kept};
 use crate::requirement::Requirement;
-use crate::target::target_at;
 use crate::walking::walk;
 use pep_marker::Name;
 use std::alloc::Global;
 use texts::LINE_LIMIT;
 
 impl Requirement {
-    ghost use Rattle.std.specs.Prelude.{IfErr, IfOk, List, ℕ};
-    ghost use Rattle.pep_require.specs.LineParts.{ReadsFront, RefusesLine, StartsLine};
+    ghost use Rattle.std.specs.Prelude.{IfErr, IfOk};
+    ghost use Rattle.pep_require.specs.LineParts.{RefusesLine, StartsLine};
     ghost use Rattle.pep_require.specs.Reads.{Reads};
     ghost use Rattle.pep_require.specs.View.{requirement_parts};
 
@@ -40,10 +38,9 @@ impl Requirement {
         Ok(kept.requirement(name))
     }
 
-    /// Reads the name that a requirement line begins with (PEP 508, "Grammar"), for
-    /// [`Requirement::front_behind`]. The refusals are `LineTooLong`, 38, `OptionLine`, 37, and `BadName`, 31, in
-    /// this order, and want of memory, 40. Public for those alone who look first whether they know what stands
-    /// behind the name.
+    /// Reads the name that a requirement line begins with (PEP 508, "Grammar"). The refusals are `LineTooLong`, 38,
+    /// `OptionLine`, 37, and `BadName`, 31, in this order, and want of memory, 40. Public for those alone who look first
+    /// whether they know what stands behind the name.
     pub fn start<'a>(alloc: Global, line: &'a str) -> Result<Start<'a>, RequireFault>
         ensures ok { IfOk result (λ start. StartsLine line.now start.name start.rest.now) }
         ensures refused { IfErr result (λ e. (e ≡ RequireFault.NoMemory)
@@ -51,43 +48,6 @@ impl Requirement {
     {
         name_at(alloc, line)
     }
-
-    /// Reads on behind the name of a requirement line, without white space before it, up to its marker (PEP 508,
-    /// "Grammar"): the requirement without it, and what is left of the line, which is nothing, or `;` and a marker,
-    /// or else a fault of the line as [`Requirement::read`] tells it. So it is for each line that begins with the
-    /// name and has this text behind it. The refusals are among those of `read`. Public for the crates above alone.
-    #[inline(always)]
-    pub fn front_behind<'a>(
-        alloc: Global,
-        name: Name,
-        rest: &'a str,
-    ) -> Result<Front<'a>, RequireFault>
-        ensures ok { IfOk result (λ front. (line : List ℕ) → StartsLine line name rest.now
-            → ReadsFront line (requirement_parts front.requirement) front.left.now) }
-        ensures refused { IfErr result (λ e. (line : List ℕ) → StartsLine line name rest.now
-            → RefusesLine line e) }
-    {
-        let extras = extras_at(alloc, rest)?;
-        let target = target_at(alloc, stripped(extras.rest))?;
-        Ok(Front {
-            requirement: Requirement {
-                name,
-                extras: extras.names,
-                target: target.target,
-                marker: None,
-            },
-            left: stripped(target.rest),
-        })
-    }
-}
-
-/// A requirement line that is read up to its marker.
-#[derive(Drop)]
-pub struct Front<'a> {
-    /// The requirement without its marker.
-    pub requirement: Requirement,
-    /// What is left of the line, without white space before it.
-    pub left: &'a str,
 }
 
 /// The name that a requirement line begins with, and what stands behind it.

@@ -7,99 +7,18 @@ ghost use Rattle.texts.specs.Bytes.{is_blank_byte};
 ghost use Rattle.pep_require.specs.LineParts.{RefusesTarget, TargetFrom, is_bare_byte};
 ghost use Rattle.pep_require.specs.Requirement.{TargetParts};
 ghost use Rattle.pep_require.specs.Sink.{AddsTarget};
-ghost use Rattle.pep_require.specs.View.{target_parts};
 
-use crate::clauses::{clauses_at, walk_clauses};
+use crate::clauses::walk_clauses;
 use crate::fault::RequireFault;
 use crate::front::{behind, stripped};
-use crate::requirement::Target;
 use crate::sink::LineSink;
-use crate::url_text::UrlText;
 use memchr::memchr2;
-use std::alloc::Global;
-
-// The target at the front of a text, and the text behind it.
-#[derive(Drop)]
-pub(crate) struct Targeted<'a> {
-    pub(crate) target: Target,
-    pub(crate) rest: &'a str,
-}
 
 // Whether a clause that is not in parentheses begins the text.
 fn is_bare(text: &str) -> bool
     ensures { result ≡ begins is_bare_byte text.now }
 {
     matches!(text.as_bytes(), [b'~' | b'=' | b'!' | b'<' | b'>', ..])
-}
-
-// The target at the front of the text, before which no white space stands.
-pub(crate) fn target_at<'a>(alloc: Global, text: &'a str) -> Result<Targeted<'a>, RequireFault>
-    ensures read { IfOk result (λ found. TargetFrom text.now (target_parts found.target)
-        found.rest.now) }
-    ensures refused { IfErr result (λ e. (e ≡ RequireFault.NoMemory)
-        ⊎ RefusesTarget text.now e) }
-{
-    if let Some(rest) = behind(text, '@') {
-        return url_target(alloc, rest);
-    }
-    if let Some(rest) = behind(text, '(') {
-        return closed_target(alloc, rest);
-    }
-    if is_bare(text) {
-        return bare_target(alloc, text);
-    }
-    Ok(Targeted {
-        target: Target::Bounds(Vec::new(alloc)),
-        rest: text,
-    })
-}
-
-// The clauses at the front of the text.
-fn bare_target<'a>(alloc: Global, text: &'a str) -> Result<Targeted<'a>, RequireFault>
-    requires { begins is_bare_byte text.now ≡ true }
-    ensures read { IfOk result (λ found. TargetFrom text.now (target_parts found.target)
-        found.rest.now) }
-    ensures refused { IfErr result (λ e. (e ≡ RequireFault.NoMemory)
-        ⊎ RefusesTarget text.now e) }
-{
-    let bounds = clauses_at(alloc, text, false)?;
-    Ok(Targeted {
-        target: Target::Bounds(bounds.clauses),
-        rest: bounds.rest,
-    })
-}
-
-// The clauses behind a `(`, and the `)` behind them.
-fn closed_target<'a>(alloc: Global, text: &'a str) -> Result<Targeted<'a>, RequireFault>
-    ensures read { IfOk result (λ found. TargetFrom (40 ∷ text.now) (target_parts found.target)
-        found.rest.now) }
-    ensures refused { IfErr result (λ e. (e ≡ RequireFault.NoMemory)
-        ⊎ RefusesTarget (40 ∷ text.now) e) }
-{
-    let bounds = clauses_at(alloc, text, true)?;
-    let Some(rest) = behind(bounds.rest, ')') else {
-        return Err(RequireFault::Trailing);
-    };
-    Ok(Targeted {
-        target: Target::Bounds(bounds.clauses),
-        rest,
-    })
-}
-
-// The URL behind an `@`.
-fn url_target<'a>(alloc: Global, text: &'a str) -> Result<Targeted<'a>, RequireFault>
-    ensures read { IfOk result (λ found. TargetFrom (64 ∷ text.now) (target_parts found.target)
-        found.rest.now) }
-    ensures refused { IfErr result (λ e. (e ≡ RequireFault.NoMemory)
-        ⊎ RefusesTarget (64 ∷ text.now) e) }
-{
-    let text = stripped(text);
-    let (written, rest) = text.split_at(url_run(text.as_bytes()));
-    let url = UrlText::read(alloc, written)?;
-    Ok(Targeted {
-        target: Target::Direct(url),
-        rest,
-    })
 }
 
 // How many bytes without white space stand in front.
