@@ -23,9 +23,8 @@ pub fn stripped(text: &str) -> &str
     rest
 }
 
-/// What stands behind this ASCII character in front, where it stands there. Public for those alone who remember clauses
-/// by their texts.
-pub fn behind(text: &str, character: char) -> Option<&str>
+/// What stands behind this ASCII character in front, where it stands there.
+pub(crate) fn behind(text: &str, character: char) -> Option<&str>
     requires { character < 128 }
     ensures { MatchOption result (begins (λ b. b == character) text.now ≡ false)
         (λ behind. text.now ≡ character ∷ behind.now) }

@@ -84,7 +84,7 @@ pub(crate) fn name_at<'a>(alloc: Global, line: &'a str) -> Result<Start<'a>, Req
 /// The text of the marker that this is, which is left of a line that is read up to its marker;
 /// nothing where nothing is left. The only fault is `Trailing`, 36, where something else stands there
 /// than `;` and what is to be a marker (PEP 508, "Grammar").
-pub fn marker_text(left: &str) -> Result<Option<&str>, RequireFault>
+pub(crate) fn marker_text(left: &str) -> Result<Option<&str>, RequireFault>
     ensures found { IfOk result (λ found. MatchOption found (left.now ≡ [])
         (λ text. left.now ≡ 59 ∷ text.now)) }
     ensures refused { IfErr result (λ e. (e ≡ RequireFault.Trailing) × RefusesEnding left.now e) }
