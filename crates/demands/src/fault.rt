@@ -25,7 +25,7 @@ impl TableFault {
     ghost use Rattle.std.specs.Prelude.{◌≡◌};
     ghost use Rattle.demands.specs.Code.{table_code};
 
-    /// The code of the fault, which stands at each one above.
+    /// The code of the fault, see `docs/CODES.md`.
     pub fn code(self) -> u64
         ensures { result ≡ table_code self }
     {

@@ -203,9 +203,9 @@ pub enum Cause {
 }
 
 impl Cause {
-    /// The code of the cause, which stands at each one above. A refused line, a refused environment
-    /// and a refused argument have codes inside it: see [`LineFault::code`],
-    /// [`MarkerFault::code`] and [`ArgumentFault::code`].
+    /// The code of the cause, see `docs/CODES.md`. A refused line, a refused environment and a
+    /// refused argument have codes inside it: see [`LineFault::code`], [`MarkerFault::code`] and
+    /// [`ArgumentFault::code`].
     pub fn code(&self) -> u64
         ensures { result ≡ cause_code self.now }
     {

@@ -286,8 +286,8 @@ fn take_inputs(
     Ok(gathering)
 }
 
-/// What all inputs demand in the environment, in which order, grouping and repeats of the inputs,
-/// and of the lines of lists, don't matter: the table of the demands of those requirements that apply
+/// What all inputs demand in the environment, whatever the order, grouping and repeats of the
+/// inputs, and of the lines of lists: the table of the demands of those requirements that apply
 /// there (PEP 508, "Environment Markers"), and of printed tables. An input is a list, with a
 /// requirement on each line, a project file, of which the extra is that of the environment and the
 /// group, if there is one, that of the input, or a table file: see

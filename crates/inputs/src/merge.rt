@@ -30,8 +30,8 @@ fn text_of(alloc: Global, gathering: Gathering, environment: &Environment) -> Re
 
 /// The text of the table of what all inputs demand in the environment (see
 /// [`Table::text`](pep_table::Table::text)): of those requirements that apply there (PEP 508,
-/// "Environment Markers"), and of tables that were printed, in which order, grouping and repeats of
-/// the inputs, and of the lines of lists, don't matter.
+/// "Environment Markers"), and of tables that were printed, whatever the order, grouping and repeats
+/// of the inputs, and of the lines of lists.
 ///
 /// An input that isn't accepted is refused, with its number, counted from 1, as the place: 56 where
 /// it has more than 16,777,216 bytes; 51 to 55, or with a group 65 to 67, for a project file that

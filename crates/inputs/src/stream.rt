@@ -68,7 +68,7 @@ fn take_source<T: Taker, S: Source>(
     }
 }
 
-/// What a list demands in the environment that a reader gives, as [`gather`](crate::gather) tells it
+/// What a list from a reader demands in the environment, as [`gather`](crate::gather) tells it
 /// of input 1: merged while it is read, with one line of it held at a time, in whatever pieces its
 /// bytes come. At most 16,777,217 bytes are read, by at most as many calls.
 ///
@@ -99,8 +99,8 @@ pub fn gather_reader<S: Source>(
     }
 }
 
-/// The table of what a list demands in the environment that a reader gives, merged while it is
-/// read: see [`gather_reader`].
+/// The table of what a list from a reader demands in the environment, merged while it is read: see
+/// [`gather_reader`].
 pub fn merge_reader<S: Source>(
     alloc: Global,
     source: &mut S,

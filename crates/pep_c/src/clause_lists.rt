@@ -164,8 +164,8 @@ pub extern "C" fn tubrambutan_clauses(alloc: Global, bytes: &[u8], room: &mut [u
     give_text(alloc, clause_lines(alloc, bytes), room)
 }
 
-/// Which versions all clauses admit that the bytes write (see [`tubrambutan_clauses`], whose refusals it
-/// has): for each text between zero bytes one byte: 0 if one of the clauses doesn't admit the version that
+/// Which versions are admitted by all clauses that the bytes write (see [`tubrambutan_clauses`], whose
+/// refusals it has): for each text between zero bytes one byte: 0 if one of the clauses doesn't admit the version that
 /// the text spells; 1 if they all do and it is no pre-release, 3 if they all do and it is one; and 2 if the
 /// text is no version.
 #[unsafe(no_mangle)]

@@ -61,7 +61,7 @@ fn judged(alloc: Global, environment: &[u8], marker: &[u8]) -> Result<i32, Fault
     Ok(truth_number(truth))
 }
 
-/// Whether the marker holds that the bytes `marker` are, in the environment of the file with the bytes
+/// Whether the marker in the bytes `marker` holds in the environment of the file with the bytes
 /// `environment` (PEP 508, "Environment Markers"; see [`Marker::holds`](pep_marker::Marker::holds)): 1 or 0.
 ///
 /// A refusal is that of the environment, as in [`tubrambutan_merge`](crate::tubrambutan_merge); or else that of the

@@ -38,7 +38,7 @@ impl MarkerFault {
     ghost use Rattle.std.specs.Prelude.{◌≡◌};
     ghost use Rattle.pep_marker.specs.Code.{marker_code};
 
-    /// The code of the fault, which stands at each one above.
+    /// The code of the fault, see `docs/CODES.md`.
     pub fn code(self) -> u64
         ensures { result ≡ marker_code self }
     {

@@ -42,7 +42,7 @@ impl RequireFault {
     ghost use Rattle.std.specs.Prelude.{◌≡◌};
     ghost use Rattle.pep_require.specs.Code.{require_code, require_inner_code};
 
-    /// The code of the fault, which stands at each one above.
+    /// The code of the fault, see `docs/CODES.md`.
     pub fn code(self) -> u64
         ensures { result ≡ require_code self }
     {

@@ -19,7 +19,7 @@ impl VersionFault {
     ghost use Rattle.std.specs.Prelude.{◌≡◌};
     ghost use Rattle.pep_version.specs.Code.{version_code};
 
-    /// The code of the fault, which stands at each one above.
+    /// The code of the fault, see `docs/CODES.md`.
     pub fn code(self) -> u64
         ensures { result ≡ version_code self }
     {

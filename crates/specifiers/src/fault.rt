@@ -32,7 +32,7 @@ impl ClauseFault {
     ghost use Rattle.std.specs.Prelude.{◌≡◌};
     ghost use Rattle.specifiers.specs.Code.{clause_code};
 
-    /// The code of the fault, which stands at each one above.
+    /// The code of the fault, see `docs/CODES.md`.
     pub fn code(self) -> u64
         ensures { result ≡ clause_code self }
     {

@@ -25,7 +25,7 @@ pub trait Sink {
         ensures bytes { WriteAppends (written self.old) (written self.new) result buf.now }
         ensures counts { CountsCall (device self.old) (device self.new) result };
 
-    /// Is used no more, as where a call has failed, since no call is left. Nothing is written for it.
+    /// Ends the sink as a failed call does, since no call is left. Nothing is written for it.
     fn give_up(&mut self)
         requires { (device self.old).calls ≡ 18446744073709551615 }
         ensures device { device self.new ≡ record (device self.old) { failed = true } }
