@@ -12,7 +12,10 @@ def encoded(text: str) -> bytes:
     >>> encoded("\ud800")
     b'\xed\xa0\x80'
     """
-    return text.encode("utf-8", "surrogatepass")
+    try:
+        return text.encode()
+    except UnicodeEncodeError:
+        return text.encode("utf-8", "surrogatepass")
 
 
 def between_zero_bytes(texts: Sequence[str]) -> bytes:
