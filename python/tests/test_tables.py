@@ -254,9 +254,12 @@ class Refusals(unittest.TestCase):
         for environment in environments:
             with self.assertRaisesRegex(TypeError, "environment"):
                 merge(environment=environment)
-        path: Any = 0
-        with self.assertRaisesRegex(TypeError, "path"):
-            merge(path, environment=STANDARD)
+        with os.scandir(os.fsencode(os.path.dirname(__file__))) as entries:
+            # (its path is bytes)
+            paths: list[Any] = [0, b"list.txt", next(entries)]
+        for path in paths:
+            with self.assertRaisesRegex(TypeError, "path is"):
+                merge(path, environment=STANDARD)
 
     def test_names_that_are_none(self) -> None:
         table = merge(lists=["keras"], environment=STANDARD)

@@ -3,7 +3,7 @@
 from __future__ import annotations
 
 import itertools
-from typing import Callable, Iterable, Optional, Union, cast
+from typing import Callable, Iterable, Optional, Union
 
 from . import _library
 from ._refused import InvalidVersion, Refused, of_text
@@ -59,7 +59,7 @@ class Version:
             InvalidVersion: one of them is no version; the first such is told.
             TypeError: one of them is no text, or a text stands in place of many.
         """
-        texts = cast("list[str]", many_in(versions, "versions", "texts"))
+        texts = many_in(versions, "versions", "texts")
         try:
             keys = _library.version_keys(texts)
         except TypeError:
