@@ -9,6 +9,7 @@ import sys
 import tempfile
 import unittest
 from typing import Any, Callable, Union
+from unittest import mock
 
 import tubrambutan
 from tubrambutan import Cut, InvalidName, InvalidVersion, Range, Refused, Version, default_environment, merge
@@ -313,6 +314,11 @@ class Environments(unittest.TestCase):
         self.assertEqual(environment["python_version"], f"{sys.version_info.major}.{sys.version_info.minor}")
         lists = [f"a; python_version == '{environment['python_version']}'\nb; python_version < '3'\nc; sys_platform == '{sys.platform}'"]
         self.assertEqual(list(merge(lists=lists)), ["a", "c"])
+
+    def test_an_interpreter_between_two_releases(self) -> None:
+        with mock.patch("platform.python_version", lambda: "3.13.0+"):
+            self.assertEqual(default_environment()["python_full_version"], "3.13.0+local")
+            self.assertEqual(list(merge(lists=["a; python_full_version >= '3.13'\nb; python_full_version < '3.13'"])), ["a"])
 
     def test_texts_of_any_characters(self) -> None:
         for text in ['"', "\\", "'''", "\u00e9\U0001f40d", "a = b # c"]:

@@ -21,6 +21,7 @@ ghost use Rattle.std.specs.Ordering.{is_lt};
 ghost use Rattle.texts.specs.Arena.{IsPiece, piece_cmp, same_piece, same_text, text_at, text_cmp};
 ghost use Rattle.texts.specs.Heads.{head_of};
 
+use crate::compare::compare_texts;
 use crate::heads::head_of;
 use std::alloc::{AllocError, Global};
 use std::cmp::Ordering;
@@ -89,7 +90,7 @@ fn compare(bytes: &[u8], first: &Piece, second: &Piece) -> Ordering
     if first.head != second.head {
         return first.head.cmp(&second.head);
     }
-    bytes_at(bytes, first).cmp(bytes_at(bytes, second))
+    compare_texts(bytes_at(bytes, first), bytes_at(bytes, second))
 }
 
 // Sorts the pieces behind so many, in place.

@@ -6,6 +6,7 @@
 
 mod arena;
 mod bytes;
+mod compare;
 mod heads;
 mod limits;
 mod out;
