@@ -42,7 +42,7 @@ class _Reply(ctypes.Structure):
     _fields_ = [("status", ctypes.c_uint32), ("answer", ctypes.c_int32), ("size", ctypes.c_size_t)]
 
 
-# What may stand in a call: nothing else, since an int would be cut to 32 bits. (That ctypes converts arguments by `argtypes` takes as long as the rest of a short call.)
+# What may stand in a call. An int may not, since ctypes would cut it to 32 bits. (To convert arguments by `argtypes` takes a third of a short call.)
 _Argument = Union[bytes, "ctypes.Array[Any]", ctypes.c_size_t, ctypes.c_uint64, ctypes.c_bool]
 # (a `CDLL` gives the interpreter's lock back while a call runs)
 _LIBRARY = ctypes.CDLL(str(_path()))
