@@ -279,7 +279,7 @@ class Refusals(unittest.TestCase):
     def test_kinds_and_messages(self) -> None:
         rows: list[tuple[Callable[[], object], type[Refused], str]] = [
             (lambda: tubrambutan.Version("1.x"), tubrambutan.InvalidVersion, "'1.x': the text is no version (code 62 1)"),
-            (lambda: tubrambutan.admits(">=1.*", "1"), tubrambutan.InvalidSpecifier, "'>=1.*': `.*` stands behind more than a release, or with another operator than `==` and `!=` (code 57 33 13)"),
+            (lambda: tubrambutan.admits(">=1.*", "1"), tubrambutan.InvalidSpecifier, "'>=1.*': `.*` stands behind something other than a plain release, or with another operator than `==` and `!=` (code 57 33 13)"),
             (lambda: tubrambutan.admits(">=1", "x"), tubrambutan.InvalidVersion, "'x': the text is no version (code 62 1)"),
             (lambda: merge(lists=["a"], environment=STANDARD)["a"].admits("x"), tubrambutan.InvalidVersion, "'x': the text is no version (code 62 1)"),
             (lambda: merge(environment={}), Refused, "the environment lacks one of the eleven variables (code 59 23)"),

@@ -253,8 +253,8 @@ class Table(_Unchanged, Mapping[str, Package]):
         [True, False, True]
 
         Raises:
-            InvalidName: a name is none.
-            InvalidVersion: a version is none.
+            InvalidName: a name isn't valid.
+            InvalidVersion: a version isn't valid.
             TypeError: versions has other things than pairs of a name and a version.
             Refused: the table has more than 16,777,216 bytes, which no input may have.
         """
