@@ -6,7 +6,7 @@ usage: PYTHONPATH=python /usr/bin/python3 examples/mirror.py [--lines N] [--file
 (or another interpreter that has dask and distributed)
 
 The mirror is made in a temporary folder: lists whose lines have clauses, extras and markers, on names of which some are far more frequent than others. Processor time is
-that of all processes of the cluster, the scheduler and the client too, from the first task to the last table; the start of the workers is told apart. Memory is the peak
+that of all processes of the cluster, the scheduler and the client too, from the first task to the last table; the start of the workers is printed separately. Memory is the peak
 of a process. With --kill, the cluster merges once more, and a worker is killed midway. With --twice, it merges once more, each input given twice.
 """
 

@@ -16,7 +16,7 @@ static const char ENVIRONMENT[] =
 
 static char text[ROOM];
 
-/* Writes, behind the front, inline tables in one another with keys of so many parts each: 80 times so many levels. */
+/* Writes the front, 80 nested inline tables, and the end behind them. Each key has `parts` parts, so there are 80 times as many levels. */
 static void nest(const char *front, int parts, const char *behind)
 {
     char *end = text + sprintf(text, "%s", front);
@@ -45,7 +45,8 @@ static void compare(void)
     end[64] = '\0';
 }
 
-/* Asks the text for a version of a, and tells where the answer isn't the wanted one: 1, or a line where that is wanted. */
+/* Checks version 1 of the package a against the text, and prints the reply if it isn't as wanted: the line `wanted`, or the answer 1 if that
+ * is null. Returns whether it is as wanted. */
 static int asks(const char *what, uint32_t kind, const char *wanted)
 {
     uint8_t room[64] = {0};

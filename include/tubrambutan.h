@@ -4,26 +4,26 @@
  * calls it. Link dist/libtubrambutan.so, or libpep_c.a ("rt lib" in crates/pep_c makes it in out/) with c/liblibc_c.a of the kit. The allocator is
  * malloc, realloc and free of the program.
  *
- * What goes out. A call returns a reply. If its `status` is TUBRAMBUTAN_ANSWERED, `answer` is set by calls that return one, and is
- * else 0; and `size` is the length of the text that goes out, 0 if none does. If the room has as many bytes, they are the text, and the
- * bytes after them stay. If it has fewer, no byte of it is changed: call again with room for `size` bytes. No zero byte ends a text. If
- * the status is TUBRAMBUTAN_REFUSED, the text is the line that the program prints, with its line feed ("refused input 1 line 2 code
- * 57 33 12"; docs/CODES.md says what the codes mean). TUBRAMBUTAN_MISCUT means an unknown kind, parts that don't add up to
+ * What goes out. A call returns a reply. If its `status` is TUBRAMBUTAN_ANSWERED, `answer` is set by calls that return one;
+ * otherwise it is 0. `size` is the length of the text that goes out, 0 if none does. If the room has at least `size` bytes, its first `size`
+ * bytes become the text and the rest stay. If it has fewer, no byte of it is changed: call again with room for `size` bytes. No zero byte
+ * ends a text. If the status is TUBRAMBUTAN_REFUSED, the text is the line that the program prints, with its line feed ("refused input 1
+ * line 2 code 57 33 12"; docs/CODES.md says what the codes mean). TUBRAMBUTAN_MISCUT means an unknown kind, parts that don't add up to
  * byte_count, or a group for something other than a project file; nothing goes out then.
  *
- * Many texts in one. A zero byte stands between two of them. Zero bytes mean one empty text.
+ * Many texts in one. A zero byte stands between two of them. A length of 0 means one empty text.
  *
  * What a caller owes. Where it breaks one of these, nothing is promised.
- * - A pointer isn't null, even if the length is 0, and as many bytes (parts) can be read there as the length behind it says, fewer than
- *   2^63 bytes in all. Nothing changes them while the call runs. Parts stand where a tubrambutan_part may stand.
+ * - A pointer isn't null, even if the length is 0, and the number of bytes (or parts) that the next argument gives can be read there, fewer
+ *   than 2^63 bytes in all. Nothing changes them while the call runs. Parts are aligned as a tubrambutan_part.
  * - The room's bytes can be read and written, and lie in nothing else that is handed to the call. Nothing else reads or writes them while it runs.
- *   They have been written before (calloc, not malloc). The same holds of the room for numbers, which stands where a uint64_t may stand.
+ *   They have been written before (calloc, not malloc). The same holds of the room for numbers, which is aligned as a uint64_t.
  * - A bool is false or true.
  * - malloc, realloc and free are one allocator's, which aligns a block to each power of two up to 16 that divides its size, and which any thread
  *   that calls may use at once with others.
  * - The stack has 512 KiB left. A file that nests 700 levels takes up to some 290 KiB, a marker of 1,024 comparisons some 250.
  * - No call comes from a signal handler, or from the forked child of a process with threads.
- * - These names mean these functions alone in the program.
+ * - Nothing else in the program has these names.
  *
  * Calls may run at once on any threads. None keeps what it was handed, and none leaves memory behind.
  */
@@ -44,9 +44,9 @@ enum { TUBRAMBUTAN_ANSWERED = 0, TUBRAMBUTAN_MISCUT = 1, TUBRAMBUTAN_REFUSED = 2
 /* The kind of an input: a list of requirements, a pyproject.toml, or a printed table. docs/INPUTS.md says what each may hold. */
 enum { TUBRAMBUTAN_LIST = 0, TUBRAMBUTAN_PROJECT = 1, TUBRAMBUTAN_TABLE = 2 };
 
-/* An input in a buffer that holds all one after another: its kind, its size, and the size of the dependency group's name just before it
- * (PEP 735): 0 for no group, and for lists and tables. With a group, a project file's dependencies don't count. An extra is a variable of
- * the environment. */
+/* An input in a buffer that holds all one after another: its kind, its size, and the size of the dependency group's name (PEP 735), which
+ * stands just before the input's text. `size` doesn't include that name. `group_size` is 0 for no group, and for lists and tables. With a
+ * group, a project file's dependencies don't count. An extra is a variable of the environment. */
 typedef struct {
     uint32_t kind;
     size_t size;
@@ -86,9 +86,10 @@ tubrambutan_reply tubrambutan_check_each(const uint8_t *environment, size_t envi
                                          size_t questions_size, uint8_t *room, size_t room_size);
 
 /* Why the package with this name has its verdict on what such inputs demand, as lines: "NAME VERDICT", where the verdict is "open", "none" or
- * "conflict"; "claim I N TEXT" for each requirement on it that applies, and for each entry of a table on it, in order, where I is the number
- * of the input, N that of the line there (of an entry its first, of a project file that of the text), both counted from 1, and TEXT the
- * requirement's normal text, of an entry the name; and "clash I N TEXT" for each of these that clash: if any one is dropped, this clash is gone. */
+ * "conflict"; "claim I N TEXT" for each requirement on it that applies, and for each entry of a table on it, in order; and "clash I N TEXT"
+ * for each of these that clash together. If any one of them is dropped, this clash is gone. An open package has none. I is the number of the
+ * input, N the number of the line (for an entry its first line, for a project file the number of the text). Both are counted from 1. TEXT is
+ * the requirement's normal text, or the name of the entry. */
 tubrambutan_reply tubrambutan_why(const uint8_t *environment, size_t environment_size, const tubrambutan_part *parts,
                                   size_t part_count, const uint8_t *bytes, size_t byte_count, const uint8_t *name, size_t name_size,
                                   uint8_t *room, size_t room_size);
@@ -148,8 +149,8 @@ tubrambutan_reply tubrambutan_admits_each(const uint8_t *clauses, size_t clauses
  * tubrambutan_clauses. */
 tubrambutan_reply tubrambutan_ranges(const uint8_t *clauses, size_t clauses_size, uint8_t *room, size_t room_size);
 
-/* Whether each version that all of such clauses admit, all of the others admit too: 1 for yes, 0 for no. Those with "===" count as the rest. A
- * refusal is as of tubrambutan_clauses, and of the others it names line 1 of input 2. */
+/* Whether the others admit every version that these clauses admit: 1 for yes, 0 for no. "===" counts like any clause. Refusals are those of
+ * tubrambutan_clauses; for the others they name input 2, line 1. */
 tubrambutan_reply tubrambutan_within(const uint8_t *clauses, size_t clauses_size, const uint8_t *others, size_t others_size,
                                      uint8_t *room, size_t room_size);
 
@@ -159,8 +160,8 @@ tubrambutan_reply tubrambutan_judge(const uint8_t *environment, size_t environme
                                     uint8_t *room, size_t room_size);
 
 /* The shard of each line of a list, among so many shards: a number from 0, the same for all lines with one name, on each machine, whether or
- * not their markers hold. An empty line or a comment has the count itself. A count of 0 stands for 1. What follows a name isn't read, but for
- * the line's length and its UTF-8. The list may be of any size. The size of the reply counts the numbers, one more than there are line
+ * not their markers hold. An empty line or a comment has the count itself. A count of 0 stands for 1. What follows a name isn't read; only the
+ * line's length and UTF-8 are checked. The list may be of any size. The size of the reply counts the numbers, one more than there are line
  * feeds, and they go out if there is room for as many. The line of a refusal goes into the other room. */
 tubrambutan_reply tubrambutan_split(const uint8_t *bytes, size_t byte_count, uint64_t count, uint64_t *numbers, size_t number_count,
                                     uint8_t *room, size_t room_size);

@@ -9,6 +9,7 @@ import sys
 import tempfile
 import unittest
 from typing import Any, Callable, Union
+from unittest import mock
 
 import tubrambutan
 from tubrambutan import Cut, InvalidName, InvalidVersion, Range, Refused, Version, default_environment, merge
@@ -254,9 +255,12 @@ class Refusals(unittest.TestCase):
         for environment in environments:
             with self.assertRaisesRegex(TypeError, "environment"):
                 merge(environment=environment)
-        path: Any = 0
-        with self.assertRaisesRegex(TypeError, "path"):
-            merge(path, environment=STANDARD)
+        with os.scandir(os.fsencode(os.path.dirname(__file__))) as entries:
+            # (its path is bytes)
+            paths: list[Any] = [0, b"list.txt", next(entries)]
+        for path in paths:
+            with self.assertRaisesRegex(TypeError, "path is"):
+                merge(path, environment=STANDARD)
 
     def test_names_that_are_none(self) -> None:
         table = merge(lists=["keras"], environment=STANDARD)
@@ -275,7 +279,7 @@ class Refusals(unittest.TestCase):
     def test_kinds_and_messages(self) -> None:
         rows: list[tuple[Callable[[], object], type[Refused], str]] = [
             (lambda: tubrambutan.Version("1.x"), tubrambutan.InvalidVersion, "'1.x': the text is no version (code 62 1)"),
-            (lambda: tubrambutan.admits(">=1.*", "1"), tubrambutan.InvalidSpecifier, "'>=1.*': `.*` stands behind more than a release, or with another operator than `==` and `!=` (code 57 33 13)"),
+            (lambda: tubrambutan.admits(">=1.*", "1"), tubrambutan.InvalidSpecifier, "'>=1.*': `.*` stands behind something other than a plain release, or with another operator than `==` and `!=` (code 57 33 13)"),
             (lambda: tubrambutan.admits(">=1", "x"), tubrambutan.InvalidVersion, "'x': the text is no version (code 62 1)"),
             (lambda: merge(lists=["a"], environment=STANDARD)["a"].admits("x"), tubrambutan.InvalidVersion, "'x': the text is no version (code 62 1)"),
             (lambda: merge(environment={}), Refused, "the environment lacks one of the eleven variables (code 59 23)"),
@@ -310,6 +314,11 @@ class Environments(unittest.TestCase):
         self.assertEqual(environment["python_version"], f"{sys.version_info.major}.{sys.version_info.minor}")
         lists = [f"a; python_version == '{environment['python_version']}'\nb; python_version < '3'\nc; sys_platform == '{sys.platform}'"]
         self.assertEqual(list(merge(lists=lists)), ["a", "c"])
+
+    def test_an_interpreter_between_two_releases(self) -> None:
+        with mock.patch("platform.python_version", lambda: "3.13.0+"):
+            self.assertEqual(default_environment()["python_full_version"], "3.13.0+local")
+            self.assertEqual(list(merge(lists=["a; python_full_version >= '3.13'\nb; python_full_version < '3.13'"])), ["a"])
 
     def test_texts_of_any_characters(self) -> None:
         for text in ['"', "\\", "'''", "\u00e9\U0001f40d", "a = b # c"]:

@@ -73,7 +73,12 @@ class Types(unittest.TestCase):
             (lambda: table.save(b"a.table"), "path"),  # type: ignore[arg-type]
             (lambda: table.diff(1), "other"),  # type: ignore[arg-type]
             (lambda: table.admits_each(["demo"]), "versions"),  # type: ignore[list-item]
+            (lambda: Version.read_all(5), "versions"),  # type: ignore[arg-type]
+            (lambda: table.admits_each(5), "versions"),  # type: ignore[arg-type]
             (lambda: table["a"].filter("12"), "versions"),
+            (lambda: table["a"].filter(5), "versions"),  # type: ignore[arg-type]
+            (lambda: SpecifierSet("").filter("12"), "iterable"),
+            (lambda: SpecifierSet("").filter(5), "iterable"),  # type: ignore[arg-type]
             (lambda: canonicalize_name(5), "name"),  # type: ignore[arg-type]
             (lambda: tubrambutan.requirement_text(5), "requirement"),  # type: ignore[arg-type]
             (lambda: tubrambutan.admits(5, "1"), "clause"),  # type: ignore[arg-type]

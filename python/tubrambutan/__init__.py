@@ -10,8 +10,8 @@
 >>> flask.admits("2.3.2"), flask.admits("3.0rc1", prereleases=True)
 (True, False)
 
-What an input may hold, and what is printed, `docs/INPUTS.md` of the project says. The library in C is proved to meet its contracts
-(`docs/PROVED.md`); that this package calls it rightly is tested, and not proved. A call wants 512 KiB of the stack, and may not come from
+`docs/INPUTS.md` of the project says what an input may hold, and what is printed. The library in C is proved to meet its contracts
+(`docs/PROVED.md`). It is tested, and not proved, that this package calls it rightly. A call needs 512 KiB of stack, and may not come from
 the forked child of a process with threads.
 """
 

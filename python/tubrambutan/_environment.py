@@ -58,10 +58,16 @@ def default_environment() -> dict[str, str]:
     }
 
 
-@functools.lru_cache(maxsize=128)
 def _string(text: str) -> str:
     """Returns a basic string of TOML."""
     return '"' + _ESCAPED.sub(lambda it: f"\\u{ord(it[0]):04x}", text) + '"'
+
+
+# (most markers are judged in few environments)
+@functools.lru_cache(maxsize=16)
+def _file_of(pairs: tuple[tuple[str, str], ...]) -> bytes:
+    """Returns the environment file with these variables and their texts."""
+    return encoded("".join(f"{_string(name)} = {_string(text)}\n" for name, text in pairs))
 
 
 def file_of(environment: Mapping[str, Optional[str]]) -> bytes:
@@ -70,5 +76,11 @@ def file_of(environment: Mapping[str, Optional[str]]) -> bytes:
     Raises:
         TypeError: one has no text.
     """
-    pairs = ((text_in(name, "environment: the name of a variable"), text_in(text, f"environment: the text of {name!r}")) for name, text in environment.items())
-    return encoded("".join(f"{_string(name)} = {_string(text)}\n" for name, text in pairs))
+    pairs = []
+    for name, text in environment.items():
+        if not isinstance(name, str) or not isinstance(text, str):
+            text_in(name, "environment: the name of a variable")
+            text_in(text, f"environment: the text of {name!r}")
+        else:
+            pairs.append((name, text))
+    return _file_of(tuple(pairs))

@@ -10,7 +10,7 @@ from ._library import LIST, PROJECT, TABLE, Inputs
 from ._lines import Lines
 from ._names import canonicalize_name
 from ._refused import Refused
-from ._texts import encoded
+from ._texts import encoded, path_in
 
 Path = Union[str, "os.PathLike[str]"]
 Text = Union[str, bytes]
@@ -31,9 +31,7 @@ def _kind_of(path: str) -> int:
 
 def of_path(path: object) -> tuple[int, bytes, str]:
     """Returns the kind of the file at a path, its bytes, and the path."""
-    if not isinstance(path, (str, os.PathLike)):
-        raise TypeError(f"a path is a str or os.PathLike, and not {type(path).__name__}")
-    name = os.fspath(path)
+    name = path_in(path, "a path")
     return _kind_of(name), _file(name), name
 
 

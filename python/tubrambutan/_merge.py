@@ -85,7 +85,7 @@ def merge(
     ['flask', 'pytest', 'sphinx']
 
     Raises:
-        Refused: an input isn't accepted in the environment, or the environment is none.
+        Refused: an input isn't accepted in the environment, or the environment isn't valid.
         InvalidName: the group or an extra is no name.
         OSError: a file can't be read.
         ValueError: a text is the name of a file, or a mapping as environment has an extra, and `extras` names some.

@@ -53,7 +53,7 @@ class Marker:
         None is no extra.
 
         Raises:
-            UndefinedComparison: `~=` stands with `extra`, has no version on its left, or makes no clause with its right, as `~= "3"`.
+            UndefinedComparison: `~=` stands with `extra`, has no version on its left, or can't take the text on its right, as `~= "3"`.
             Refused: a variable is none of the eleven nor `extra`, or has a control character.
             TypeError: the environment is no mapping, or a variable's text is none.
         """

@@ -2,18 +2,20 @@
 
 from __future__ import annotations
 
+import itertools
 from typing import Iterable, Iterator, Optional, Union
 
 from . import _library
 from ._cuts import Range, range_of
 from ._refused import InvalidSpecifier, InvalidVersion, Refused, of_text
 from ._table import AnyVersion
-from ._texts import encoded, text_in
+from ._texts import encoded, many_in, text_in
 from ._version import Version, text_of
 
 _OPERATORS = ("===", "~=", "==", "!=", "<=", ">=", "<", ">")
 # What the library answers of a version: whether all clauses admit it, and then whether it is a pre-release.
 _FINAL, _NO_VERSION, _PRE_RELEASE = 1, 2, 3
+_FINAL_ALONE = bytes.maketrans(bytes([_PRE_RELEASE]), b"\0")
 
 
 def _in_order(clauses: Iterable[str]) -> tuple[str, ...]:
@@ -92,7 +94,7 @@ class SpecifierSet:
     def prereleases(self, value: Optional[bool]) -> None:
         self._prereleases = value
 
-    def _answers(self, versions: list[Union[Version, str]]) -> bytes:
+    def _answers(self, versions: Iterable[Union[Version, str]]) -> bytes:
         """Returns the answer on each version."""
         texts = [text_of(it) for it in versions]
         answers = _library.admits_each(encoded(str(self)), texts)
@@ -127,13 +129,13 @@ class SpecifierSet:
 
         Raises:
             InvalidVersion: one of them is no version.
+            TypeError: one of them is neither a version nor a text, or a text stands in place of many.
         """
-        versions = list(iterable)
+        versions = many_in(iterable, "iterable", "versions")
         if prereleases is None:
             prereleases = self.prereleases
-        for version, answer in zip(versions, self._answers(list(versions))):
-            if answer == _FINAL or (answer == _PRE_RELEASE and prereleases):
-                yield version
+        answers = self._answers(versions)
+        return itertools.compress(versions, answers if prereleases else answers.translate(_FINAL_ALONE))
 
     def __and__(self, other: Union[SpecifierSet, str]) -> SpecifierSet:
         if isinstance(other, str):

@@ -16,7 +16,7 @@ from ._library import TABLE, Inputs
 from ._names import canonicalize_name
 from ._refused import InvalidName
 from ._shards import count_of, shards_of_names
-from ._texts import encoded, path_in, text_in
+from ._texts import encoded, many_in, path_in, text_in
 from ._version import Version, text_of
 
 AnyVersion = TypeVar("AnyVersion", bound=Union[Version, str])
@@ -134,9 +134,7 @@ class Package(_Unchanged):
             TypeError: one of them is neither a version nor a text, or a text stands in place of many.
             Refused: what is demanded has more than 16,777,216 bytes, which no input may have.
         """
-        if isinstance(versions, str):
-            raise TypeError("versions is many versions, and not one")
-        them = list(versions)
+        them = many_in(versions, "versions", "versions")
         return itertools.compress(them, _admitted(self._inputs, [(self.name, it) for it in them], prereleases))
 
     def __eq__(self, other: object) -> bool:
@@ -255,12 +253,12 @@ class Table(_Unchanged, Mapping[str, Package]):
         [True, False, True]
 
         Raises:
-            InvalidName: a name is none.
-            InvalidVersion: a version is none.
+            InvalidName: a name isn't valid.
+            InvalidVersion: a version isn't valid.
             TypeError: versions has other things than pairs of a name and a version.
             Refused: the table has more than 16,777,216 bytes, which no input may have.
         """
-        asked = list(versions)
+        asked = many_in(versions, "versions", "pairs of a name and a version")
         if not all(isinstance(it, (tuple, list)) and len(it) == 2 for it in asked):
             raise TypeError("versions is pairs of a name and a version")
         return list(_admitted(self._inputs, asked, prereleases))

@@ -3,7 +3,9 @@
 from __future__ import annotations
 
 import os
-from typing import Iterable, Sequence, Union
+from typing import Iterable, Sequence, TypeVar, Union
+
+T = TypeVar("T")
 
 
 def encoded(text: str) -> bytes:
@@ -12,7 +14,10 @@ def encoded(text: str) -> bytes:
     >>> encoded("\ud800")
     b'\xed\xa0\x80'
     """
-    return text.encode("utf-8", "surrogatepass")
+    try:
+        return text.encode()
+    except UnicodeEncodeError:
+        return text.encode("utf-8", "surrogatepass")
 
 
 def between_zero_bytes(texts: Sequence[str]) -> bytes:
@@ -50,7 +55,7 @@ def path_in(value: object, argument: str) -> str:
     return path
 
 
-def many_in(value: object, argument: str, of: str) -> list[object]:
+def many_in(value: Iterable[T], argument: str, of: str) -> list[T]:
     """Returns the items of an argument; a text alone in their place would be taken letter by letter.
 
     Raises:

@@ -2,11 +2,12 @@
 
 from __future__ import annotations
 
-from typing import Iterable, Optional, Union
+import itertools
+from typing import Callable, Iterable, Optional, Union
 
 from . import _library
 from ._refused import InvalidVersion, Refused, of_text
-from ._texts import encoded, text_in
+from ._texts import encoded, many_in, text_in
 
 _PHASES = ("a", "b", "rc")
 
@@ -38,7 +39,9 @@ class Version:
     _numbers: tuple[int, ...]
 
     def __init__(self, version: str) -> None:
-        self._given = text_in(version, "version")
+        if not isinstance(version, str):
+            text_in(version, "version")
+        self._given = version
         try:
             self._key_bytes = _library.version_key(encoded(version))
         except Refused as refused:
@@ -56,14 +59,21 @@ class Version:
             InvalidVersion: one of them is no version; the first such is told.
             TypeError: one of them is no text, or a text stands in place of many.
         """
-        if isinstance(versions, str):
-            raise TypeError("versions is many texts, and not one")
-        texts, found = [text_in(it, "versions") for it in versions], []
-        new = cls.__new__
-        for text, key in zip(texts, _library.version_keys(texts)):
-            version = new(cls)
-            version._given, version._key_bytes = text, key or cls(text)._key_bytes
-            found.append(version)
+        texts = many_in(versions, "versions", "texts")
+        try:
+            keys = _library.version_keys(texts)
+        except TypeError:
+            for text in texts:
+                text_in(text, "versions")
+            raise
+        new: Callable[[type[Version]], Version] = cls.__new__
+        # (what the loop names is looked up once, and not for each version)
+        found, length_at, length, end = list(map(new, itertools.repeat(cls, len(texts)))), _library.length_at, _library.LENGTH, 0
+        for text, version in zip(texts, found):
+            begin = end + length
+            end = begin + length_at(keys, end)[0]
+            version._given = text
+            version._key_bytes = keys[begin:end] or cls(text)._key_bytes
         return found
 
     def __str__(self) -> str:

@@ -135,7 +135,7 @@ def why(
 
     Raises:
         InvalidName: the name, or the group, is no name.
-        Refused: an input isn't accepted in the environment, or the environment is none.
+        Refused: an input isn't accepted in the environment, or the environment isn't valid.
         OSError: a file can't be read.
         ValueError: a text is the name of a file.
         TypeError: an argument has another type.
@@ -159,7 +159,7 @@ def clashes(
 
     Raises:
         InvalidName: the group is no name.
-        Refused: an input isn't accepted in the environment, or the environment is none.
+        Refused: an input isn't accepted in the environment, or the environment isn't valid.
         OSError: a file can't be read.
         ValueError: a text is the name of a file.
         TypeError: an argument has another type.
