@@ -1,6 +1,6 @@
 // The clauses of a line (PEP 508, "Grammar"), read from left to right. No text is copied.
 
-ghost use Rattle.std.specs.Prelude.{◌≡◌, ◌⊎◌, ◌++◌, ◌∷◌, [], if◌then◌else◌, IfErr, IfOk, List, OnOk};
+ghost use Rattle.std.specs.Prelude.{◌≡◌, ◌⊎◌, if◌then◌else◌, IfErr, IfOk, List};
 ghost use Rattle.specifiers.specs.Clause.{Clause as ClauseParts};
 ghost use Rattle.pep_require.specs.LineParts.{
   BoundFrom,

@@ -45,7 +45,9 @@ pub fn is_final(version: &Version) -> bool
 fn are_lower(bytes: &[u8]) -> bool
     ensures { result ≡ list_all (λ b. is_clause_byte b && not (is_ascii_uppercase b)) bytes.now }
 {
-    bytes.iter().all(|b| is_clause_byte(*b) && !b.is_ascii_uppercase())
+    bytes
+        .iter()
+        .all(|b| is_clause_byte(*b) && !b.is_ascii_uppercase())
 }
 
 /// Whether `===` and this text are a clause that demands the text as it is written (PEP 440, "Arbitrary equality"): one or
