@@ -1,8 +1,7 @@
 -- Clauses that are found in a text, and what they demand.
-use Rattle.std.proofs.Common.{◌≡◌, ℕ, ◌==◌, Bool, true, false, length, List, [], ◌∷◌, ◌++◌, Option, Some, None, refl, sym}
+use Rattle.std.proofs.Common.{◌≡◌, ℕ, ◌==◌, Bool, true, false, length, List, [], ◌++◌, Option, Some, None, refl, sym}
 use Rattle.std.proofs.Common.{subst, ◌∙◌, append-nil}
 use Rattle.std.specs.Prelude.{IfSome}
-use Rattle.std.proofs.lemmas.List.Elements.{All-nil, All-push}
 use Rattle.specifiers.specs.Clause.{Clause, demanded_text}
 use Rattle.specifiers.specs.Valid.{IsValidClause}
 use Rattle.pep_clause.specs.OperatorTable.{outside, range, set_of}

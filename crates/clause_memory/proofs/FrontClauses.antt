@@ -1,5 +1,5 @@
 -- The clause in front of a text, and where it ends.
-use Rattle.std.proofs.Common.{◌≡◌, ℕ, ◌<◌, Bool, false, List, [], ◌∷◌, ◌++◌, refl, sym, subst, ap, ◌∙◌}
+use Rattle.std.proofs.Common.{◌≡◌, ℕ, ◌<◌, false, List, [], ◌∷◌, ◌++◌, refl, sym, subst, ap, ◌∙◌}
 use Rattle.std.proofs.Common.{◌-◌, append_assoc, arith, length, length-append, take, drop, None, Some}
 use Rattle.std.proofs.Common.{Option}
 use Rattle.std.specs.Prelude.{IfSome}
@@ -8,9 +8,8 @@ use Rattle.std.specs.List.{prefix_len}
 use Rattle.std.proofs.lemmas.Bool.Decides.{nat_tests}
 use Rattle.std.proofs.lemmas.List.{take-append-drop}
 use Rattle.specifiers.specs.Clause.{Clause, demanded, demanded_text}
-use Rattle.specifiers.specs.Clause.{at_least, at_most, compatible, excluding, excluding_prefix, greater_than, is_demanded_text}
+use Rattle.specifiers.specs.Clause.{at_least, at_most, compatible, excluding, excluding_prefix, greater_than}
 use Rattle.specifiers.specs.Clause.{less_than, matching, matching_prefix}
-use Rattle.specifiers.specs.Valid.{IsValidClause}
 use Rattle.pep_clause.specs.VersionSet.{Range}
 use Rattle.texts.specs.Bytes.{is_blank_byte, is_clause_byte}
 use Rattle.texts.specs.Runs.{begins, without_leading_blanks}

@@ -1,8 +1,6 @@
 -- The clause in front of a text, as what it demands.
-use Rattle.std.specs.Prelude.{◌≡◌, ℕ, ◌==◌, ◌&&◌, Bool, not, List, None}
-use Rattle.specifiers.specs.Clause.{Clause, demanded_text}
-use Rattle.specifiers.specs.Valid.{IsValidClause}
-use Rattle.pep_clause.specs.OperatorTable.{set_of}
+use Rattle.std.specs.Prelude.{ℕ, ◌==◌, ◌&&◌, Bool, not, List}
+use Rattle.specifiers.specs.Clause.{Clause}
 use Rattle.pep_clause.specs.VersionSet.{Range}
 use Rattle.pep_marker.specs.Environment.{EnvironmentParts}
 use Rattle.pep_require.specs.LineParts.{BoundFrom}

@@ -1,29 +1,21 @@
 -- The versions that are kept between two places and beside them: moved inwards, met with one set more, and as ranges.
-use Rattle.std.proofs.Common.{◌≡◌, ◌&&◌, ◌||◌, Bool, true, false, not, List, [], ◌∷◌, refl, sym, ap, ◌∙◌}
+use Rattle.std.proofs.Common.{◌≡◌, ◌&&◌, Bool, true, false, List, [], ◌∷◌, refl, sym, ap, ◌∙◌}
 use Rattle.std.proofs.Common.{arith, length, subst}
-use Rattle.std.specs.Prelude.{◌≢◌, IfSome, is_some, Option, Some, None}
-use Rattle.std.specs.declared.cmp.Ordering.TheVariants.{Less}
 use Rattle.std.proofs.Math.Bool.{and_assoc}
 use Rattle.std.specs.Ordering.{is_lt}
-use Rattle.texts.proofs.Connectives.{and-false, and_given}
+use Rattle.texts.proofs.Connectives.{and_given}
 use Rattle.pep_clause.specs.Cut.{Cut, IsCut, cut_cmp, end, least}
 use Rattle.pep_clause.specs.Joined.{earlier, joined, later}
-use Rattle.pep_clause.specs.Laws.{cut_total}
-use Rattle.pep_clause.specs.OperatorTable.{outside, range}
+use Rattle.pep_clause.specs.OperatorTable.{range}
 use Rattle.pep_clause.specs.VersionSet.{IsNormal, Range, all_versions, is_point}
-use Rattle.pep_clause.proofs.Between.{below-not_above, earlier-keeps, later-keeps, not_below_itself}
+use Rattle.pep_clause.proofs.Between.{earlier-keeps, later-keeps}
 use Rattle.pep_clause.proofs.JoinedPoints.{is_point-joined, is_point-range, is_point-range_joined}
-use Rattle.pep_clause.proofs.LeastCut.{IsNormal-all_versions, end-below_none, point-all_versions}
+use Rattle.pep_clause.proofs.LeastCut.{IsNormal-all_versions, point-all_versions}
 use Rattle.pep_clause.proofs.NormalJoined.{IsNormal-joined, IsNormal-range}
 use Rattle.pep_clause.proofs.OneList.{same_points}
-use Rattle.pep_clause.proofs.RangeRows.{IsNormal-outside}
-use Rattle.places.specs.LeftOut.{IsPart}
-use Rattle.places.specs.declared.bounds.Bounds.{Bounds}
-use Rattle.places.proofs.LeftOver.{all_points, is_below, outside_points}
 use Rattle.demands.specs.Join.{IsIntersection}
 use Rattle.demands.specs.PartialJoins.{AreKept, AreNormal, joined_sets, kept_versions}
 use Rattle.demands.proofs.PartialJoins.{normal_sets}
-use Rattle.demands.proofs.TakenClauses.{all_meets}
 
 pub kept-normal : (l h : Cut) (s : List Range) → AreKept l h s → IsNormal (kept_versions l h s)
 kept-normal l h s k = IsNormal-joined (range l h) s (IsNormal-range l h k.low k.high) k.beside

@@ -1,5 +1,5 @@
 -- The versions that the clauses of a line admit: with one clause more, and met with those of a package.
-use Rattle.std.proofs.Common.{◌≡◌, ◌&&◌, ℕ, Bool, List, [], ◌∷◌, ◌++◌, Result, Ok, Err, map, sym, ap, subst, ◌∙◌}
+use Rattle.std.proofs.Common.{◌≡◌, ◌&&◌, ℕ, List, [], ◌∷◌, ◌++◌, Result, Ok, Err, map, sym, ap, subst, ◌∙◌}
 use Rattle.std.specs.Prelude.{OnErr, OnOk}
 use Rattle.std.specs.List.{All}
 use Rattle.std.proofs.lemmas.List.Elements.{All-nil, All-push}
@@ -7,11 +7,11 @@ use Rattle.std.proofs.Math.Bool.{and_assoc}
 use Rattle.std.proofs.Common.{append_assoc}
 use Rattle.std.proofs.lemmas.List.{map_push}
 use Rattle.texts.proofs.Connectives.{and_given, and_given_second}
-use Rattle.pep_clause.specs.Cut.{Cut, IsCut, end, least}
+use Rattle.pep_clause.specs.Cut.{Cut, end, least}
 use Rattle.pep_clause.specs.Joined.{joined}
 use Rattle.pep_clause.specs.VersionSet.{IsNormal, Range, all_versions, is_point}
 use Rattle.pep_clause.proofs.JoinedPoints.{is_point-joined}
-use Rattle.pep_clause.proofs.LeastCut.{IsNormal-all_versions, point-all_versions}
+use Rattle.pep_clause.proofs.LeastCut.{point-all_versions}
 use Rattle.places.specs.declared.bounds.Bounds.{Bounds}
 use Rattle.pep_require.specs.Requirement.{IsAscending}
 use Rattle.demands.specs.Gathering.{bare_entry}

@@ -4,7 +4,7 @@ use Rattle.std.specs.Prelude.{Contains, unwrap_or}
 use Rattle.pep_marker.specs.Name.{IsNormalName}
 use Rattle.pep_require.specs.Requirement.{RequirementParts}
 use Rattle.pep_require.proofs.Ascending.{IsIn-from_Contains}
-use Rattle.demands.specs.Gathering.{HasValidParts, TakesEntry, TakesRequirement, bare_entry, target_clauses, target_urls, texts_of}
+use Rattle.demands.specs.Gathering.{TakesEntry, TakesRequirement, bare_entry, target_clauses, target_urls, texts_of}
 use Rattle.demands.specs.Join.{IsUnion, JoinsAt, JoinsEntries, JoinsTables}
 use Rattle.demands.specs.LineDemands.{DemandsEntry}
 use Rattle.demands.specs.Table.{EntryParts, TableParts, entry_at}

@@ -14,4 +14,4 @@ pub use crate::gathering::Gathering;
 pub use crate::printout::Printout;
 pub use crate::table::Table;
 pub use crate::text::entry_text;
-pub use demands::{Answer, Entry, Join, Kept, LineDemands, Sorted, TableFault, Verdict, join_all};
+pub use demands::{Answer, Entry, Join, Kept, Sorted, TableFault, Verdict, join_all};

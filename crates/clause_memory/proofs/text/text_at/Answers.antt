@@ -1,8 +1,8 @@
-use Rattle.std.proofs.Common.{◌≡◌, Some, ap, rules, sym, ◌∙◌}
+use Rattle.std.proofs.Common.{◌≡◌, Some, ap, rules, ◌∙◌}
 use Rattle.std.specs.List.{prefix_len}
 use Rattle.texts.specs.Bytes.{is_clause_byte}
 use Rattle.specifiers.specs.Clause.{operator_of}
-use Rattle.pep_require.proofs.BoundLoops.{boundary-clause, boundary-operator, clause_here, cut_here}
+use Rattle.pep_require.proofs.BoundLoops.{boundary-clause, boundary-operator}
 use Rattle.clause_memory.proofs.text.text_at.Goals as goal
 
 pub split_at-requires : goal.split_at-requires

@@ -1,4 +1,4 @@
-use Rattle.std.proofs.Common.{◌≤◌, ◌<◌, ◌+◌, ◌∷◌, [], ◌++◌, ◌∙◌, ap, get_or, length, rules, sym, subst, take}
+use Rattle.std.proofs.Common.{◌≤◌, ◌<◌, ◌∷◌, [], ◌++◌, ◌∙◌, ap, length, rules, sym, subst, take}
 use Rattle.std.proofs.lemmas.List.{take_all, take_more}
 use Rattle.demands.specs.Join.{IsUnion}
 use Rattle.demands.proofs.CollectedTexts.{with_collected}

@@ -1,6 +1,4 @@
-use Rattle.std.proofs.Common.{◌∙◌, ap}
-use Rattle.texts.proofs.Results.{at_err}
-use Rattle.demands.specs.Collected.{collected_texts}
+use Rattle.std.proofs.Common.{◌∙◌}
 use Rattle.demands.proofs.CollectedTexts.{pushed_behind}
 use Rattle.demands.proofs.collected.Collected.put.Goals as goal
 
