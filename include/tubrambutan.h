@@ -160,7 +160,7 @@ tubrambutan_reply tubrambutan_judge(const uint8_t *environment, size_t environme
                                     uint8_t *room, size_t room_size);
 
 /* The shard of each line of a list, among so many shards: a number from 0, the same for all lines with one name, on each machine, whether or
- * not their markers hold. An empty line or a comment has the count itself. A count of 0 stands for 1. What follows a name isn't read; only the
+ * not their markers hold. For an empty line or a comment it is the count. A count of 0 stands for 1. What follows a name isn't read; only the
  * line's length and UTF-8 are checked. The list may be of any size. The size of the reply counts the numbers, one more than there are line
  * feeds, and they go out if there is room for as many. The line of a refusal goes into the other room. */
 tubrambutan_reply tubrambutan_split(const uint8_t *bytes, size_t byte_count, uint64_t count, uint64_t *numbers, size_t number_count,
