@@ -9,18 +9,21 @@ use pep_require::stripped;
 use specifiers::is_demanded_text;
 use texts::clause_run;
 
-/// The text that the clause in front demands by `===` (PEP 440, "Arbitrary equality"), and what stands behind the clause.
-/// `None` for other clauses, and for a text that isn't in lower case.
+/// The text that the clause in front demands by `===` (PEP 440, "Arbitrary equality"), and what stands behind the
+/// clause. `None` for other clauses, and for a text that isn't in lower case.
 pub(crate) fn text_at(text: &str) -> Option<(&str, &str)>
     ensures text { IfSome result (λ found. IsTrue (is_demanded_text found.0.now)) }
     ensures found { IfSome result (λ found. BoundFrom text.now (demanded found.0.now) found.1.now) }
 {
     let text = stripped(text);
     let operator = Op::at_front(text.as_bytes())?;
+    if operator != Op::Exact {
+        return None;
+    }
     let (_, operand) = text.split_at(operator.text().len());
     let operand = stripped(operand);
     let (run, rest) = operand.split_at(clause_run(operand.as_bytes()));
-    if operator != Op::Exact || !is_demanded_text(run) {
+    if !is_demanded_text(run) {
         return None;
     }
     Some((run, stripped(rest)))

@@ -16,7 +16,7 @@ use Rattle.places.specs.declared.bounds.Bounds.{Bounds}
 use Rattle.pep_require.specs.Requirement.{IsAscending}
 use Rattle.demands.specs.Gathering.{bare_entry}
 use Rattle.demands.specs.Join.{IsIntersection, IsUnion}
-use Rattle.demands.specs.LineSets.{AreLineSets, AreValidOthers, left_over, line_sets, line_versions}
+use Rattle.demands.specs.LineSets.{AreLineSets, AreValidOthers, left_by, line_sets, line_versions}
 use Rattle.demands.specs.Others.{OtherParts, entry_with, no_others}
 use Rattle.demands.specs.PartialJoins.{AreNormal, joined_sets, kept_versions}
 use Rattle.demands.specs.Table.{IsValidEntry}
@@ -42,23 +42,23 @@ normal_more (x ∷ xs) ys t h n = (h.0, normal_more xs ys t h.1 n)
 -- ---- what one more leaves out
 
 pub left-normal : (outs new : List Bounds) (b : Bounds) (sets : List (List Range)) → new ≡ outs ++ b ∷ [] →
-    AreNormal (line_sets outs sets) → IsNormal (left_over b) → AreNormal (line_sets new sets)
+    AreNormal (line_sets outs sets) → IsNormal (left_by b) → AreNormal (line_sets new sets)
 left-normal outs new b sets e h n =
-    subst (λ l. AreNormal (l ++ sets)) (sym (ap (map left_over) e ∙ map_push left_over outs b))
-    (normal_more (map left_over outs) sets (left_over b) h n)
+    subst (λ l. AreNormal (l ++ sets)) (sym (ap (map left_by) e ∙ map_push left_by outs b))
+    (normal_more (map left_by outs) sets (left_by b) h n)
 
 pub left-met : (outs new : List Bounds) (b : Bounds) (sets : List (List Range)) → new ≡ outs ++ b ∷ [] →
-    AreNormal (line_sets outs sets) → IsNormal (left_over b) →
-    IsIntersection (joined_sets (line_sets outs sets)) (left_over b) (joined_sets (line_sets new sets))
+    AreNormal (line_sets outs sets) → IsNormal (left_by b) →
+    IsIntersection (joined_sets (line_sets outs sets)) (left_by b) (joined_sets (line_sets new sets))
 left-met outs new b sets e h n = record {
   normal = normal_sets (line_sets new sets) (left-normal outs new b sets e h n);
   points = λ cut is.
-      ap (λ l. is_point (joined_sets (l ++ sets)) cut) (ap (map left_over) e ∙ map_push left_over outs b)
-      ∙ points_both (map left_over outs ++ left_over b ∷ []) sets cut
-      ∙ ap (λ t. t && is_point (joined_sets sets) cut) (points_behind (map left_over outs) (left_over b) cut)
-      ∙ last_two (is_point (joined_sets (map left_over outs)) cut) (is_point (left_over b) cut)
+      ap (λ l. is_point (joined_sets (l ++ sets)) cut) (ap (map left_by) e ∙ map_push left_by outs b)
+      ∙ points_both (map left_by outs ++ left_by b ∷ []) sets cut
+      ∙ ap (λ t. t && is_point (joined_sets sets) cut) (points_behind (map left_by outs) (left_by b) cut)
+      ∙ last_two (is_point (joined_sets (map left_by outs)) cut) (is_point (left_by b) cut)
       (is_point (joined_sets sets) cut)
-      ∙ ap (λ t. t && is_point (left_over b) cut) (sym (points_both (map left_over outs) sets cut));
+      ∙ ap (λ t. t && is_point (left_by b) cut) (sym (points_both (map left_by outs) sets cut));
 }
 
 -- ---- one set more
@@ -66,7 +66,7 @@ left-met outs new b sets e h n = record {
 pub set-normal : (outs : List Bounds) (sets new : List (List Range)) (t : List Range) → new ≡ sets ++ t ∷ [] →
     AreNormal (line_sets outs sets) → IsNormal t → AreNormal (line_sets outs new)
 set-normal outs sets new t e h n =
-    subst AreNormal (append_assoc (map left_over outs) sets (t ∷ []) ∙ ap (λ l. map left_over outs ++ l) (sym e))
+    subst AreNormal (append_assoc (map left_by outs) sets (t ∷ []) ∙ ap (λ l. map left_by outs ++ l) (sym e))
     (normal_behind (line_sets outs sets) t h n)
 
 pub set-met : (outs : List Bounds) (sets new : List (List Range)) (t : List Range) → new ≡ sets ++ t ∷ [] →
@@ -76,7 +76,7 @@ set-met outs sets new t e h n = record {
   normal = normal_sets (line_sets outs new) (set-normal outs sets new t e h n);
   points = λ cut is.
       ap (λ l. is_point (joined_sets l) cut)
-      (sym (append_assoc (map left_over outs) sets (t ∷ []) ∙ ap (λ l. map left_over outs ++ l) (sym e)))
+      (sym (append_assoc (map left_by outs) sets (t ∷ []) ∙ ap (λ l. map left_by outs ++ l) (sym e)))
       ∙ points_behind (line_sets outs sets) t cut;
 }
 
@@ -103,17 +103,17 @@ meets_one_set a b d t done more h g e = record {
 
 -- .. with the places, what they leave out, and the sets
 pub meets_line : (a b d f range : List Range) (outs : List Bounds) (sets : List (List Range)) →
-    IsIntersection a range b → IsIntersection b (joined_sets (map left_over outs)) d →
+    IsIntersection a range b → IsIntersection b (joined_sets (map left_by outs)) d →
     IsIntersection d (joined_sets sets) f →
     IsIntersection a (joined range (joined_sets (line_sets outs sets))) f
 meets_line a b d f range outs sets h g k = record {
   normal = k.normal;
-  points = λ cut is. let left = joined_sets (map left_over outs) in
+  points = λ cut is. let left = joined_sets (map left_by outs) in
       k.points cut is
       ∙ (λ i. g.points cut is i && is_point (joined_sets sets) cut)
       ∙ (λ i. (h.points cut is i && is_point left cut) && is_point (joined_sets sets) cut)
       ∙ and_assoc (is_point a cut && is_point range cut) (is_point left cut) (is_point (joined_sets sets) cut)
-      ∙ ap (λ x. (is_point a cut && is_point range cut) && x) (sym (points_both (map left_over outs) sets cut))
+      ∙ ap (λ x. (is_point a cut && is_point range cut) && x) (sym (points_both (map left_by outs) sets cut))
       ∙ and_assoc (is_point a cut) (is_point range cut) (is_point (joined_sets (line_sets outs sets)) cut)
       ∙ ap (λ x. is_point a cut && x) (sym (is_point-joined range (joined_sets (line_sets outs sets)) cut));
 }

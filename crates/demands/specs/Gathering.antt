@@ -48,15 +48,6 @@ pub record HasValidParts (r : RequirementParts) : Type 0 where
   pub urls : All (λ u. IsTrue (is_url_text u)) (target_urls r.target)
   pub clauses : All IsValidClause (target_clauses r.target)
 
--- the requirement demands these versions, and nothing else
-pub record DemandsVersions (r : RequirementParts) (ranges : List Range) : Type 0 where
-  pub clauses : List Clause
-  pub target : r.target ≡ bounds clauses
-  pub extras : r.extras ≡ []
-  pub texts : texts_of clauses ≡ []
-  pub valid : All IsValidClause clauses
-  pub versions : MeetsClauses all_versions clauses ranges
-
 -- the entry of a name of which nothing more is demanded
 abbrev pub bare_entry : EntryParts
 bare_entry = record { extras = []; urls = []; texts = []; versions = all_versions }

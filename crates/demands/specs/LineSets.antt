@@ -9,13 +9,13 @@ use Rattle.demands.specs.Others.{OtherParts}
 use Rattle.demands.specs.PartialJoins.{AreKept, AreNormal, joined_sets, kept_versions}
 use Rattle.demands.specs.Table.{is_url_text}
 
--- what is left of all versions outside of two places
-abbrev pub left_over : Bounds → List Range
-left_over b = outside b.low b.high
+-- the versions that two places leave, which lie outside of them
+abbrev pub left_by : Bounds → List Range
+left_by b = outside b.low b.high
 
 -- what each pair of places leaves over, and the sets
 abbrev pub line_sets : List Bounds → List (List Range) → List (List Range)
-line_sets left_out sets = map left_over left_out ++ sets
+line_sets left_out sets = map left_by left_out ++ sets
 
 -- what lies between two places, in what each pair of places leaves over, and in the sets
 abbrev pub line_versions : Bounds → List Bounds → List (List Range) → List Range

@@ -64,6 +64,7 @@ impl Collected {
     }
 
     /// Whether there is no text.
+    #[inline(always)]
     pub(crate) fn is_empty(&self) -> bool
         ensures { IsTrue result → self.now ≡ [] }
     {

@@ -1,19 +1,18 @@
 //! The versions that are demanded of a package so far.
 
-ghost use Rattle.std.specs.Prelude.{◌≡◌, ◌∷◌, [], All, IfErr, IfOk, OnOk, map, option_map};
+ghost use Rattle.std.specs.Prelude.{◌≡◌, ◌++◌, ◌∷◌, [], All, IfErr, IfOk, List, OnOk, map, option_map};
 ghost use Rattle.specifiers.specs.Valid.{IsValidClause};
 ghost use Rattle.pep_clause.specs.Cut.{IsCut};
 ghost use Rattle.pep_clause.specs.OperatorTable.{outside, range};
-ghost use Rattle.pep_clause.specs.VersionSet.{all_versions};
+ghost use Rattle.pep_clause.specs.VersionSet.{Range, all_versions};
 ghost use Rattle.pep_require.specs.View.{target_parts};
 ghost use Rattle.demands.specs.Finished.{kept_ranges};
 ghost use Rattle.demands.specs.Gathering.{MeetsClauses, target_clauses};
 ghost use Rattle.demands.specs.Join.{IsIntersection};
-ghost use Rattle.demands.specs.LineSets.{left_over};
+ghost use Rattle.demands.specs.LineSets.{left_by};
 ghost use Rattle.demands.specs.PartialJoins.{beside_versions, joined_sets};
 
 use crate::beside::Beside;
-use crate::entry::versions_copied;
 use crate::fault::TableFault;
 use crate::kept_ranges::KeptRanges;
 use crate::line_demands::LineDemands;
@@ -80,21 +79,26 @@ impl KeptVersions {
         self.high = self.high.earlier(bounds.high);
     }
 
-    /// Keeps the versions that a line demands too. Where none is left out of them, and no clause of the line is without
-    /// places, no memory is wanted. The only fault is `NoMemory`.
-    pub(crate) fn meet_line(&mut self, alloc: Global, line: &LineDemands) -> Result<(), TableFault>
-        ensures ok { OnOk result (IsIntersection self.old line.now.versions self.new) }
+    /// Keeps the versions that a line demands too, whose sets are moved. Where the line leaves none out, and each of its
+    /// clauses has places, nothing is allocated. The only fault is `NoMemory`.
+    #[inline(always)]
+    pub(crate) fn meet_line(
+        &mut self,
+        alloc: Global,
+        line: &mut LineDemands,
+    ) -> Result<(), TableFault>
+        ensures ok { OnOk result (IsIntersection self.old line.old.versions self.new) }
         ensures faults { IfErr result (λ e. e ≡ TableFault.NoMemory) }
     {
         self.narrow_to(line.bounds);
         self.leave_out_all(alloc, line.left_out.as_slice())?;
-        self.meet_all(alloc, line.sets.as_slice())
+        self.meet_all(alloc, &mut line.sets)
     }
 
     // Keeps the versions that lie between none of these places.
     fn leave_out_all(&mut self, alloc: Global, left_out: &[Bounds]) -> Result<(), TableFault>
         ensures ok { OnOk result
-            (IsIntersection self.old (joined_sets (map left_over left_out.now)) self.new) }
+            (IsIntersection self.old (joined_sets (map left_by left_out.now)) self.new) }
         ensures faults { IfErr result (λ e. e ≡ TableFault.NoMemory) }
     {
         // Where a field is read, the invariant is at hand.
@@ -105,15 +109,17 @@ impl KeptVersions {
         Ok(())
     }
 
-    // Keeps the versions that are in all these sets.
-    fn meet_all(&mut self, alloc: Global, sets: &[VersionSet]) -> Result<(), TableFault>
-        ensures ok { OnOk result (IsIntersection self.old (joined_sets sets.now) self.new) }
+    // Keeps the versions that are in all these sets, which are moved: some may be left where that fails.
+    #[inline(always)]
+    fn meet_all(&mut self, alloc: Global, sets: &mut Vec<VersionSet>) -> Result<(), TableFault>
+        ensures ok { OnOk result (IsIntersection self.old (joined_sets sets.old.items) self.new) }
+        ensures fewer { (moved : List (List Range)) × (sets.old.items ≡ sets.new.items ++ moved) }
         ensures faults { IfErr result (λ e. e ≡ TableFault.NoMemory) }
     {
         // Where a field is read, the invariant is at hand.
         let _ = &self.low;
-        for versions in sets {
-            self.meet(alloc, versions_copied(alloc, versions)?)?;
+        while let Some(versions) = sets.pop() {
+            self.meet(alloc, versions)?;
         }
         Ok(())
     }

@@ -1,6 +1,6 @@
 //! What one line demands of its package.
 
-ghost use Rattle.std.specs.Prelude.{◌≡◌, IsTrue, OnOk};
+ghost use Rattle.std.specs.Prelude.{◌≡◌, [], IsTrue, OnOk};
 ghost use Rattle.specifiers.specs.Clause.{Clause, demanded, is_demanded_text};
 ghost use Rattle.pep_clause.specs.Cut.{end, least};
 ghost use Rattle.pep_clause.specs.OperatorTable.{outside, range};
@@ -17,8 +17,11 @@ use places::{Bounds, Place};
 use std::alloc::{AllocError, Global};
 use std::marker::Model;
 
-/// What the parts of one line so far demand of its package. It is used again for the next line, so that a line asks for
-/// no memory. Clauses see the entry of it.
+/// What the parts of one line so far demand of its package. It serves again for the next line, so that most lines
+/// allocate nothing. Clauses see the entry of it.
+///
+/// A call that is refused leaves something that may stand in a table, and may have taken the part or not: the line is
+/// of no more use then.
 #[derive(Drop)]
 pub struct LineDemands {
     pub(crate) bounds: Bounds,
@@ -39,6 +42,16 @@ impl Model for LineDemands {
     ghost view = { λ d. entry_with d.others (line_versions d.bounds d.left_out.items d.sets.items) };
 
     ghost invariant = { λ d. AreLineSets d.bounds d.left_out.items d.sets.items × AreValidOthers d.others };
+}
+
+// Empties the list, which is empty already behind most lines.
+#[inline(always)]
+fn empty<T: Drop>(list: &mut Vec<T>)
+    ensures { list.new.items ≡ [] }
+{
+    if !list.is_empty() {
+        list.clear();
+    }
 }
 
 // The places between which all versions lie.
@@ -66,12 +79,13 @@ impl LineDemands {
     }
 
     /// Nothing is demanded any more.
+    #[inline(always)]
     pub fn clear(&mut self)
         ensures { self.new ≡ bare_entry }
     {
         self.bounds = unbounded();
-        self.left_out.clear();
-        self.sets.clear();
+        empty(&mut self.left_out);
+        empty(&mut self.sets);
         self.others.clear();
     }
 
@@ -83,6 +97,7 @@ impl LineDemands {
     }
 
     /// The versions between the bounds are demanded, by a clause that admits just these.
+    #[inline(always)]
     pub fn meet(&mut self, bounds: Bounds)
         ensures { (c : Clause) → DemandsRanges c (range bounds.low bounds.high)
             → AddsClause c self.old self.new }

@@ -113,15 +113,20 @@ impl Others {
     }
 
     /// Nothing any more.
+    #[inline(always)]
     pub(crate) fn clear(&mut self)
         ensures { self.new ≡ no_others }
     {
+        if self.is_none() {
+            return;
+        }
         self.extras.clear();
         self.urls.clear();
         self.texts.clear();
     }
 
     /// Whether there is nothing.
+    #[inline(always)]
     pub(crate) fn is_none(&self) -> bool
         ensures { IsTrue result → self.now ≡ no_others }
     {

@@ -181,11 +181,12 @@ impl PackageDemands {
         self.versions.meet(alloc, entry.into_versions())
     }
 
-    /// Takes what a line demands. The only fault is `NoMemory`, 42; what is gathered is then of no more use: it may lack
-    /// what it had.
-    pub fn take_line(&mut self, alloc: Global, line: &LineDemands) -> Result<(), TableFault>
-        ensures joined { OnOk result (JoinsEntries self.old line.now self.new) }
-        ensures valid { IsValidEntry line.now }
+    /// Takes what a line demands, whose sets are moved. The only fault is `NoMemory`, 42; what is gathered is then of
+    /// no more use: it may lack what it had.
+    #[inline(always)]
+    pub fn take_line(&mut self, alloc: Global, line: &mut LineDemands) -> Result<(), TableFault>
+        ensures joined { OnOk result (JoinsEntries self.old line.old self.new) }
+        ensures valid { IsValidEntry line.old }
         ensures faults { IfErr result (λ e. e ≡ TableFault.NoMemory) }
     {
         line.as_entry();

@@ -85,7 +85,13 @@ impl Taker for DemandTaker<'_> {
 
     fn take(&mut self, gathering: Gathering, text: &str) -> Result<Gathering, LineFault> {
         let name = walk(self.alloc, &mut self.sink, &mut self.room.line, text)?;
-        take_walked(self.alloc, gathering, name, &self.room.line, self.wanted)
+        take_walked(
+            self.alloc,
+            gathering,
+            name,
+            &mut self.room.line,
+            self.wanted,
+        )
     }
 }
 
@@ -111,14 +117,14 @@ fn take_walked(
     alloc: Global,
     gathering: Gathering,
     name: Name,
-    line: &LineSoFar,
+    line: &mut LineSoFar,
     wanted: Option<&Name>,
 ) -> Result<Gathering, LineFault>
     ensures ok { IfOk result (λ new. (e : EnvironmentParts) (text : List ℕ)
-        → IsWalked text name (HoldsLine e line.now)
+        → IsWalked text name (HoldsLine e line.old)
         → GathersText e (wanted_name wanted.entry) text gathering new) }
     ensures refused { IfErr result (λ fault. (e : EnvironmentParts) (text : List ℕ)
-        → IsWalked text name (HoldsLine e line.now) → RefusesTextIn e text fault) }
+        → IsWalked text name (HoldsLine e line.old) → RefusesTextIn e text fault) }
 {
     let Some(applies) = line.applies else {
         return Err(LineFault::Undefined);
@@ -126,7 +132,7 @@ fn take_walked(
     if !counts(applies, wanted, &name) {
         return Ok(gathering);
     }
-    match gathering.take_line(alloc, name, &line.demands) {
+    match gathering.take_line(alloc, name, &mut line.demands) {
         Ok(new) => Ok(new),
         Err(_) => Err(LineFault::Requirement(RequireFault::NoMemory)),
     }

@@ -56,6 +56,7 @@ pub fn clause_at<'a>(alloc: Global, text: &'a str) -> Result<(Clause, &'a str), 
 
 // The clauses in front of the text, one or more, joined by `,`, go to the sink. What stands behind them is given; a `,`
 // behind the last one is dropped. The faults are those of the first clause that is refused.
+#[inline(always)]
 pub(crate) fn walk_clauses<'a, S: LineSink>(
     sink: &mut S,
     line: &mut S::Line,

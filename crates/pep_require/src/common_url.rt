@@ -49,12 +49,17 @@ fn is_label_byte(byte: u8) -> bool
 }
 
 // Whether a segment of a path may hold the byte: none that has to be escaped there, in a query or in a fragment.
+#[inline(always)]
 fn is_path_byte(byte: u8) -> bool
     ensures { result ≡ is_path_byte byte }
 {
+    // Most bytes of a path are these.
+    if is_lower_letter(byte) {
+        return true;
+    }
     matches!(
         byte,
-        b'a'..=b'z' | b'@'..=b'Z' | b'0'..=b';' | b'('..=b'.' | b'$'..=b'&' | b'!' | b'=' | b'_' | b'~'
+        b'0'..=b';' | b'@'..=b'Z' | b'('..=b'.' | b'$'..=b'&' | b'!' | b'=' | b'_' | b'~'
     )
 }
 

@@ -1,6 +1,20 @@
 // The extras of a requirement line (PEP 508, "Extras").
 
-ghost use Rattle.std.specs.Prelude.{◌≡◌, ◌⊎◌, ◌↔◌, ◌==◌, ◌≤◌, ℕ, Contains, IfErr, IfOk, List, OnOk, length, not};
+ghost use Rattle.std.specs.Prelude.{
+  ◌≡◌,
+  ◌⊎◌,
+  ◌↔◌,
+  ◌==◌,
+  ◌≤◌,
+  ℕ,
+  Contains,
+  IfErr,
+  IfOk,
+  List,
+  OnOk,
+  length,
+  not,
+};
 ghost use Rattle.std.specs.List.{prefix_len};
 ghost use Rattle.pep_require.specs.ExtrasParts.{NamesWithin, NoExtra, NoneWithin};
 ghost use Rattle.pep_require.specs.LineParts.{RefusesExtras};

@@ -70,7 +70,7 @@ impl Kept {
     }
 }
 
-// A `,` behind the last clause was counted.
+// Gives back the room that was kept for a clause behind a last `,`.
 fn shrink(target: &mut Target)
     ensures { target_parts target.new ≡ target_parts target.old }
 {

@@ -38,9 +38,9 @@ impl Requirement {
         Ok(kept.requirement(name))
     }
 
-    /// Reads the name that a requirement line begins with (PEP 508, "Grammar"). The refusals are `LineTooLong`, 38,
-    /// `OptionLine`, 37, and `BadName`, 31, in this order, and want of memory, 40. Public for those alone who look first
-    /// whether they know what stands behind the name.
+    /// Reads the name that a requirement line begins with (PEP 508, "Grammar"). The refusals are `LineTooLong`,
+    /// 38, `OptionLine`, 37, and `BadName`, 31, in this order, and out of memory, 40. Public for the crates above
+    /// that want a line's name alone.
     pub fn start<'a>(alloc: Global, line: &'a str) -> Result<Start<'a>, RequireFault>
         ensures ok { IfOk result (λ start. StartsLine line.now start.name start.rest.now) }
         ensures refused { IfErr result (λ e. (e ≡ RequireFault.NoMemory)
@@ -60,6 +60,7 @@ pub struct Start<'a> {
 }
 
 // The name at the front of a line, with the white space before and behind it.
+#[inline(always)]
 pub(crate) fn name_at<'a>(alloc: Global, line: &'a str) -> Result<Start<'a>, RequireFault>
     ensures begun { IfOk result (λ _. beginning_fault line.now ≡ None) }
     ensures name { IfOk result (λ start. name_of (name_run line.now) ≡ Some start.name) }

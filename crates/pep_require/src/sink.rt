@@ -30,8 +30,8 @@ use pep_marker::Name;
 /// stays as it is. So a line that is refused has changed that value alone. The name is the walk's answer, and no sink
 /// is told it.
 ///
-/// A sink reads the clause, the URL and the marker by itself, as whole as it likes, and refuses each that is none.
-/// Public for the crates above alone.
+/// A sink reads the clause, the URL and the marker by itself, and refuses each text that is none. Public for the crates
+/// above alone.
 pub trait LineSink {
     ghost use Rattle.pep_require.specs.Requirement.{RequirementParts};
 
@@ -54,9 +54,9 @@ pub trait LineSink {
             (with_extra name)) }
         ensures faults { IfErr result (λ e. e ≡ RequireFault.NoMemory) };
 
-    /// One more clause, the one in front of the text (PEP 508, "Grammar"), and with it the longest run of characters that
-    /// one may hold. What stands behind it is given back, without white space before that. The refusals are `BadClause`,
-    /// 33, with the clause's fault, and want of memory, 40.
+    /// One more clause, the one in front of the text (PEP 508, "Grammar"), with the longest run of characters that it
+    /// may hold. What stands behind it is given back, without white space before that. The refusals are `BadClause`, 33,
+    /// with the clause's fault, and out of memory, 40.
     fn clause<'a>(&mut self, line: &mut Self::Line, text: &'a str) -> Result<&'a str, RequireFault>
         ensures same { self.new ≡ self.old }
         ensures ok { IfOk result (λ rest. (c : Clause) × BoundFrom text.now c rest.now
@@ -72,8 +72,8 @@ pub trait LineSink {
         ensures refused { IfErr result (λ e. (e ≡ RequireFault.NoMemory)
             ⊎ RefusesWritten written.now e) };
 
-    /// The marker that is written so (PEP 508, "Environment Markers"), behind the `;`. The refusals are `BadMarker`, 35,
-    /// with the marker's fault, and want of memory, 40.
+    /// The marker that is written so (PEP 508, "Environment Markers"), behind the `;`. The refusals are `BadMarker`,
+    /// 35, with the marker's fault, and out of memory, 40.
     fn marker(&mut self, line: &mut Self::Line, text: &str) -> Result<(), RequireFault>
         ensures same { self.new ≡ self.old }
         ensures ok { OnOk result ((m : MarkerParts) × IsMarker text.now m

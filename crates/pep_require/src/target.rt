@@ -32,7 +32,8 @@ fn url_run(text: &[u8]) -> usize
     }
 }
 
-// The target in front of the text, before which no white space stands, goes to the sink. What stands behind it is given.
+// The target in front of the text, before which no white space stands, goes to the sink. What stands behind it is
+// given.
 #[inline(always)]
 pub(crate) fn walk_target<'a, S: LineSink>(
     sink: &mut S,

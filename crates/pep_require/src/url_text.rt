@@ -1,4 +1,4 @@
-ghost use Rattle.std.specs.Prelude.{◌≡◌, ◌⊎◌, ◌<◌, length, nat_lt, IfOk, IfErr, IsTrue};
+ghost use Rattle.std.specs.Prelude.{◌≡◌, ◌⊎◌, ◌↔◌, ◌<◌, length, nat_lt, IfOk, IfErr, IsTrue};
 ghost use Rattle.std.specs.List.{list_all};
 ghost use Rattle.pep_require.specs.CommonUrl.{IsCommonUrl};
 ghost use Rattle.pep_require.specs.LineParts.{RefusesWritten};
@@ -87,9 +87,10 @@ impl UrlText {
     }
 
     /// Whether the text is a URL of the common form (see
-    /// [`common_url_is_its_text`](crate::laws::common_url_is_its_text)): then it is read as a URL that is printed as it is
-    /// written. So no memory is needed to know the URL's text. Any other text may be a URL too. Public for sinks alone.
+    /// [`common_url_is_its_text`](crate::laws::common_url_is_its_text)): then it is read as a URL that is printed as
+    /// it is written. Public for sinks alone.
     pub fn is_its_text(written: &str) -> bool
+        ensures common { IsTrue result ↔ IsCommonUrl written.now }
         ensures reads { IsTrue result → ReadsUrl written.now (record {
           written = written.now;
           text = written.now;

@@ -140,16 +140,16 @@ impl Gathering {
         Ok(self)
     }
 
-    /// What is demanded so far, and of one package by a line. The only fault is `NoMemory`, 42.
+    /// What is demanded so far, and of one package by a line, whose sets are moved. The only fault is `NoMemory`, 42.
     pub fn take_line(
         mut self,
         alloc: Global,
         name: Name,
-        line: &LineDemands,
+        line: &mut LineDemands,
     ) -> Result<Gathering, TableFault>
-        ensures joined { IfOk result (λ new. JoinsTables self ((name, line.now) ∷ []) new) }
+        ensures joined { IfOk result (λ new. JoinsTables self ((name, line.old) ∷ []) new) }
         ensures taken { IfOk result (λ new. (r : RequirementParts) → r.name ≡ name
-            → DemandsEntry r line.now → TakesRequirement self r new) }
+            → DemandsEntry r line.old → TakesRequirement self r new) }
         ensures faults { IfErr result (λ e. e ≡ TableFault.NoMemory) }
     {
         // Its clause tells that the name is in its normalized form.

@@ -13,6 +13,7 @@ ghost use Rattle.std.specs.Prelude.{
   OnErr,
   OnOk,
   IfErr,
+  IfSome,
 };
 ghost use Rattle.pep_version.specs.Text.{
   KeepsFront,
@@ -34,13 +35,35 @@ use crate::parts::{Label, Phase};
 use itoa::Buffer;
 use texts::TextOut;
 
+// A number of one digit, as most in versions are.
+#[inline(always)]
+fn digit_text(n: u64) -> Option<&'static str>
+    ensures { IfSome result (λ text. text.now ≡ decimal n) }
+{
+    match n {
+        0 => Some("0"),
+        1 => Some("1"),
+        2 => Some("2"),
+        3 => Some("3"),
+        4 => Some("4"),
+        5 => Some("5"),
+        6 => Some("6"),
+        7 => Some("7"),
+        8 => Some("8"),
+        9 => Some("9"),
+        _ => None,
+    }
+}
+
 pub(crate) fn put_number<T: TextOut>(text: &mut T, n: u64) -> Result<(), T::Fault>
     ensures ok { OnOk result (T.tells → T.written text.new ≡ T.written text.old ++ decimal n) }
     ensures kept { OnErr result (T.tells → Extends (T.written text.old) (T.written text.new)) }
 {
+    if let Some(digit) = digit_text(n) {
+        return text.put_str(digit);
+    }
     let mut buffer = Buffer::new();
-    text.put_str(buffer.format(n))?;
-    Ok(())
+    text.put_str(buffer.format(n))
 }
 
 // The dot before a part, unless the part is the first.

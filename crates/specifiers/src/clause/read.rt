@@ -5,8 +5,16 @@ ghost use Rattle.std.specs.Char.{is_ascii_uppercase};
 ghost use Rattle.std.specs.List.{list_all};
 ghost use Rattle.pep_version.specs.Version.{IsVersion};
 ghost use Rattle.texts.specs.Lists.{is_empty};
-ghost use Rattle.specifiers.specs.Clause.{IsClauseOf, TargetAnswers, demanded, ends_in_space, is_demanded_text, is_final, prefix_answer};
-ghost use Rattle.specifiers.specs.Clause.{version_answer};
+ghost use Rattle.specifiers.specs.Clause.{
+  IsClauseOf,
+  TargetAnswers,
+  demanded,
+  ends_in_space,
+  is_demanded_text,
+  is_final,
+  prefix_answer,
+  version_answer,
+};
 ghost use Rattle.texts.specs.Bytes.{is_clause_byte};
 
 use crate::clause::{Clause, ClauseForm};
@@ -50,8 +58,9 @@ fn are_lower(bytes: &[u8]) -> bool
         .all(|b| is_clause_byte(*b) && !b.is_ascii_uppercase())
 }
 
-/// Whether `===` and this text are a clause that demands the text as it is written (PEP 440, "Arbitrary equality"): one or
-/// more letters in lower case, digits and bytes of `-_.*+!`. Public for the crate that reads lines and keeps no clause.
+/// Whether `===` and this text are a clause that demands the text as it is written (PEP 440, "Arbitrary
+/// equality"): one or more letters in lower case, digits and bytes of `-_.*+!`. Public for the crate that reads
+/// lines and keeps no clause.
 pub fn is_demanded_text(text: &str) -> bool
     ensures text { result ≡ is_demanded_text text.now }
     ensures clause { IsTrue result → IsClauseOf Op.Exact text.now (demanded text.now) }

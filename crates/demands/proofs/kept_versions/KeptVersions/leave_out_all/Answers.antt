@@ -2,7 +2,7 @@ use Rattle.std.proofs.Common.{◌+◌, ◌∙◌, ap, map, rules, subst, take}
 use Rattle.std.specs.Prelude.{option_map}
 use Rattle.std.proofs.lemmas.List.{map_push}
 use Rattle.pep_clause.specs.VersionSet.{IsNormal}
-use Rattle.demands.specs.LineSets.{left_over}
+use Rattle.demands.specs.LineSets.{left_by}
 use Rattle.demands.specs.PartialJoins.{beside_versions}
 use Rattle.demands.proofs.KeptSets.{next_taken}
 use Rattle.demands.proofs.KeptVersions.{kept-normal}
@@ -21,5 +21,5 @@ loop-bounds-preserved c =
     let i = c.loop-bounds.bounds-index in
     let b = c.bounds-item.result in
     let step = next_taken outs i b c.bounds-item.is (search rules) in
-    meets_one_set _ _ _ (left_over b) (map left_over (take i outs)) (map left_over (take (i + 1) outs))
-    c.loop-bounds.invariant c.in_ok-leave_out.ensures.ok (ap (map left_over) step ∙ map_push left_over (take i outs) b)
+    meets_one_set _ _ _ (left_by b) (map left_by (take i outs)) (map left_by (take (i + 1) outs))
+    c.loop-bounds.invariant c.in_ok-leave_out.ensures.ok (ap (map left_by) step ∙ map_push left_by (take i outs) b)

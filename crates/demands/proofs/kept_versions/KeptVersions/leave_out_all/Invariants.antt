@@ -1,9 +1,9 @@
 use Rattle.std.proofs.Common.{map, take}
 use Rattle.demands.specs.Join.{IsIntersection}
-use Rattle.demands.specs.LineSets.{left_over}
+use Rattle.demands.specs.LineSets.{left_by}
 use Rattle.demands.specs.PartialJoins.{joined_sets}
 use Rattle.demands.proofs.kept_versions.KeptVersions.leave_out_all.Given as goal
 
 abbrev pub invariant-loop-bounds : goal.invariant-loop-bounds
 invariant-loop-bounds l =
-    IsIntersection l.initial.self (joined_sets (map left_over (take l.bounds-index l.left_out))) l.self
+    IsIntersection l.initial.self (joined_sets (map left_by (take l.bounds-index l.left_out))) l.self

@@ -2,7 +2,7 @@ use Rattle.std.proofs.Common.{map, subst}
 use Rattle.std.proofs.lemmas.Result.{on_ok_weaker}
 use Rattle.pep_clause.specs.OperatorTable.{range}
 use Rattle.demands.specs.Join.{IsIntersection}
-use Rattle.demands.specs.LineSets.{left_over}
+use Rattle.demands.specs.LineSets.{left_by}
 use Rattle.demands.specs.PartialJoins.{joined_sets}
 use Rattle.demands.specs.Table.{EntryParts}
 use Rattle.demands.proofs.LineSets.{meets_line}
@@ -13,7 +13,7 @@ returns-clause-ok c =
     let i = c.line.inside in
     let mid = c.leave_out_all.new.self in
     let new = c.meet_all.new.self in
-    let left = subst (λ outs. IsIntersection c.narrow_to.new.self (joined_sets (map left_over outs)) mid)
+    let left = subst (λ outs. IsIntersection c.narrow_to.new.self (joined_sets (map left_by outs)) mid)
     c.as_slice.ensures.value c.in_ok-leave_out_all.ensures.ok in
     on_ok_weaker c.meet_all.result
     (λ k. subst (λ (e : EntryParts). IsIntersection c.args.self.now e.versions new) c.line.view_is

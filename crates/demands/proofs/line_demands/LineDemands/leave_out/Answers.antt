@@ -1,6 +1,6 @@
 use Rattle.std.proofs.Common.{refl, subst}
 use Rattle.demands.specs.LineDemands.{AddsClause}
-use Rattle.demands.specs.LineSets.{left_over, line_sets, line_versions}
+use Rattle.demands.specs.LineSets.{left_by, line_sets, line_versions}
 use Rattle.demands.specs.Others.{entry_with}
 use Rattle.demands.specs.PartialJoins.{joined_sets}
 use Rattle.demands.proofs.KeptVersions.{met-versions}
@@ -28,8 +28,8 @@ returns c =
     let normal = left-normal i.left_out.items more c.args.bounds sets c.in_ok-push.ensures.items c.self.invariant.0.normal
     c.requires in
     λ clause d. subst (λ e. AddsClause clause e new) c.self.view_is
-    (clause_added clause (left_over c.args.bounds) old new d refl refl refl
+    (clause_added clause (left_by c.args.bounds) old new d refl refl refl
     (met-versions i.bounds.low i.bounds.high (joined_sets (line_sets i.left_out.items sets))
-    (joined_sets (line_sets more sets)) (left_over c.args.bounds) c.self.invariant.0.kept
+    (joined_sets (line_sets more sets)) (left_by c.args.bounds) c.self.invariant.0.kept
     (normal_sets (line_sets more sets) normal)
     (left-met i.left_out.items more c.args.bounds sets c.in_ok-push.ensures.items c.self.invariant.0.normal c.requires)))
