@@ -80,6 +80,27 @@ set-met outs sets new t e h n = record {
       ∙ points_behind (line_sets outs sets) t cut;
 }
 
+-- ---- fewer sets, those in front
+
+normal_front : (xs ys : List (List Range)) → AreNormal (xs ++ ys) → AreNormal xs
+normal_front [] ys h = tt
+normal_front (x ∷ xs) ys h = (h.0, normal_front xs ys h.1)
+
+pub fewer_sets : (b : Bounds) (outs : List Bounds) (sets left moved : List (List Range)) → sets ≡ left ++ moved →
+    AreLineSets b outs sets → AreLineSets b outs left
+fewer_sets b outs sets left moved e h =
+    let n : AreNormal (line_sets outs left) =
+    normal_front (line_sets outs left) moved
+    (subst AreNormal (ap (λ l. map left_by outs ++ l) e ∙ sym (append_assoc (map left_by outs) left moved)) h.normal) in
+    record {
+      kept = record {
+        low = h.kept.low;
+        high = h.kept.high;
+        beside = normal_sets (line_sets outs left) n;
+      };
+      normal = n;
+    }
+
 -- ---- what a package is met with, one after the other
 
 -- .. with nothing yet
@@ -99,6 +120,20 @@ meets_one_set a b d t done more h g e = record {
       ∙ and_assoc (is_point a cut) (is_point (joined_sets done) cut) (is_point t cut)
       ∙ ap (λ x. is_point a cut && x)
       (sym (ap (λ l. is_point (joined_sets l) cut) e ∙ points_behind done t cut));
+}
+
+-- .. with the last of the sets that are left, and then with those before it
+pub meets_last_set : (a b d t : List Range) (left more : List (List Range)) → IsIntersection a t b →
+    IsIntersection b (joined_sets left) d → more ≡ left ++ t ∷ [] → IsIntersection a (joined_sets more) d
+meets_last_set a b d t left more h g e = record {
+  normal = g.normal;
+  points = λ cut is. let others = is_point (joined_sets left) cut in
+      g.points cut is
+      ∙ (λ i. h.points cut is i && others)
+      ∙ last_two (is_point a cut) (is_point t cut) others
+      ∙ and_assoc (is_point a cut) others (is_point t cut)
+      ∙ ap (λ x. is_point a cut && x)
+      (sym (ap (λ l. is_point (joined_sets l) cut) e ∙ points_behind left t cut));
 }
 
 -- .. with the places, what they leave out, and the sets

@@ -137,6 +137,7 @@ fn grown(held: Vec<u8>, part: &[u8]) -> Result<Vec<u8>, LineFault>
 
 // What was taken before, and the text on the line that begins with what is held of it and ends with
 // this part. A line of which nothing is held isn't copied.
+#[inline(always)]
 fn take_whole<T: Taker>(
     taker: &mut T,
     taken: T::Taken,

@@ -1,8 +1,13 @@
-use Rattle.std.proofs.Common.{take}
+use Rattle.std.proofs.Common.{◌≡◌, ◌++◌, List}
+use Rattle.pep_clause.specs.VersionSet.{IsNormal, Range}
 use Rattle.demands.specs.Join.{IsIntersection}
 use Rattle.demands.specs.PartialJoins.{joined_sets}
 use Rattle.demands.proofs.kept_versions.KeptVersions.meet_all.Given as goal
 
+-- what comes of the sets that are left, comes of all of them
 abbrev pub invariant-loop-versions : goal.invariant-loop-versions
 invariant-loop-versions l =
-    IsIntersection l.initial.self (joined_sets (take l.versions-index l.sets)) l.self
+    IsNormal l.self
+    × ((moved : List (List Range)) × (l.initial.sets.items ≡ l.sets.items ++ moved))
+    × ((d : List Range) → IsIntersection l.self (joined_sets l.sets.items) d
+    → IsIntersection l.initial.self (joined_sets l.initial.sets.items) d)
