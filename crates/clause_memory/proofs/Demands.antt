@@ -2,9 +2,8 @@
 use Rattle.std.proofs.Common.{◌≡◌, ℕ, ◌==◌, Bool, true, false, length, List, [], ◌++◌, Option, Some, None, refl, sym}
 use Rattle.std.proofs.Common.{subst, ◌∙◌, append-nil}
 use Rattle.std.specs.Prelude.{IfSome}
-use Rattle.specifiers.specs.Clause.{Clause, demanded_text}
-use Rattle.specifiers.specs.Valid.{IsValidClause}
-use Rattle.pep_clause.specs.OperatorTable.{outside, range, set_of}
+use Rattle.specifiers.specs.Clause.{Clause}
+use Rattle.pep_clause.specs.OperatorTable.{outside, range}
 use Rattle.pep_clause.specs.VersionSet.{IsNormal, Range}
 use Rattle.pep_clause.proofs.SetLemmas.{IsNormal-set_of}
 use Rattle.texts.proofs.ListLemmas.{nothing_in}
@@ -12,30 +11,28 @@ use Rattle.pep_require.specs.LineParts.{BoundFrom}
 use Rattle.pep_require.specs.Reads.{IsBound}
 use Rattle.pep_require.proofs.BoundPieces.{bound_read, bound_whole, found_piece}
 use Rattle.demands.specs.LineDemands.{DemandsRanges}
-use Rattle.clause_memory.specs.Demand.{IsDemandOf, KnowsDemand, ReadsDemand, demanded_ranges}
+use Rattle.clause_memory.specs.Demand.{KnowsDemand, ReadsDemand, demanded_ranges}
 use Rattle.clause_memory.specs.declared.demand.Demand.{Demand}
 
 -- a clause that all of a text is
 pub whole_clause : (x rest : List ℕ) (c : Clause) (ranges : List Range) → BoundFrom x c rest → rest ≡ [] →
-    IsValidClause c → demanded_text c ≡ None → ranges ≡ set_of c → ReadsDemand x ranges
-whole_clause x rest c ranges found nothing valid none versions =
+    DemandsRanges c ranges → ReadsDemand x ranges
+whole_clause x rest c ranges found nothing demands =
     let piece = found_piece x c rest found in
     let same : piece ≡ x =
     sym (append-nil piece) ∙ (λ i. piece ++ sym nothing i) ∙ sym (bound_whole x c rest found) in
     record {
       clause = c;
       read = subst (λ t. IsBound t c) same (bound_read x c rest found);
-      valid = valid;
-      no_text = none;
-      versions = versions;
+      demands = demands;
     }
 
 pub demanded_here : (x rest : List ℕ) (c : Clause) (found : Option Demand) → BoundFrom x c rest → {b : Bool} →
-    b ≡ (length rest == 0) → b ≡ true → IsValidClause c → IfSome found (IsDemandOf c) →
+    b ≡ (length rest == 0) → b ≡ true → IfSome found (λ d. DemandsRanges c (demanded_ranges d)) →
     KnowsDemand x found
-demanded_here x rest c None here tests empty valid h = tt
-demanded_here x rest c (Some d) here tests empty valid h =
-    whole_clause x rest c (demanded_ranges d) here (nothing_in rest (sym tests ∙ empty)) valid h.no_text h.versions
+demanded_here x rest c None here tests empty h = tt
+demanded_here x rest c (Some d) here tests empty h =
+    whole_clause x rest c (demanded_ranges d) here (nothing_in rest (sym tests ∙ empty)) h
 
 -- the ranges of what leaves versions out, and of what doesn't
 pub outside_ranges : (d : Demand) → d.outside ≡ true → demanded_ranges d ≡ outside d.bounds.low d.bounds.high

@@ -61,7 +61,7 @@ demand_here left piece rest n ranges count front back d =
     let stops : begins goes_on rest ≡ false =
     ap (begins goes_on) (back ∙ (λ i. drop (count i) left)) ∙ begins-rest goes_on left in
     let cut = front_bound left piece rest d.clause whole stops d.read in
-    record { clause = d.clause; found = cut; demands = record { valid = d.valid; no_text = d.no_text; versions = d.versions } }
+    record { clause = d.clause; found = cut; demands = d.demands }
 
 pub found_here : (left piece rest : List ℕ) (n : ℕ) (found : Option Demand) → n ≡ prefix_len goes_on left →
     piece ≡ take n left → rest ≡ drop n left → KnowsDemand piece found →

@@ -1,10 +1,10 @@
 -- What a clause demands of versions, and texts that are such clauses.
-use Rattle.std.specs.Prelude.{◌≡◌, ℕ, List, Option, Some, None, IfSome, if◌then◌else◌, take, ⊤}
-use Rattle.specifiers.specs.Clause.{Clause, demanded_text}
-use Rattle.specifiers.specs.Valid.{IsValidClause}
-use Rattle.pep_clause.specs.OperatorTable.{outside, range, set_of}
+use Rattle.std.specs.Prelude.{ℕ, List, Option, Some, None, IfSome, if◌then◌else◌, take, ⊤}
+use Rattle.specifiers.specs.Clause.{Clause}
+use Rattle.pep_clause.specs.OperatorTable.{outside, range}
 use Rattle.pep_clause.specs.VersionSet.{Range}
 use Rattle.pep_require.specs.Reads.{IsBound}
+use Rattle.demands.specs.LineDemands.{DemandsRanges}
 use Rattle.clause_memory.specs.declared.demand.Demand.{Demand}
 use Rattle.clause_memory.specs.declared.memory.Remembered.{Remembered}
 
@@ -13,18 +13,11 @@ abbrev pub demanded_ranges : Demand → List Range
 demanded_ranges d =
     if d.outside then outside d.bounds.low d.bounds.high else range d.bounds.low d.bounds.high
 
--- the clause demands this, and no text
-pub record IsDemandOf (c : Clause) (d : Demand) : Type 0 where
-  pub no_text : demanded_text c ≡ None
-  pub versions : demanded_ranges d ≡ set_of c
-
 -- the text is a clause, with white space round it, that demands the versions in these ranges, and no text
 pub record ReadsDemand (x : List ℕ) (ranges : List Range) : Type 0 where
   pub clause : Clause
   pub read : IsBound x clause
-  pub valid : IsValidClause clause
-  pub no_text : demanded_text clause ≡ None
-  pub versions : ranges ≡ set_of clause
+  pub demands : DemandsRanges clause ranges
 
 -- what is known of a text: what it demands, or nothing
 abbrev pub KnowsDemand : List ℕ → Option Demand → Type 0

@@ -1,8 +1,8 @@
 // What one clause demands.
 
 ghost use Rattle.std.specs.Prelude.{◌≡◌, IfErr, IfOk, IfSome};
-ghost use Rattle.specifiers.specs.Valid.{IsValidClause};
-ghost use Rattle.clause_memory.specs.Demand.{IsDemandOf, KnowsDemand};
+ghost use Rattle.demands.specs.LineDemands.{DemandsRanges};
+ghost use Rattle.clause_memory.specs.Demand.{KnowsDemand, demanded_ranges};
 
 use pep_clause::{Clause, Op};
 use pep_require::{RequireFault, clause_at};
@@ -18,8 +18,7 @@ pub(crate) struct Demand {
 
 // What the clause demands, but for clauses that demand a text, and versions without places.
 pub(crate) fn demand_of(clause: &Clause) -> Option<Demand>
-    ensures demand { IfSome result (IsDemandOf clause.now) }
-    ensures valid { IsValidClause clause.now }
+    ensures { IfSome result (λ demand. DemandsRanges clause.now (demanded_ranges demand)) }
 {
     if clause.op() == Op::Exact {
         return None;

@@ -4,5 +4,4 @@ use Rattle.clause_memory.proofs.demand.demand_in.Goals as goal
 pub returns-in-Ok-clause-read : goal.returns-in-Ok-clause-read
 returns-in-Ok-clause-read c =
     demanded_here c.args.text.now c.in-Ok.rest.now c.in-Ok.clause c.demand_of.result
-    c.in-Ok.ensures.read c.is_empty.ensures c.if-is_empty.true c.demand_of.ensures.valid
-    c.demand_of.ensures.demand
+    c.in-Ok.ensures.read c.is_empty.ensures c.if-is_empty.true c.demand_of.ensures

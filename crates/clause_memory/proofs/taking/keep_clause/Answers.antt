@@ -14,10 +14,7 @@ returns-in-Some-clause-ok c =
 
 pub returns-in-Some-demand_of-clause-ok : goal.returns-in-Some-demand_of-clause-ok
 returns-in-Some-demand_of-clause-ok c =
-    let found = c.in-Some-demand_of.ensures.demand in
-    on_ok_weaker c.keep.result
-    (λ h. h c.args.clause.now (record { valid = c.op.ensures.valid; no_text = found.no_text; versions = found.versions }))
-    c.keep.ensures.ok
+    on_ok_weaker c.keep.result (λ h. h c.args.clause.now c.in-Some-demand_of.ensures) c.keep.ensures.ok
 
 pub returns-in_ok-admit-in-Ok-clause-ok : goal.returns-in_ok-admit-in-Ok-clause-ok
 returns-in_ok-admit-in-Ok-clause-ok c =
