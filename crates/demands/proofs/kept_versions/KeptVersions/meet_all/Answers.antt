@@ -1,7 +1,8 @@
-use Rattle.std.proofs.Common.{[], append-nil, append_assoc, ap, arith, rules, subst, sym, ◌++◌, ◌∙◌, ◌∷◌}
+use Rattle.std.proofs.Common.{◌≡◌, [], append-nil, append_assoc, ap, rules, subst, sym, ◌++◌, ◌∙◌, ◌∷◌}
 use Rattle.std.specs.Prelude.{option_map}
 use Rattle.pep_clause.specs.VersionSet.{IsNormal}
-use Rattle.demands.specs.PartialJoins.{beside_versions}
+use Rattle.demands.specs.Join.{IsIntersection}
+use Rattle.demands.specs.PartialJoins.{beside_versions, joined_sets}
 use Rattle.demands.proofs.KeptVersions.{kept-normal}
 use Rattle.demands.proofs.LineSets.{meets_last_set, meets_no_set}
 use Rattle.demands.proofs.kept_versions.KeptVersions.meet_all.Goals as goal
@@ -26,3 +27,11 @@ loop-versions-preserved c =
       (meets_last_set c.loop-versions.self c.meet.new.self d s left c.loop-versions.sets.items
       c.in_ok-meet.ensures.ok h c.in-Some.ensures.items),
     )
+
+pub returns-clause-ok : goal.returns-clause-ok
+returns-clause-ok c =
+    let kept = c.loop-versions.self in
+    let none : c.loop-versions.sets.items ≡ [] = search rules in
+    c.loop-versions.invariant.2 kept
+    (subst (λ sets. IsIntersection kept (joined_sets sets) kept) (sym none)
+    (meets_no_set kept c.loop-versions.invariant.0))

@@ -11,3 +11,6 @@ invariant-loop-versions l =
     × ((moved : List (List Range)) × (l.initial.sets.items ≡ l.sets.items ++ moved))
     × ((d : List Range) → IsIntersection l.self (joined_sets l.sets.items) d
     → IsIntersection l.initial.self (joined_sets l.initial.sets.items) d)
+
+abbrev pub decreases-loop-versions : goal.decreases-loop-versions
+decreases-loop-versions l = goal.left-loop-versions l

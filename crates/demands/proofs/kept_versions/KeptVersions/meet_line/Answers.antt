@@ -5,7 +5,7 @@ use Rattle.demands.specs.Join.{IsIntersection}
 use Rattle.demands.specs.LineSets.{left_by}
 use Rattle.demands.specs.PartialJoins.{joined_sets}
 use Rattle.demands.specs.Table.{EntryParts}
-use Rattle.demands.proofs.LineSets.{meets_line}
+use Rattle.demands.proofs.LineSets.{fewer_sets, meets_line}
 use Rattle.demands.proofs.kept_versions.KeptVersions.meet_line.Goals as goal
 
 pub returns-clause-ok : goal.returns-clause-ok
@@ -18,5 +18,12 @@ returns-clause-ok c =
     on_ok_weaker c.meet_all.result
     (λ k. subst (λ (e : EntryParts). IsIntersection c.args.self.now e.versions new) c.line.view_is
     (meets_line c.args.self.now c.narrow_to.new.self mid new (range i.bounds.low i.bounds.high)
-    i.left_out.items i.sets.items c.narrow_to.ensures left
-    (subst (λ sets. IsIntersection mid (joined_sets sets) new) c.as_slice-2.ensures.value k))) c.meet_all.ensures.ok
+    i.left_out.items i.sets.items c.narrow_to.ensures left k)) c.meet_all.ensures.ok
+
+pub invariant_of-line : goal.invariant_of-line
+invariant_of-line c =
+    let i = c.line.inside in
+    let moved = c.meet_all.ensures.fewer in (
+      fewer_sets i.bounds i.left_out.items i.sets.items c.meet_all.new.sets.items moved.0 moved.1 c.line.invariant.0,
+      c.line.invariant.1,
+    )
