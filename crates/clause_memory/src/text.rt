@@ -16,11 +16,10 @@ pub(crate) fn text_at(text: &str) -> Option<(&str, &str)>
     ensures found { IfSome result (λ found. BoundFrom text.now (demanded found.0.now) found.1.now) }
 {
     let text = stripped(text);
-    let operator = Op::at_front(text.as_bytes())?;
-    if operator != Op::Exact {
+    let Some(Op::Exact) = Op::at_front(text.as_bytes()) else {
         return None;
-    }
-    let (_, operand) = text.split_at(operator.text().len());
+    };
+    let (_, operand) = text.split_at(Op::Exact.text().len());
     let operand = stripped(operand);
     let (run, rest) = operand.split_at(clause_run(operand.as_bytes()));
     if !is_demanded_text(run) {
