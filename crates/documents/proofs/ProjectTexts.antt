@@ -142,7 +142,7 @@ extras_refused key ms extras d (Err c) found e (inr h) =
 -- ---- refusals one after the other
 
 -- what a document is asked for is what its bytes are
-asked_of : (extra : List ℕ) (group : Option (List ℕ)) (bytes : List ℕ) (document : Members)
+pub asked_of : (extra : List ℕ) (group : Option (List ℕ)) (bytes : List ℕ) (document : Members)
     (r : Result (List (List ℕ)) Cause) → document_of bytes ≡ Ok document →
     AskedTexts extra group document r → ProjectTexts extra group bytes r
 asked_of extra None bytes document r e h = rw e h

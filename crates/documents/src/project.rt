@@ -28,7 +28,7 @@ ghost use Rattle.documents.specs.Project.{
   has_text,
   project_texts,
 };
-ghost use Rattle.documents.specs.Document.{required};
+ghost use Rattle.documents.specs.Document.{document_of, required};
 ghost use Rattle.documents.specs.ProjectExtras.{HasExtraTexts};
 ghost use Rattle.documents.specs.RefusedProject.{IsRefusedProject, IsRefusedText};
 ghost use Rattle.documents.specs.Texts.{lent_texts};
@@ -99,27 +99,48 @@ pub fn project_requirements(
     ensures refused { IfErr result (λ cause. (cause ≡ Cause.NoMemory)
         ⊎ IsRefusedProject extra.now (option_copied group.entry) bytes.now cause) }
 {
-    let document = read_document(alloc, bytes)?;
-    let texts = asked_texts(alloc, &document, extra, group)?;
+    let file = ProjectFile::read(alloc, bytes)?;
+    let texts = file.texts(alloc, extra, group)?;
     requirements_of_texts(alloc, texts.as_slice())
 }
 
-// The texts that a document is asked for: those of the group, or where none is asked for, those of its
-// dependencies and of the extra.
-fn asked_texts<'a>(
-    alloc: Global,
-    document: &'a Table,
-    extra: &str,
-    group: Option<&Name>,
-) -> Result<Vec<&'a str>, Cause>
-    ensures ok { IfOk result (λ texts. AskedTexts extra.now (option_copied group.entry)
-        (table_view document.now) (Ok (lent_texts texts.items))) }
-    ensures refused { IfErr result (λ cause. (cause ≡ Cause.NoMemory)
-        ⊎ AskedTexts extra.now (option_copied group.entry) (table_view document.now) (Err cause)) }
-{
-    match group {
-        Some(group) => group_texts(alloc, document, group),
-        None => project_texts(alloc, document, extra),
+/// A project file that is a TOML document. Public for the crates above alone.
+#[derive(Drop)]
+pub struct ProjectFile {
+    document: Table,
+}
+
+impl ProjectFile {
+    /// The document that the bytes are, which are refused as by [`project_of`] where they are none: 56, 51 or 52,
+    /// and want of memory is 60. Public for the crates above alone.
+    pub fn read(alloc: Global, bytes: &[u8]) -> Result<ProjectFile, Cause>
+        ensures ok { IfOk result (λ file. document_of bytes.now ≡ Ok (table_view file.document)) }
+        ensures refused { IfErr result (λ cause. (cause ≡ Cause.NoMemory)
+            ⊎ (document_of bytes.now ≡ Err cause)) }
+    {
+        let document = read_document(alloc, bytes)?;
+        Ok(ProjectFile { document })
+    }
+
+    /// The texts that the document is asked for: those of the group, or where none is asked for, those of its
+    /// dependencies and of the extra. They are refused by the further checks of [`project_of`], but for whether each
+    /// text is a requirement; want of memory is 60. Public for the crates above alone.
+    pub fn texts<'a>(
+        &'a self,
+        alloc: Global,
+        extra: &str,
+        group: Option<&Name>,
+    ) -> Result<Vec<&'a str>, Cause>
+        ensures ok { IfOk result (λ texts. AskedTexts extra.now (option_copied group.entry)
+            (table_view self.now.document) (Ok (lent_texts texts.items))) }
+        ensures refused { IfErr result (λ cause. (cause ≡ Cause.NoMemory)
+            ⊎ AskedTexts extra.now (option_copied group.entry) (table_view self.now.document)
+            (Err cause)) }
+    {
+        match group {
+            Some(group) => group_texts(alloc, &self.document, group),
+            None => project_texts(alloc, &self.document, extra),
+        }
     }
 }
 
