@@ -1,33 +1,43 @@
--- The loops of `gather`: over inputs, and over the requirements of a project file.
-use Rattle.std.proofs.Common.{◌≡◌, ◌≢◌, ℕ, ◌+◌, ◌<◌, ◌⊎◌, List, [], ◌∷◌, ◌++◌, length, take}
-use Rattle.std.proofs.Common.{Bor, Option, Some, None, Result, Ok, Err, IfOk, IfErr, codes}
-use Rattle.std.proofs.Common.{option_map, get_or, map, refl, sym, ap, subst, ◌∙◌, inl, inr}
+-- The loops of `gather`: over inputs, and over the texts of a project file.
+use Rattle.std.proofs.Common.{◌≡◌, ◌≢◌, ℕ, suc, ◌+◌, ◌<◌, ◌⊎◌, List, [], ◌∷◌, ◌++◌, length, take, drop}
+use Rattle.std.proofs.Common.{Bor, Option, Some, None, Ok, codes, arith, length-drop, length-take-le}
+use Rattle.std.proofs.Common.{option_map, get_or, refl, sym, ap, subst, ◌∙◌, inl, inr}
 use Rattle.std.specs.Prelude.{unwrap_or}
-use Rattle.std.proofs.lemmas.List.{take_more}
+use Rattle.std.specs.List.{AllZip}
+use Rattle.std.proofs.lemmas.List.{get_or-drop, length-map, map-append, take_more}
 use Rattle.std.proofs.lemmas.Option.{same_Some}
-use Rattle.pep_marker.specs.declared.fault.MarkerFault.{MarkerFault}
-use Rattle.pep_marker.specs.declared.fault.MarkerFault.TheVariants as marker_fault
+use Rattle.std.proofs.lemmas.Slice.Zip.{AllZip-long}
 use Rattle.pep_marker.specs.Environment.{EnvironmentParts, extra_in, value_at}
+use Rattle.pep_require.specs.LineParts.{RefusesLine}
+use Rattle.pep_require.specs.Reads.{Reads}
 use Rattle.pep_require.specs.Requirement.{HasUndefinedMarker, RequirementParts}
-use Rattle.pep_require.proofs.Members.{next_mapped}
+use Rattle.pep_require.specs.declared.fault.RequireFault.{RequireFault}
+use Rattle.pep_require.specs.declared.fault.RequireFault.TheVariants as require
+use Rattle.pep_require.proofs.Members.{next_mapped, split_at_index}
 use Rattle.demands.specs.Table.{TableParts}
 use Rattle.faults.specs.declared.fault.Cause.{Cause}
 use Rattle.faults.specs.declared.fault.Cause.TheVariants as cause
 use Rattle.faults.specs.declared.fault.Fault.{Fault}
+use Rattle.faults.specs.declared.fault.LineFault.{LineFault}
 use Rattle.faults.specs.declared.fault.LineFault.TheVariants as line_fault
 use Rattle.faults.specs.declared.fault.Place.TheVariants as place
-use Rattle.documents.specs.ProjectRequirements.{IsProjectOf}
-use Rattle.documents.specs.RefusedProject.{IsRefusedProject}
+use Rattle.documents.specs.ProjectRequirements.{ProjectTexts}
+use Rattle.documents.specs.RefusedProject.{IsRefusedProject, IsRefusedText, by_text}
+use Rattle.documents.specs.Texts.{lent_texts}
 use Rattle.documents.proofs.Placed.{placed}
-use Rattle.documents.proofs.ReadTexts.{numbered, numbered_mapped}
+use Rattle.documents.proofs.ProjectTexts.{text_refused}
+use Rattle.documents.proofs.ReadTexts.{numbered, zip_append}
+use Rattle.inputs.specs.declared.gathering.DemandTaker.{DemandTaker}
 use Rattle.inputs.specs.declared.input.Input.{Input}
 use Rattle.inputs.specs.declared.input.Kind.TheVariants as kind
-use Rattle.inputs.specs.GatheredLines.{GathersBytes, GathersInputs, RefusesAsInput}
-use Rattle.inputs.specs.Refusal.{IsRefused, IsUndefinedAt}
-use Rattle.inputs.specs.Refusal.{RefusesInputs, no_memory}
-use Rattle.inputs.specs.Wanted.{TakesWanted}
+use Rattle.inputs.specs.GatheredLines.{AreRead, GathersBytes, GathersInputs, RefusesAsInput, RefusesTexts}
+use Rattle.inputs.specs.LineReading.{TakesInTurn}
+use Rattle.inputs.specs.Refusal.{IsRefused, RefusesInputs, no_memory}
+use Rattle.inputs.specs.TakenTexts.{GathersText, RefusesTextIn}
+use Rattle.inputs.specs.Wanted.{TakesWanted, wanted_name}
 use Rattle.inputs.proofs.AcceptedInputs.{refused_in}
-use Rattle.inputs.proofs.WantedDemands.{all_wanted}
+use Rattle.inputs.proofs.TakenLines.{in_turn-append}
+use Rattle.inputs.proofs.TakenTexts.{gathered_in_turn}
 
 -- ---- inputs
 
@@ -68,35 +78,116 @@ input_blamed_in e inputs k number i c f lt is counted refuses same none at =
       })
     ]
 
--- ---- requirements of a project file
+-- ---- texts of a project file
 
-pub requirement_taken : {A : Type 0} (parts : A → RequirementParts) (e : EnvironmentParts)
-    (w : Option (List ℕ)) (rs : List A) (k : ℕ) (r : A) (old mid new : TableParts) →
-    r ≡ get_or rs k r → k < length rs → TakesWanted e w old (map parts (take k rs)) mid →
-    TakesWanted e w mid (parts r ∷ []) new →
-    TakesWanted e w old (map parts (take (k + 1) rs)) new
-requirement_taken parts e w rs k r old mid new is lt taken one =
-    subst (λ (qs : List RequirementParts). TakesWanted e w old qs new)
-    (sym (next_mapped parts rs k r is lt))
-    (all_wanted e w old (map parts (take k rs)) mid (parts r ∷ []) new taken one)
+module _ (texts : List (Bor (List ℕ))) (k : ℕ) (x : Bor (List ℕ)) (is : x ≡ get_or texts k x)
+    (lt : k < length texts) where
+  -- the texts before this one, this one, and those behind it
+  split_texts : lent_texts texts ≡ lent_texts (take k texts) ++ x.now ∷ lent_texts (drop (suc k) texts)
+  split_texts =
+      ap lent_texts (split_at_index texts k x is lt)
+      ∙ map-append (λ t. t.now) (take k texts) (x ∷ drop (suc k) texts)
 
-pub requirement_undefined : {A : Type 0} (parts : A → RequirementParts) (e : EnvironmentParts)
-    (rs : List A) (k number : ℕ) (r : A) (c : Cause) → k < length rs → r ≡ get_or rs k r →
-    number ≡ k → HasUndefinedMarker e (parts r) →
-    c ≡ cause.Line (number + 1) line_fault.Undefined → IsUndefinedAt e (map parts rs) c
-requirement_undefined parts e rs k number r c lt is counted undefined same = record {
-  number = number + 1;
-  requirement = parts r;
-  numbered = numbered_mapped parts rs (number + 1) r (numbered rs k number r lt is counted);
-  undefined = undefined;
-  is = same;
-}
+  next_text : lent_texts (take (k + 1) texts) ≡ lent_texts (take k texts) ++ x.now ∷ []
+  next_text = next_mapped (λ t. t.now) texts k x is lt
 
--- of the faults of a requirement in an environment this one is not want of memory
-pub undefined_told : {H : Type 0} (f : MarkerFault) → f ≡ marker_fault.Undefined →
-    (f ≡ marker_fault.NoMemory) ⊎ ((f ≡ marker_fault.Undefined) × H) → H
-undefined_told f is (inl memory) = cc (is, memory)
-undefined_told f is (inr h) = h.1
+  -- one text more is taken, by a taker that is as it was
+  pub text_taken : (i j : DemandTaker) (old mid new : TableParts) → i ≡ j →
+      TakesInTurn (GathersText j.sink (wanted_name j.wanted)) (lent_texts (take k texts)) old mid →
+      GathersText i.sink (wanted_name i.wanted) x.now mid new →
+      TakesInTurn (GathersText j.sink (wanted_name j.wanted)) (lent_texts (take (k + 1) texts)) old new
+  text_taken i j old mid new same taken one =
+      subst (λ l. TakesInTurn (GathersText j.sink (wanted_name j.wanted)) l old new) (sym next_text)
+      (in_turn-append (GathersText j.sink (wanted_name j.wanted)) (lent_texts (take k texts)) (x.now ∷ []) old
+      mid new taken
+      (new, subst (λ (t : DemandTaker). GathersText t.sink (wanted_name t.wanted) x.now mid new) same one, refl))
+
+  -- .. or read
+  pub text_read : AreRead (lent_texts (take k texts)) → (r : RequirementParts) × Reads x.now r →
+      AreRead (lent_texts (take (k + 1) texts))
+  text_read (rs, read) (r, one) = (
+    rs ++ r ∷ [],
+    subst (λ l. AllZip Reads l (rs ++ r ∷ [])) (sym next_text)
+        (zip_append (lent_texts (take k texts)) (x.now ∷ []) rs (r ∷ []) read (one, tt)),
+  )
+
+  -- its marker is undefined, and those behind it are read
+  pub text_undefined : (i j : DemandTaker) (old mid : TableParts) (number : ℕ) (f : LineFault)
+      (c : Cause) → number ≡ k → i ≡ j →
+      TakesInTurn (GathersText j.sink (wanted_name j.wanted)) (lent_texts (take k texts)) old mid →
+      f ≡ line_fault.Undefined → RefusesTextIn i.sink x.now f →
+      AreRead (lent_texts (drop (number + 1) texts)) → c ≡ cause.Line (number + 1) line_fault.Undefined →
+      RefusesTexts j.sink (lent_texts texts) c
+  text_undefined i j old mid number f c counted alike taken undefined (inl (inl memory)) behind same =
+      cc (undefined, memory)
+  text_undefined i j old mid number f c counted alike taken undefined (inl (inr (g, other, refuses))) behind same =
+      cc (undefined, other)
+  text_undefined i j old mid number f c counted alike taken undefined (inr (f_is, (r, reads, unknown))) behind same =
+      inr (inr (
+        rs,
+        subst (λ l. AllZip Reads l rs) (sym split_texts)
+            (zip_append before (x.now ∷ lent_texts (drop (suc k) texts)) front.0 (r ∷ rest.0) front.1
+            (reads, rest.1)),
+        record {
+          number = number + 1;
+          requirement = r;
+          numbered = record {
+            before = front.0;
+            behind = rest.0;
+            whole = refl;
+            counted =
+                ap (λ n. n + 1) (counted ∙ sym (length-take-le k texts (omega (arith, lt)))
+                ∙ sym (length-map (take k texts) (λ t. t.now)) ∙ sym (AllZip-long Reads before front.0 front.1));
+          };
+          undefined = subst (λ (t : DemandTaker). HasUndefinedMarker t.sink r) alike unknown;
+          is = same;
+        },
+      ))
+    where
+      before : List (List ℕ)
+      before = lent_texts (take k texts)
+
+      front : (qs : List RequirementParts) × AllZip Reads before qs
+          × TakesWanted j.sink (wanted_name j.wanted) old qs mid
+      front = gathered_in_turn j.sink (wanted_name j.wanted) before old mid taken
+
+      rest : AreRead (lent_texts (drop (suc k) texts))
+      rest =
+          let next : number + 1 ≡ suc k = omega (arith, counted) in
+          subst (λ n. AreRead (lent_texts (drop n texts))) next behind
+
+      rs : List RequirementParts
+      rs = front.0 ++ r ∷ rest.0
+
+  -- it is refused for something else
+  pub text_blamed : (e d : EnvironmentParts) (number : ℕ) (f : LineFault) (c : Cause) → number ≡ k →
+      f ≢ line_fault.Undefined → RefusesTextIn d x.now f →
+      (f ≡ line_fault.Requirement require.NoMemory → c ≡ cause.NoMemory) →
+      (f ≢ line_fault.Requirement require.NoMemory → c ≡ cause.Line (number + 1) f) →
+      RefusesTexts e (lent_texts texts) c
+  text_blamed e d number f c counted other (inl (inl memory)) none told = inl (none memory)
+  text_blamed e d number f c counted other (inl (inr (g, f_is, refuses))) none told =
+      elim (text_refused texts k number x g c lt counted (subst (λ t. RefusesLine t.now g) is refuses)
+      (λ memory. none (f_is ∙ memory))
+      (λ h. told (λ memory. h (sym f_is ∙ memory)) ∙ ap (cause.Line (number + 1)) f_is)) [
+        | inl memory ↦ inl memory
+        | inr refused ↦ inr (inl refused)
+      ]
+  text_blamed e d number f c counted other (inr (undefined, unknown)) none told = absurd (other undefined)
+
+-- a text behind others is refused
+pub behind_refused : (texts behind : List (Bor (List ℕ))) (before k number : ℕ) (d : Bor (List ℕ))
+    (f : RequireFault) (c : Cause) → behind ≡ drop before texts → k < length behind → number ≡ before + k →
+    RefusesLine (get_or behind k d).now f →
+    (line_fault.Requirement f ≡ line_fault.Requirement require.NoMemory → c ≡ cause.NoMemory) →
+    (line_fault.Requirement f ≢ line_fault.Requirement require.NoMemory →
+    c ≡ cause.Line (number + 1) (line_fault.Requirement f)) →
+    (c ≡ cause.NoMemory) ⊎ IsRefusedText (lent_texts texts) c
+behind_refused texts behind before k number d f c same lt counted refuses none told =
+    text_refused texts (before + k) number d f c
+    (omega (arith, subst (λ l. k < length l) same lt, length-drop before texts)) counted
+    (subst (λ t. RefusesLine t.now f) (ap (λ l. get_or l k d) same ∙ get_or-drop before texts k d) refuses)
+    none told
 
 -- ---- a project file, read for the extra of the environment
 
@@ -115,24 +206,23 @@ project_refuses_in e extra group bytes c same (inr h) =
     inr (inl (subst (λ x. IsRefusedProject x group bytes c) same h))
 
 module _ (e : EnvironmentParts) (extra : List ℕ) (group : Option (List ℕ)) (bytes : List ℕ)
-    (rs given : List RequirementParts) (same : extra ≡ extra_in e) (all : given ≡ rs)
-    (is : IsProjectOf extra group bytes rs) where
-  pub project_taken : (w : Option (List ℕ)) (old : TableParts) (r : Result TableParts Cause) →
-      IfOk r (TakesWanted e w old given) → IfOk r (GathersBytes e w kind.Project group bytes old)
-  project_taken w old (Ok new) h = inl (
-    rs,
-    subst (λ x. IsProjectOf x group bytes rs) same is,
-    subst (λ qs. TakesWanted e w old qs new) all h,
-  )
-  project_taken w old (Err c) h = tt
+    (texts given : List (Bor (List ℕ))) (same : extra ≡ extra_in e) (all : given ≡ texts)
+    (asked : ProjectTexts extra group bytes (Ok (lent_texts texts))) where
+  project : ProjectTexts (extra_in e) group bytes (Ok (lent_texts given))
+  project =
+      subst (λ x. ProjectTexts x group bytes (Ok (lent_texts given))) same
+      (subst (λ ts. ProjectTexts extra group bytes (Ok (lent_texts ts))) (sym all) asked)
 
-  pub project_undefined : (r : Result TableParts Cause) →
-      IfErr r (λ c. (c ≡ cause.NoMemory) ⊎ IsUndefinedAt e given c) →
-      IfErr r (RefusesAsInput e kind.Project group bytes)
-  project_undefined (Ok new) h = tt
-  project_undefined (Err c) (inl memory) = inl memory
-  project_undefined (Err c) (inr h) = inr (inr (
-    rs,
-    subst (λ x. IsProjectOf x group bytes rs) same is,
-    subst (λ qs. IsUndefinedAt e qs c) all h,
-  ))
+  pub project_taken : (w : Option (List ℕ)) (old new : TableParts) →
+      TakesInTurn (GathersText e w) (lent_texts given) old new →
+      GathersBytes e w kind.Project group bytes old new
+  project_taken w old new taken =
+      let gathered = gathered_in_turn e w (lent_texts given) old new taken in
+      inl (gathered.0, (lent_texts given, project, gathered.1), gathered.2)
+
+  pub project_at_fault : (c : Cause) → RefusesTexts e (lent_texts given) c →
+      RefusesAsInput e kind.Project group bytes c
+  project_at_fault c (inl memory) = inl memory
+  project_at_fault c (inr (inl refused)) = inr (inl (by_text (lent_texts given) project refused))
+  project_at_fault c (inr (inr (rs, read, undefined))) =
+      inr (inr (rs, (lent_texts given, project, read), undefined))

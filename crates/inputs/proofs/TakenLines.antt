@@ -68,7 +68,7 @@ module _ {A : Type 0} (takes : List ℕ → A → A → Type 0) where
     counted = omega arith;
   }
 
-  in_turn-append : (xs ys : List (List ℕ)) (old mid new : A) → TakesInTurn takes xs old mid →
+  pub in_turn-append : (xs ys : List (List ℕ)) (old mid new : A) → TakesInTurn takes xs old mid →
       TakesInTurn takes ys mid new → TakesInTurn takes (xs ++ ys) old new
   in_turn-append [] ys old mid new t u =
       subst (λ (s : A). TakesInTurn takes ys s new) (sym t) u

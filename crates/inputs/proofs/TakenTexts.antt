@@ -105,7 +105,7 @@ list_refused_in e bytes c (inr (inr h)) = by h.refused.refused
 
 -- ---- what they demand
 
-gathered_in_turn : (e : EnvironmentParts) (w : Option (List ℕ)) (texts : List (List ℕ))
+pub gathered_in_turn : (e : EnvironmentParts) (w : Option (List ℕ)) (texts : List (List ℕ))
     (old new : TableParts) → TakesInTurn (GathersText e w) texts old new →
     (rs : List RequirementParts) × AllZip Reads texts rs × TakesWanted e w old rs new
 gathered_in_turn e w [] old new t = ([], tt, t)

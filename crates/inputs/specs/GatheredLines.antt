@@ -1,15 +1,18 @@
 -- What inputs add to a table: the code's way.
 use Rattle.std.specs.Prelude.{◌≡◌, ℕ, ◌⊎◌, List, [], ◌∷◌, Option}
+use Rattle.std.specs.List.{AllZip}
 use Rattle.pep_marker.specs.Environment.{EnvironmentParts, extra_in}
+use Rattle.pep_require.specs.Reads.{Reads}
 use Rattle.pep_require.specs.Requirement.{RequirementParts}
 use Rattle.demands.specs.Join.{JoinsTables}
 use Rattle.demands.specs.Table.{TableParts}
 use Rattle.faults.specs.declared.fault.Cause.{Cause}
 use Rattle.faults.specs.declared.fault.Cause.TheVariants.{NoMemory}
+use Rattle.documents.specs.RefusedProject.{IsRefusedText}
 use Rattle.inputs.specs.declared.input.Input.{Input}
 use Rattle.inputs.specs.declared.input.Kind.{Kind}
 use Rattle.inputs.specs.Lists.{HoldsTable, Lists}
-use Rattle.inputs.specs.Refusal.{IsRefused}
+use Rattle.inputs.specs.Refusal.{IsRefused, IsUndefinedAt}
 use Rattle.inputs.specs.Wanted.{TakesWanted, wanted_part}
 
 -- the table with what the requirements of an input demand, or joined with its table, as far as it
@@ -33,3 +36,17 @@ GathersInputs e w (i ∷ inputs) old new =
 -- their own
 abbrev pub RefusesAsInput : EnvironmentParts → Kind → Option (List ℕ) → List ℕ → Cause → Type 0
 RefusesAsInput e k group bytes c = (c ≡ NoMemory) ⊎ IsRefused e k group bytes c
+
+-- ---- the texts of a project file
+
+-- each is a requirement
+abbrev pub AreRead : List (List ℕ) → Type 0
+AreRead texts = (rs : List RequirementParts) × AllZip Reads texts rs
+
+-- why they are refused: want of memory, of which nothing is said, or one that is no requirement; or all are
+-- requirements, of which one has a marker that is undefined in the environment
+abbrev pub RefusesTexts : EnvironmentParts → List (List ℕ) → Cause → Type 0
+RefusesTexts e texts c =
+    (c ≡ NoMemory)
+    ⊎ (IsRefusedText texts c
+    ⊎ ((rs : List RequirementParts) × AllZip Reads texts rs × IsUndefinedAt e rs c))

@@ -3,7 +3,7 @@
 ghost use Rattle.std.specs.Prelude.{
   ◌≡◌,
   ◌⊎◌,
-  ◌∷◌,
+  ◌≤◌,
   ◌&&◌,
   [],
   All,
@@ -11,27 +11,34 @@ ghost use Rattle.std.specs.Prelude.{
   IfOk,
   List,
   None,
+  OnOk,
   Some,
   ℕ,
-  map,
+  drop,
+  length,
   option_copied,
 };
 ghost use Rattle.pep_marker.specs.Environment.{EnvironmentParts};
-ghost use Rattle.pep_require.specs.Requirement.{HasUndefinedMarker};
+ghost use Rattle.pep_require.specs.LineParts.{RefusesLine};
+ghost use Rattle.pep_require.specs.Reads.{Reads};
+ghost use Rattle.pep_require.specs.Requirement.{RequirementParts};
 ghost use Rattle.pep_require.specs.Sink.{IsWalked};
-ghost use Rattle.pep_require.specs.View.{requirement_parts};
 ghost use Rattle.demands.specs.Table.{HasExactPoints, IsTable};
+ghost use Rattle.documents.specs.RefusedProject.{IsRefusedText};
+ghost use Rattle.documents.specs.Texts.{lent_texts};
 ghost use Rattle.inputs.specs.GatheredLines.{
+  AreRead,
   GathersBytes,
   GathersInputs,
   RefusesAsInput,
+  RefusesTexts,
 };
 ghost use Rattle.inputs.specs.Gathered.{Gathered, IsAccepted};
-ghost use Rattle.inputs.specs.Refusal.{IsUndefinedAt, RefusesInputs, no_memory};
+ghost use Rattle.inputs.specs.LineReading.{TakesInTurn};
+ghost use Rattle.inputs.specs.Refusal.{RefusesInputs};
 ghost use Rattle.clause_memory.specs.Taken.{HoldsLine};
 ghost use Rattle.inputs.specs.TakenTexts.{GathersText, RefusesTextIn};
 ghost use Rattle.inputs.specs.Wanted.{
-  TakesWanted,
   Wanted,
   wanted_name,
   wants,
@@ -41,10 +48,10 @@ use crate::input::{Input, Kind};
 use crate::lines::{Taker, take_lines};
 use crate::table_file::table_in;
 use clause_memory::{DemandSink, LineSoFar};
-use documents::project_requirements;
-use faults::{Cause, Fault, LineFault, Place, fault_in};
-use pep_marker::{Environment, MarkerFault, Name};
-use pep_require::{RequireFault, Requirement, walk};
+use documents::ProjectFile;
+use faults::{Cause, Fault, LineFault, Place, fault_in, line_cause};
+use pep_marker::{Environment, Name};
+use pep_require::{RequireFault, walk};
 use pep_table::Gathering;
 use std::alloc::Global;
 use std::marker::Model;
@@ -170,70 +177,79 @@ impl<'a> DemandTaker<'a> {
         take_lines(alloc, self, gathering, bytes)
     }
 
-    // What is demanded so far and by a requirement.
-    fn take_requirement(
-        &self,
-        gathering: Gathering,
-        requirement: &Requirement,
-    ) -> Result<Gathering, MarkerFault>
-        ensures taken { IfOk result (λ new. TakesWanted self.now.sink
-            (wanted_name self.now.wanted) gathering (requirement_parts requirement.now ∷ []) new) }
-        ensures faults { IfErr result (λ e. (e ≡ MarkerFault.NoMemory)
-            ⊎ ((e ≡ MarkerFault.Undefined)
-            × HasUndefinedMarker self.now.sink (requirement_parts requirement.now))) }
+    // Reads a text. What it demands isn't taken.
+    fn read_text(&mut self, text: &str) -> Result<(), RequireFault>
+        ensures same { self.new ≡ self.old }
+        ensures ok { OnOk result ((r : RequirementParts) × Reads text.now r) }
+        ensures refused { IfErr result (RefusesLine text.now) }
     {
-        let environment = self.sink.environment();
-        if is_wanted(self.wanted, requirement.name()) {
-            return gathering.take_applying(self.alloc, requirement, environment);
-        }
-        match requirement.applies(self.alloc, environment) {
-            Ok(_) => Ok(gathering),
-            Err(fault) => Err(fault),
-        }
+        walk(self.alloc, &mut self.sink, &mut self.room.line, text)?;
+        Ok(())
     }
 
-    // What is demanded so far and by requirements, each judged in its turn.
-    fn take_requirements(
-        &self,
-        gathering: Gathering,
-        requirements: &[Requirement],
-    ) -> Result<Gathering, Cause>
-        ensures ok { IfOk result (λ new. TakesWanted self.now.sink
-            (wanted_name self.now.wanted) gathering (map requirement_parts requirements.now) new) }
-        ensures refused { IfErr result (λ cause. (cause ≡ Cause.NoMemory) ⊎ IsUndefinedAt
-            self.now.sink (map requirement_parts requirements.now) cause) }
+    // Reads the texts behind this many. What they demand isn't taken.
+    fn read_behind(&mut self, texts: &[&str], number: usize) -> Result<(), Cause>
+        requires { number ≤ length texts.now }
+        ensures same { self.new ≡ self.old }
+        ensures ok { OnOk result (AreRead (lent_texts (drop number texts.now))) }
+        ensures refused { IfErr result (λ cause. (cause ≡ Cause.NoMemory)
+            ⊎ IsRefusedText (lent_texts texts.now) cause) }
+    {
+        let mut number = number;
+        let (_, behind) = texts.split_at(number);
+        for text in behind {
+            number += 1;
+            match self.read_text(text) {
+                Ok(()) => {}
+                Err(fault) => return Err(line_cause(number as u64, LineFault::Requirement(fault))),
+            }
+        }
+        Ok(())
+    }
+
+    // What is demanded so far and by the texts of a project file, all of which are read before a marker is judged:
+    // so behind one that is undefined the others are read.
+    fn take_texts(&mut self, gathering: Gathering, texts: &[&str]) -> Result<Gathering, Cause>
+        ensures same { self.new ≡ self.old }
+        ensures ok { IfOk result (TakesInTurn (GathersText self.old.sink
+            (wanted_name self.old.wanted)) (lent_texts texts.now) gathering) }
+        ensures refused { IfErr result (RefusesTexts self.old.sink (lent_texts texts.now)) }
     {
         let mut gathering = gathering;
-        let mut number: u64 = 0;
-        for requirement in requirements {
+        let mut number: usize = 0;
+        for text in texts {
             number += 1;
-            gathering = match self.take_requirement(gathering, requirement) {
+            gathering = match self.take(gathering, text) {
                 Ok(new) => new,
-                Err(MarkerFault::Undefined) => {
-                    return Err(Cause::Line(number, LineFault::Undefined));
-                }
-                Err(_) => return Err(Cause::NoMemory),
+                Err(fault) => match fault {
+                    LineFault::Undefined => {
+                        self.read_behind(texts, number)?;
+                        return Err(Cause::Line(number as u64, LineFault::Undefined));
+                    }
+                    _ => return Err(line_cause(number as u64, fault)),
+                },
             };
         }
         Ok(gathering)
     }
 
-    // What is demanded so far and by a project file, of which all texts are read before a marker is
-    // judged.
+    // What is demanded so far and by a project file.
     fn take_project(
-        &self,
+        &mut self,
         gathering: Gathering,
         bytes: &[u8],
         group: Option<&Name>,
     ) -> Result<Gathering, Cause>
-        ensures ok { IfOk result (GathersBytes self.now.sink (wanted_name self.now.wanted)
+        ensures same { self.new ≡ self.old }
+        ensures ok { IfOk result (GathersBytes self.old.sink (wanted_name self.old.wanted)
             Kind.Project (option_copied group.entry) bytes.now gathering) }
         ensures refused { IfErr result
-            (RefusesAsInput self.now.sink Kind.Project (option_copied group.entry) bytes.now) }
+            (RefusesAsInput self.old.sink Kind.Project (option_copied group.entry) bytes.now) }
     {
         let extra = self.sink.environment().value("extra").unwrap_or("");
-        let requirements = project_requirements(self.alloc, bytes, extra, group)?;
-        self.take_requirements(gathering, requirements.as_slice())
+        let file = ProjectFile::read(self.alloc, bytes)?;
+        let texts = file.texts(self.alloc, extra, group)?;
+        self.take_texts(gathering, texts.as_slice())
     }
 
     // What is demanded so far and by a table file.

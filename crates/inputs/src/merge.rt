@@ -100,9 +100,8 @@ fn answer(
 /// it is no pre-release unless these are wanted; else `No`. Where nothing is demanded of the
 /// package the answer is `Yes`, for a pre-release only if these are wanted.
 ///
-/// All inputs are read, and refused as by [`merge_bytes`]; what they demand of other packages isn't
-/// kept: a line's or a table entry's is dropped where it is found, a project file's once all its
-/// texts are read.
+/// All inputs are read, and refused as by [`merge_bytes`]; what they demand of other packages is
+/// dropped where it is found.
 pub fn check_bytes(
     alloc: Global,
     inputs: &[Input],
