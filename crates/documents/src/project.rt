@@ -107,7 +107,8 @@ pub fn project_requirements(
 /// A project file that is a TOML document. Public for the crates above alone.
 #[derive(Drop)]
 pub struct ProjectFile {
-    document: Table,
+    /// What the file says.
+    pub document: Table,
 }
 
 impl ProjectFile {
