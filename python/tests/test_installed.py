@@ -38,6 +38,8 @@ FILES = {
     "faulty.txt": "a\n\nb>=\n",
     "option.txt": "a\n--index-url https://x.test\n",
     "hash.txt": "a==1 --hash=sha256:0\n",
+    "hash_of_marker.txt": "a==1 ; os_name != 'a -b' --hash=sha256:0\n",
+    "quoted.txt": "a==1 ; os_name != 'a -b'\n",
     "variable.txt": "a @ https://${TOKEN}@x.test\n",
     "cycle.txt": "-r cycle.txt\n",
     "url.txt": "a\n-r HTTPS://x.test/r.txt\n",
@@ -97,11 +99,12 @@ class Places(unittest.TestCase):
             with self.assertRaises(Refused) as caught:
                 merge(lists=["a", requirements_file(str(folder / "faulty.txt")).requirements], environment=STANDARD)
             self.assertEqual((caught.exception.subject, caught.exception.line, caught.exception.input), (str(folder / "faulty.txt"), 3, 2))
-            faults = [("option.txt", "option.txt, line 2: '--index"), ("hash.txt", "line 1"), ("variable.txt", "line 1"), ("cycle.txt", "line 1: .*includes itself")]
+            faults = [("option.txt", "option.txt, line 2: '--index"), ("hash.txt", "line 1"), ("hash_of_marker.txt", "line 1"), ("variable.txt", "line 1"), ("cycle.txt", "line 1: .*includes itself")]
             faults += [("url.txt", "line 2: HTTPS://x.test/r.txt is a URL, and nothing is fetched"), ("quote.txt", "line 1: No closing"), ("two.txt", "line 1"), ("of_variable.txt", "line 1")]
             for name, message in faults:
                 with self.subTest(name), self.assertRaisesRegex(ValueError, message):
                     requirements_file(folder / name)
+            self.assertEqual([it.text for it in requirements_file(folder / "quoted.txt").requirements], ["a==1 ; os_name != 'a -b'"])
             with self.assertRaises(OSError):
                 requirements_file(folder / "none.txt")
             with self.assertRaisesRegex(ValueError, r"write merge\('pyproject.toml'\)"):

@@ -169,6 +169,7 @@ class Tables(unittest.TestCase):
             ({"extras": [1]}, TypeError, "extras takes names"),
             ({"extras": ["-"]}, InvalidName, "62 21"),
             ({"extras": ["a"], "environment": {**STANDARD, "extra": "b"}}, ValueError, "has an extra"),
+            ({"extras": ["a"], "environment": "\n".join(f"{name} = '{text}'" for name, text in {**STANDARD, "extra": "b"}.items())}, ValueError, "has an extra"),
             ({"extras": ["a", "b"], "lists": ["c", "d<"]}, Refused, "input 2, line 1"),
             ({"extras": ["a", "b"], "lists": ["c"], "tables": ["d open\n  range before 1 to end\n", "e"]}, Refused, "input 3, line 1"),
         ]

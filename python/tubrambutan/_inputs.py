@@ -35,6 +35,7 @@ def of_path(path: object) -> tuple[int, bytes, str]:
     return _kind_of(name), _file(name), name
 
 
+_TWO_EXTRAS = "the environment has an extra, and extras names others: write all of them in extras"
 # How the file with a name is read where a text is wanted, by the argument.
 _READS = {"environment": "environment=pathlib.Path({!r})", "split": "pathlib.Path({!r}).read_text()"}
 # Where a list stands in an object that isn't one.
@@ -73,13 +74,18 @@ def environment_file(environment: object, extras: Sequence[str] = ()) -> bytes:
         environment = default_environment()
     if isinstance(environment, Mapping):
         if extras and environment.get("extra"):
-            raise ValueError("the environment has an extra, and extras names others: write all of them in extras")
+            raise ValueError(_TWO_EXTRAS)
         return file_of({name: text for name, text in environment.items() if name != "extra" or not extras})
     if isinstance(environment, os.PathLike):
-        return _file(environment)
-    if isinstance(environment, (str, bytes)):
-        return text_bytes(environment, "environment")
-    raise TypeError(f"environment takes a mapping, a text, bytes or an os.PathLike, and not {type(environment).__name__}")
+        file = _file(environment)
+    elif isinstance(environment, (str, bytes)):
+        file = text_bytes(environment, "environment")
+    else:
+        raise TypeError(f"environment takes a mapping, a text, bytes or an os.PathLike, and not {type(environment).__name__}")
+    # (the table of nothing ends with its environment's extra)
+    if extras and not buffer_of(file, [], b"").merged().endswith("\nenv extra=\n"):
+        raise ValueError(_TWO_EXTRAS)
+    return file
 
 
 def group_of(group: object) -> bytes:

@@ -12,6 +12,7 @@ from ._texts import path_in, text_in
 
 _COMMENT = re.compile(r"(?:^|\s+)#.*$")
 _OPTION = re.compile(r"(?:^|\s)-")
+_QUOTED = re.compile(r"'[^']*'|\"[^\"]*\"")
 _INCLUDE = re.compile(r"(?:-r|-c|--requirement|--constraint)(?:\s+|=|(?<=-[rc]))(\S.*)")
 # How pip tells a URL from a path.
 _URL = re.compile(r"(?:https?|file):", re.I)
@@ -151,7 +152,7 @@ def _read(path: str, is_constraint: bool, above: tuple[str, ...]) -> Iterator[tu
             if os.path.realpath(inner) in above:
                 raise ValueError(f"{path}, line {number}: {inner} includes itself")
             yield from _read(inner, line.startswith(("-c", "--constraint")), above)
-        elif _OPTION.search(line.partition(";")[0]) or _VARIABLE.search(line):
+        elif _OPTION.search(_QUOTED.sub("", line)) or _VARIABLE.search(line):
             raise ValueError(f"{path}, line {number}: {line!r} has an option or a variable that says nothing of requirements here")
         else:
             yield is_constraint, Line(line, path, number)
