@@ -43,7 +43,8 @@ use Rattle.places.specs.Place.{release_alone}
 use Rattle.places.specs.declared.bounds.Bounds.{Bounds}
 use Rattle.clause_memory.specs.Taken.{DemandsFront, goes_on}
 use Rattle.clause_memory.specs.Demand.{demanded_ranges}
-use Rattle.clause_memory.specs.Plain.{MakesClause, MakesDemand, NumberFrom, OperandFrom, is_release_byte, leaves_out, star_text}
+use Rattle.clause_memory.specs.Plain.{MakesClause, MakesDemand, NumberFrom, OperandFrom, is_release_byte, star_text}
+use Rattle.specifiers.specs.OperatorEnds.{leaves_out}
 use Rattle.clause_memory.specs.declared.demand.Demand.{Demand}
 use Rattle.clause_memory.proofs.FrontClauses.{front_bound}
 
@@ -405,18 +406,13 @@ plain_read x operand after rest o ns starred d found behind f stripped stops m =
 
 -- ---- what it demands
 
-between : (o : Op) (b : Bounds) (c : Clause) → IsBetween o b c →
-    demanded_ranges (record { bounds = b; outside = leaves_out o }) ≡ set_of c
-between op.NotEqual b c h = h
-between _ b c h = h
-
 pub makes_release : (o : Op) (r : List ℕ) (b : Bounds) (t : Bool) → t ≡ leaves_out o → HoldsRelease o r b →
     MakesDemand o r false (record { bounds = b; outside = t })
 makes_release o r b t out h = record {
   clause = h.clause;
   made = h.made;
   versions = subst (λ t. demanded_ranges (record { bounds = b; outside = t }) ≡ set_of h.clause) (sym out)
-      (between o b h.clause h.between);
+      h.between;
 }
 
 pub makes_prefix : (o : Op) (r : List ℕ) (b : Bounds) (t : Bool) → t ≡ leaves_out o → HoldsPrefix o r b →
@@ -425,5 +421,5 @@ makes_prefix o r b t out h = record {
   clause = h.clause;
   made = h.made;
   versions = subst (λ t. demanded_ranges (record { bounds = b; outside = t }) ≡ set_of h.clause) (sym out)
-      (between o b h.clause h.between);
+      h.between;
 }

@@ -1,7 +1,7 @@
 -- What a clause demands of versions, and texts that are such clauses.
 use Rattle.std.specs.Prelude.{ℕ, List, Option, Some, None, IfSome, if◌then◌else◌, take, ⊤}
 use Rattle.specifiers.specs.Clause.{Clause}
-use Rattle.pep_clause.specs.OperatorTable.{outside, range}
+use Rattle.pep_clause.specs.OperatorTable.{between}
 use Rattle.pep_clause.specs.VersionSet.{Range}
 use Rattle.pep_require.specs.Reads.{IsBound}
 use Rattle.demands.specs.LineDemands.{DemandsRanges}
@@ -10,8 +10,7 @@ use Rattle.clause_memory.specs.declared.memory.Remembered.{Remembered}
 
 -- the ranges in which the versions lie
 abbrev pub demanded_ranges : Demand → List Range
-demanded_ranges d =
-    if d.outside then outside d.bounds.low d.bounds.high else range d.bounds.low d.bounds.high
+demanded_ranges d = between d.outside d.bounds.low d.bounds.high
 
 -- the text is a clause, with white space round it, that demands the versions in these ranges, and no text
 pub record ReadsDemand (x : List ℕ) (ranges : List Range) : Type 0 where

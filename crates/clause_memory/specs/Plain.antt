@@ -6,8 +6,8 @@ use Rattle.pep_version.specs.Spelling.{NumberSpelling, ReleaseSpelling}
 use Rattle.pep_version.specs.Version.{Fits}
 use Rattle.specifiers.specs.Clause.{Clause, prefix_clause, version_clause}
 use Rattle.specifiers.specs.declared.op.Op.{Op}
-use Rattle.specifiers.specs.declared.op.Op.TheVariants as op
 use Rattle.pep_clause.specs.OperatorTable.{set_of}
+use Rattle.places.specs.Bounds.{release_prefix}
 use Rattle.places.specs.Place.{release_alone}
 use Rattle.clause_memory.specs.Demand.{demanded_ranges}
 use Rattle.clause_memory.specs.declared.demand.Demand.{Demand}
@@ -46,14 +46,9 @@ abbrev pub ReadsOperand : List ℕ → Operand → Type 0
 ReadsOperand x (operand.Release r) = OperandFrom x (numbers_of r) r.starred r.rest.now × (r.count ≤ 4)
 ReadsOperand x _ = Unit {0}
 
--- clauses with this operator leave versions out
-abbrev pub leaves_out : Op → Bool
-leaves_out op.NotEqual = true
-leaves_out _ = false
-
 -- the operator and the release make this clause, with `.*` behind it if it is starred
 abbrev pub MakesClause : Op → List ℕ → Bool → Clause → Type 0
-MakesClause o r true c = prefix_clause o (record { epoch = 0; release = r }) ≡ Ok c
+MakesClause o r true c = prefix_clause o (release_prefix r) ≡ Ok c
 MakesClause o r false c = version_clause o (release_alone r) ≡ Ok c
 
 -- .. and it demands this

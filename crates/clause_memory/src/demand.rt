@@ -20,19 +20,14 @@ pub(crate) struct Demand {
 pub(crate) fn demand_of(clause: &Clause) -> Option<Demand>
     ensures { IfSome result (λ demand. DemandsRanges clause.now (demanded_ranges demand)) }
 {
-    if clause.op() == Op::Exact {
+    let operator = clause.op();
+    if operator == Op::Exact {
         return None;
     }
-    if let Some(bounds) = Bounds::of(clause) {
-        return Some(Demand {
-            bounds,
-            outside: false,
-        });
-    }
-    let bounds = Bounds::left_out(clause)?;
+    let bounds = Bounds::of(clause)?;
     Some(Demand {
         bounds,
-        outside: true,
+        outside: operator.leaves_out(),
     })
 }
 

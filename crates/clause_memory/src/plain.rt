@@ -4,7 +4,7 @@ ghost use Rattle.std.specs.Prelude.{◌≡◌, ◌<◌, ◌≤◌, ◌++◌, ◌
 ghost use Rattle.texts.specs.Runs.{begins, without_leading_blanks};
 ghost use Rattle.clause_memory.specs.Taken.{DemandsFront, goes_on};
 ghost use Rattle.clause_memory.specs.Demand.{demanded_ranges};
-ghost use Rattle.clause_memory.specs.Plain.{MakesDemand, NumberFrom, ReadsOperand, leaves_out};
+ghost use Rattle.clause_memory.specs.Plain.{MakesDemand, NumberFrom, ReadsOperand};
 
 use crate::demand::Demand;
 use crate::taking::goes_on;
@@ -107,21 +107,11 @@ fn operand_at(text: &[u8]) -> Operand<'_>
     }
 }
 
-// Whether clauses with this operator leave versions out.
-fn leaves_out(operator: Op) -> bool
-    ensures { result ≡ leaves_out operator }
-{
-    match operator {
-        Op::NotEqual => true,
-        _ => false,
-    }
-}
-
 // What the clause of this operator and release demands, where it has places.
 fn release_demand(operator: Op, release: &[u64], starred: bool) -> Option<Demand>
     ensures { IfSome result (MakesDemand operator release.now starred) }
 {
-    let outside = leaves_out(operator);
+    let outside = operator.leaves_out();
     if starred {
         let bounds = Bounds::of_prefix(operator, release)?;
         return Some(Demand { bounds, outside });

@@ -13,11 +13,11 @@ use Rattle.demands.specs.Table.{is_url_text}
 abbrev pub left_by : Bounds → List Range
 left_by b = outside b.low b.high
 
--- what each pair of places leaves over, and the sets
+-- the versions outside each pair of places, and the sets
 abbrev pub line_sets : List Bounds → List (List Range) → List (List Range)
 line_sets left_out sets = map left_by left_out ++ sets
 
--- what lies between two places, in what each pair of places leaves over, and in the sets
+-- the versions that lie between two places, outside each of these pairs, and in the sets
 abbrev pub line_versions : Bounds → List Bounds → List (List Range) → List Range
 line_versions b left_out sets = kept_versions b.low b.high (joined_sets (line_sets left_out sets))
 

@@ -3,7 +3,7 @@
 ghost use Rattle.std.specs.Prelude.{◌≡◌, ◌++◌, ◌∷◌, [], All, IfErr, IfOk, List, OnOk, map, option_map};
 ghost use Rattle.specifiers.specs.Valid.{IsValidClause};
 ghost use Rattle.pep_clause.specs.Cut.{IsCut};
-ghost use Rattle.pep_clause.specs.OperatorTable.{outside, range};
+ghost use Rattle.pep_clause.specs.OperatorTable.{outside, range, set_of};
 ghost use Rattle.pep_clause.specs.VersionSet.{Range, all_versions};
 ghost use Rattle.pep_require.specs.View.{target_parts};
 ghost use Rattle.demands.specs.Finished.{kept_ranges};
@@ -79,8 +79,8 @@ impl KeptVersions {
         self.high = self.high.earlier(bounds.high);
     }
 
-    /// Keeps the versions that a line demands too, whose sets are moved. Where the line leaves none out, and each of its
-    /// clauses has places, nothing is allocated. The only fault is `NoMemory`.
+    /// Keeps the versions that a line demands too, whose sets are moved. Where the line leaves none out, and each of
+    /// its clauses has places, nothing is allocated. The only fault is `NoMemory`.
     #[inline(always)]
     pub(crate) fn meet_line(
         &mut self,
@@ -146,6 +146,17 @@ impl KeptVersions {
         Ok(())
     }
 
+    // Keeps the versions in the set of the clause.
+    fn meet_set_of(&mut self, alloc: Global, clause: &Clause) -> Result<(), TableFault>
+        ensures ok { OnOk result (IsIntersection self.old (set_of clause.now) self.new) }
+        ensures faults { IfErr result (λ e. e ≡ TableFault.NoMemory) }
+    {
+        match VersionSet::of(alloc, clause) {
+            Ok(admitted) => self.meet(alloc, admitted),
+            Err(_) => Err(TableFault::NoMemory),
+        }
+    }
+
     // Keeps the versions that the clause admits. A clause that demands a text admits all of them here.
     fn meet_clause(&mut self, alloc: Global, clause: &Clause) -> Result<(), TableFault>
         ensures ok { OnOk result (MeetsClauses self.old (clause.now ∷ []) self.new) }
@@ -154,16 +165,13 @@ impl KeptVersions {
     {
         // Its clause tells that the clause is valid.
         let _ = clause.op();
-        if let Some(bounds) = Bounds::of(clause) {
-            self.narrow_to(bounds);
-            return Ok(());
-        }
-        if let Some(bounds) = Bounds::left_out(clause) {
-            return self.leave_out(alloc, bounds);
-        }
-        match VersionSet::of(alloc, clause) {
-            Ok(admitted) => self.meet(alloc, admitted),
-            Err(_) => Err(TableFault::NoMemory),
+        match Bounds::of(clause) {
+            Some(bounds) if clause.op().leaves_out() => self.leave_out(alloc, bounds),
+            Some(bounds) => {
+                self.narrow_to(bounds);
+                Ok(())
+            }
+            None => self.meet_set_of(alloc, clause),
         }
     }
 

@@ -181,8 +181,8 @@ impl PackageDemands {
         self.versions.meet(alloc, entry.into_versions())
     }
 
-    /// Takes what a line demands, whose sets are moved. The only fault is `NoMemory`, 42; what is gathered is then of
-    /// no more use: it may lack what it had.
+    /// Takes what a line demands, whose sets are moved: it may be anything until it is cleared. The only fault is
+    /// `NoMemory`, 42; what is gathered is then of no more use: it may lack what it had.
     #[inline(always)]
     pub fn take_line(&mut self, alloc: Global, line: &mut LineDemands) -> Result<(), TableFault>
         ensures joined { OnOk result (JoinsEntries self.old line.old self.new) }

@@ -207,8 +207,8 @@ impl<'a> DemandTaker<'a> {
         Ok(())
     }
 
-    // What is demanded so far and by the texts of a project file, all of which are read before a marker is judged:
-    // so behind one that is undefined the others are read.
+    // What is demanded so far and by the texts of a project file, all of which are read before an undefined marker is
+    // told: so behind one that is undefined the others are read.
     fn take_texts(&mut self, gathering: Gathering, texts: &[&str]) -> Result<Gathering, Cause>
         ensures same { self.new ≡ self.old }
         ensures ok { IfOk result (TakesInTurn (GathersText self.old.sink
@@ -321,8 +321,8 @@ fn take_inputs(
 /// is undefined in the environment; a table file with 56 where it has more than 16,777,216 bytes,
 /// 51 where it isn't UTF-8, or 57 and 43 or 41 for the line that `Table::read` tells. The first
 /// fault of the first such input is answered: each line of a list is read, judged and taken before
-/// the next one, and of a project file all texts are read before a marker is judged. Want of memory
-/// is 60, without a place.
+/// the next one, and of a project file all texts are read before an undefined marker is told. Want
+/// of memory is 60, without a place.
 pub fn gather(
     alloc: Global,
     inputs: &[Input],

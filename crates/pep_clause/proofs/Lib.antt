@@ -20,6 +20,7 @@ pub mod ClauseRows
 pub mod RangeRows
 pub mod PrefixPlace
 pub mod PrefixRows
+pub mod EndRows
 pub mod RaisedRelease
 pub mod SetLemmas
 pub mod CutReading

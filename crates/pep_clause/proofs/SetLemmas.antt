@@ -7,14 +7,11 @@ use Rattle.std.specs.declared.cmp.Ordering.TheVariants.{Less, Equal, Greater}
 use Rattle.pep_version.specs.Order.{place_of}
 use Rattle.texts.proofs.ListLemmas.{is_empty-length}
 use Rattle.pep_version.specs.Version.{IsVersion, Version}
-use Rattle.specifiers.specs.declared.clause.ClauseForm.{ClauseForm}
-use Rattle.specifiers.specs.declared.clause.ClauseForm.TheVariants as stored
 use Rattle.specifiers.specs.declared.fault.ClauseFault.{ClauseFault}
 use Rattle.specifiers.specs.Admits.{admits}
 use Rattle.specifiers.specs.Clause.{Clause, compatible, matching, matching_prefix, excluding}
 use Rattle.specifiers.specs.Clause.{excluding_prefix, at_most, at_least, less_than, greater_than}
 use Rattle.specifiers.specs.Clause.{demanded, demanded_text}
-use Rattle.specifiers.specs.ClauseView.{IsStored, clause_of}
 use Rattle.pep_clause.proofs.Density.{normal-has_version}
 use Rattle.pep_clause.specs.Inhabited.{HasVersionUnlessEmpty}
 use Rattle.pep_clause.proofs.LeastCut.{IsNormal-all_versions, none-under_least}
@@ -85,19 +82,6 @@ IsNormal-set_of (at_least w) h = at_least-normal w h.0
 IsNormal-set_of (less_than w) h = less_than_version-normal w h.0
 IsNormal-set_of (greater_than w) h = greater_than-normal w h.0
 IsNormal-set_of (demanded text) h = IsNormal-all_versions
-
--- a stored clause is one that some text is read as
-pub stored-valid : (form : ClauseForm) → IsStored form → IsValidClause (clause_of form)
-stored-valid (stored.Compatible w) h = h
-stored-valid (stored.Matching w) h = h
-stored-valid (stored.MatchingPrefix w) h = h.0
-stored-valid (stored.Excluding w) h = h
-stored-valid (stored.ExcludingPrefix w) h = h.0
-stored-valid (stored.AtMost w) h = h
-stored-valid (stored.AtLeast w) h = h
-stored-valid (stored.LessThan w) h = h
-stored-valid (stored.GreaterThan w) h = h
-stored-valid (stored.Demanded text) h = h
 
 -- the same of a call's answer
 pub set_of-versions : (answer : Result (List Range) ClauseFault) (c : Clause) → IsValidClause c →

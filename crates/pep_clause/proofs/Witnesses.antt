@@ -125,8 +125,8 @@ pub done-before_the_last_post_release : ¬ (before (public_version (1 ∷ []) (S
 done-before_the_last_post_release e = cc (ap (λ c. (cut_version c).post) e)
 
 -- `===a`
-pub of_form-none_for_a_demanded_text : ¬ ([] ≡ set_of (demanded (codes "a")))
-of_form-none_for_a_demanded_text e = cc e
+pub of_operand-none_for_a_demanded_text : ¬ ([] ≡ set_of (demanded (codes "a")))
+of_operand-none_for_a_demanded_text e = cc e
 
 -- all versions
 pub ranges_copied-without_the_last : ¬ ([] ≡ all_versions)

@@ -16,9 +16,12 @@ ghost use Rattle.std.specs.Prelude.{
 };
 ghost use Rattle.pep_version.specs.Order.{without_dev, without_post};
 ghost use Rattle.pep_clause.specs.Cut.{IsCut};
+ghost use Rattle.specifiers.specs.Admits.{compatible_prefix};
 ghost use Rattle.pep_clause.specs.OperatorTable.{
   after_last_dev,
+  begin_cut,
   done,
+  end_cut,
   greater_from,
   last,
   less_to,
@@ -31,7 +34,7 @@ ghost use Rattle.pep_clause.specs.OperatorTable.{
 
 use crate::cut::Cut;
 use pep_version::{Phase, Version};
-use specifiers::ClauseFault;
+use specifiers::{Begin, ClauseFault, End};
 use std::alloc::Global;
 
 // The number above, unless this is the largest.
@@ -89,9 +92,9 @@ fn after_last_dev(alloc: Global, version: &Version) -> Result<Cut, ClauseFault>
     }
 }
 
-/// The cut directly after a version without a label and all its labels: where `<=` ends (PEP 440,
-/// "Inclusive ordered comparison").
-pub(crate) fn next(alloc: Global, version: &Version) -> Result<Cut, ClauseFault>
+// The cut directly after a version without a label and all its labels: where `<=` ends (PEP 440,
+// "Inclusive ordered comparison").
+fn next(alloc: Global, version: &Version) -> Result<Cut, ClauseFault>
     ensures place { IfOk result (λ c. c ≡ next version.now) }
     ensures spelled { IfOk result (λ c. IsCut c) }
     ensures faults { IfErr result (λ e. e ≡ ClauseFault.NoMemory) }
@@ -112,8 +115,8 @@ pub(crate) fn next(alloc: Global, version: &Version) -> Result<Cut, ClauseFault>
     }
 }
 
-/// Where `>` begins (PEP 440, "Exclusive ordered comparison").
-pub(crate) fn greater_from(alloc: Global, version: &Version) -> Result<Cut, ClauseFault>
+// Where `>` begins (PEP 440, "Exclusive ordered comparison").
+fn greater_from(alloc: Global, version: &Version) -> Result<Cut, ClauseFault>
     ensures place { IfOk result (λ c. c ≡ greater_from version.now) }
     ensures spelled { IfOk result (λ c. IsCut c) }
     ensures faults { IfErr result (λ e. e ≡ ClauseFault.NoMemory) }
@@ -125,9 +128,9 @@ pub(crate) fn greater_from(alloc: Global, version: &Version) -> Result<Cut, Clau
     }
 }
 
-/// Where `<` ends: a version that is no pre-release leaves its own pre-releases out (PEP 440,
-/// "Exclusive ordered comparison").
-pub(crate) fn less_to(alloc: Global, version: &Version) -> Result<Cut, ClauseFault>
+// Where `<` ends: a version that is no pre-release leaves its own pre-releases out (PEP 440,
+// "Exclusive ordered comparison").
+fn less_to(alloc: Global, version: &Version) -> Result<Cut, ClauseFault>
     ensures place { IfOk result (λ c. c ≡ less_to version.now) }
     ensures spelled { IfOk result (λ c. IsCut c) }
     ensures faults { IfErr result (λ e. e ≡ ClauseFault.NoMemory) }
@@ -139,8 +142,8 @@ pub(crate) fn less_to(alloc: Global, version: &Version) -> Result<Cut, ClauseFau
     }
 }
 
-/// Where `==` ends (PEP 440, "Version matching").
-pub(crate) fn matching_to(alloc: Global, version: &Version) -> Result<Cut, ClauseFault>
+// Where `==` ends (PEP 440, "Version matching").
+fn matching_to(alloc: Global, version: &Version) -> Result<Cut, ClauseFault>
     ensures place { IfOk result (λ c. c ≡ matching_to version.now) }
     ensures spelled { IfOk result (λ c. IsCut c) }
     ensures faults { IfErr result (λ e. e ≡ ClauseFault.NoMemory) }
@@ -185,5 +188,43 @@ pub(crate) fn prefix_end(alloc: Global, epoch: u64, release: &[u64]) -> Result<C
     match next_number(epoch) {
         Some(n) => Cut::before_dev(alloc, n, &[0]),
         None => Ok(Cut::end()),
+    }
+}
+
+// Where `~=` ends: behind all versions that begin with the release but its last number (PEP 440, "Compatible release").
+fn compatible_to(alloc: Global, version: &Version) -> Result<Cut, ClauseFault>
+    ensures place { IfOk result (λ c. c ≡ prefix_end (compatible_prefix version.now)) }
+    ensures spelled { IfOk result (λ c. IsCut c) }
+    ensures faults { IfErr result (λ e. e ≡ ClauseFault.NoMemory) }
+{
+    let release = version.release();
+    prefix_end(alloc, version.epoch(), &release[..release.len() - 1])
+}
+
+/// The cut where the versions begin that the clause of an operator and this version speaks of.
+pub(crate) fn begin_cut(alloc: Global, begin: Begin, version: &Version) -> Result<Cut, ClauseFault>
+    ensures place { IfOk result (λ c. c ≡ begin_cut begin version.now) }
+    ensures spelled { IfOk result (λ c. IsCut c) }
+    ensures faults { IfErr result (λ e. e ≡ ClauseFault.NoMemory) }
+{
+    match begin {
+        Begin::Least => Cut::least(alloc),
+        Begin::Version => Cut::before(alloc, version),
+        Begin::Greater => greater_from(alloc, version),
+    }
+}
+
+/// The cut where they end.
+pub(crate) fn end_cut(alloc: Global, end: End, version: &Version) -> Result<Cut, ClauseFault>
+    ensures place { IfOk result (λ c. c ≡ end_cut end version.now) }
+    ensures spelled { IfOk result (λ c. IsCut c) }
+    ensures faults { IfErr result (λ e. e ≡ ClauseFault.NoMemory) }
+{
+    match end {
+        End::Version => next(alloc, version),
+        End::Matching => matching_to(alloc, version),
+        End::Less => less_to(alloc, version),
+        End::Prefix => compatible_to(alloc, version),
+        End::All => Ok(Cut::end()),
     }
 }

@@ -27,25 +27,23 @@ ghost use Rattle.std.specs.Cmp.{partial_equiv_from_equiv};
 ghost use Rattle.std.specs.declared.cmp.Ordering.TheVariants.{Less};
 ghost use Rattle.pep_version.specs.Version.{IsVersion, Version};
 ghost use Rattle.specifiers.specs.Admits.{admits};
-ghost use Rattle.specifiers.specs.Clause.{at_least, at_most, compatible, demanded_text, excluding};
-ghost use Rattle.specifiers.specs.Clause.{excluding_prefix, greater_than, less_than, matching};
-ghost use Rattle.specifiers.specs.Clause.{matching_prefix, prefix_of};
-ghost use Rattle.specifiers.specs.ClauseView.{IsStored, clause_of};
+ghost use Rattle.specifiers.specs.Clause.{demanded_text, prefix_of};
+ghost use Rattle.specifiers.specs.ClauseView.{IsStored, clause_of, of_prefix, of_version};
 ghost use Rattle.pep_clause.specs.Cut.{Cut, IsCut, cut_cmp};
 ghost use Rattle.pep_clause.specs.Inhabited.{HasVersionUnlessEmpty};
 ghost use Rattle.pep_clause.specs.Joined.{all_within, are_within, joined};
-ghost use Rattle.pep_clause.specs.OperatorTable.{outside, range, set_of};
+ghost use Rattle.pep_clause.specs.OperatorTable.{between, outside, range, set_of};
 ghost use Rattle.pep_clause.specs.SetEquality.{SameVersions, same_ranges, same_ranges-equiv};
 ghost use Rattle.pep_clause.specs.VersionSet.{In, IsIncreasing, IsNormal, all_versions, cuts, is_in};
 ghost use Rattle.pep_clause.specs.VersionSet.{HasFewRanges, is_point};
 
 use crate::cut::Cut;
 use crate::range::Range;
-use crate::range_ends::{greater_from, less_to, matching_to, next, prefix_end};
+use crate::range_ends::{begin_cut, end_cut, prefix_end};
 use crate::sweep::{moved_ranges, swept_ranges};
 use crate::turns::Turns;
 use pep_version::{Key, Version};
-use specifiers::{Clause, ClauseFault, ClauseForm};
+use specifiers::{Clause, ClauseFault, Op, Operand};
 use std::alloc::Global;
 use std::cmp::Ordering;
 use std::marker::Model;
@@ -218,107 +216,62 @@ impl VersionSet {
         Ok(VersionSet { ranges })
     }
 
-    /// The versions whose epoch is that of the prefix, and whose release begins with its numbers.
-    fn with_prefix(alloc: Global, prefix: &Version) -> Result<VersionSet, ClauseFault>
-        ensures range { IfOk result (λ s. s ≡ set_of (matching_prefix (prefix_of prefix.now))) }
+    // The versions between two cuts, or where these are left out the others.
+    fn by_cuts(
+        alloc: Global,
+        left_out: bool,
+        low: Cut,
+        high: Cut,
+    ) -> Result<VersionSet, ClauseFault>
+        requires low { IsCut low }
+        requires high { IsCut high }
+        requires in_order { IsTrue left_out → cut_cmp low high ≡ Less }
+        ensures list { IfOk result (λ s. s ≡ between left_out low high) }
         ensures faults { IfErr result (λ e. e ≡ ClauseFault.NoMemory) }
     {
-        let (epoch, release) = (prefix.epoch(), prefix.release());
-        let low = Cut::before_dev(alloc, epoch, release)?;
-        VersionSet::between(alloc, low, prefix_end(alloc, epoch, release)?)
+        if left_out {
+            VersionSet::outside(alloc, low, high)
+        } else {
+            VersionSet::between(alloc, low, high)
+        }
     }
 
-    /// The versions whose epoch is another, or whose release does not begin with the numbers of the
-    /// prefix.
-    fn without_prefix(alloc: Global, prefix: &Version) -> Result<VersionSet, ClauseFault>
-        ensures outside { IfOk result (λ s. s ≡ set_of (excluding_prefix (prefix_of prefix.now))) }
-        ensures faults { IfErr result (λ e. e ≡ ClauseFault.NoMemory) }
-    {
-        let (epoch, release) = (prefix.epoch(), prefix.release());
-        let low = Cut::before_dev(alloc, epoch, release)?;
-        VersionSet::outside(alloc, low, prefix_end(alloc, epoch, release)?)
-    }
-
-    /// The versions that are not below this one, and whose release begins with its numbers but the
-    /// last.
-    fn compatible(alloc: Global, version: &Version) -> Result<VersionSet, ClauseFault>
-        ensures range { IfOk result (λ s. s ≡ set_of (compatible version.now)) }
-        ensures faults { IfErr result (λ e. e ≡ ClauseFault.NoMemory) }
-    {
-        let release = version.release();
-        let prefix = &release[..release.len() - 1];
-        let high = prefix_end(alloc, version.epoch(), prefix)?;
-        VersionSet::between(alloc, Cut::before(alloc, version)?, high)
-    }
-
-    // `==`
-    fn matching(alloc: Global, version: &Version) -> Result<VersionSet, ClauseFault>
-        ensures list { IfOk result (λ s. s ≡ set_of (matching version.now)) }
-        ensures faults { IfErr result (λ e. e ≡ ClauseFault.NoMemory) }
-    {
-        let low = Cut::before(alloc, version)?;
-        VersionSet::between(alloc, low, matching_to(alloc, version)?)
-    }
-
-    // `!=`
-    fn excluding(alloc: Global, version: &Version) -> Result<VersionSet, ClauseFault>
+    // The versions that the clause of this operator and version admits; all where it demands a text.
+    fn of_version(alloc: Global, op: Op, version: &Version) -> Result<VersionSet, ClauseFault>
         requires { IsVersion version.now }
-        ensures list { IfOk result (λ s. s ≡ set_of (excluding version.now)) }
+        ensures list { IfOk result (λ s. s ≡ set_of (of_version op version.now)) }
         ensures faults { IfErr result (λ e. e ≡ ClauseFault.NoMemory) }
     {
-        let low = Cut::before(alloc, version)?;
-        VersionSet::outside(alloc, low, matching_to(alloc, version)?)
+        let low = begin_cut(alloc, op.begin(), version)?;
+        let high = end_cut(alloc, op.end(), version)?;
+        VersionSet::by_cuts(alloc, op.leaves_out(), low, high)
     }
 
-    // `<=`
-    fn at_most(alloc: Global, version: &Version) -> Result<VersionSet, ClauseFault>
-        ensures list { IfOk result (λ s. s ≡ set_of (at_most version.now)) }
+    // The versions that the clause of this operator and prefix admits.
+    fn of_prefix(alloc: Global, op: Op, prefix: &Version) -> Result<VersionSet, ClauseFault>
+        ensures list { IfOk result (λ s. s ≡ set_of (of_prefix op (prefix_of prefix.now))) }
         ensures faults { IfErr result (λ e. e ≡ ClauseFault.NoMemory) }
     {
-        VersionSet::between(alloc, Cut::least(alloc)?, next(alloc, version)?)
+        let (epoch, release) = (prefix.epoch(), prefix.release());
+        let low = Cut::before_dev(alloc, epoch, release)?;
+        let high = prefix_end(alloc, epoch, release)?;
+        VersionSet::by_cuts(alloc, op.leaves_out(), low, high)
     }
 
-    // `>=`
-    fn at_least(alloc: Global, version: &Version) -> Result<VersionSet, ClauseFault>
-        ensures list { IfOk result (λ s. s ≡ set_of (at_least version.now)) }
+    // The versions that the clause of this operator and operand admits; all where it demands a text.
+    fn of_operand(
+        alloc: Global,
+        op: Op,
+        operand: &Operand,
+    ) -> Result<VersionSet, ClauseFault>
+        requires { IsStored op operand.now }
+        ensures list { IfOk result (λ s. s ≡ set_of (clause_of op operand.now)) }
         ensures faults { IfErr result (λ e. e ≡ ClauseFault.NoMemory) }
     {
-        VersionSet::between(alloc, Cut::before(alloc, version)?, Cut::end())
-    }
-
-    // `<`
-    fn less_than(alloc: Global, version: &Version) -> Result<VersionSet, ClauseFault>
-        ensures list { IfOk result (λ s. s ≡ set_of (less_than version.now)) }
-        ensures faults { IfErr result (λ e. e ≡ ClauseFault.NoMemory) }
-    {
-        VersionSet::between(alloc, Cut::least(alloc)?, less_to(alloc, version)?)
-    }
-
-    // `>`
-    fn greater_than(alloc: Global, version: &Version) -> Result<VersionSet, ClauseFault>
-        ensures list { IfOk result (λ s. s ≡ set_of (greater_than version.now)) }
-        ensures faults { IfErr result (λ e. e ≡ ClauseFault.NoMemory) }
-    {
-        VersionSet::between(alloc, greater_from(alloc, version)?, Cut::end())
-    }
-
-    /// The versions that the clause of this form admits; all versions where it demands a text.
-    fn of_form(alloc: Global, form: &ClauseForm) -> Result<VersionSet, ClauseFault>
-        requires { IsStored form.now }
-        ensures list { IfOk result (λ s. s ≡ set_of (clause_of form.now)) }
-        ensures faults { IfErr result (λ e. e ≡ ClauseFault.NoMemory) }
-    {
-        match form {
-            ClauseForm::Compatible(version) => VersionSet::compatible(alloc, version),
-            ClauseForm::Matching(version) => VersionSet::matching(alloc, version),
-            ClauseForm::MatchingPrefix(prefix) => VersionSet::with_prefix(alloc, prefix),
-            ClauseForm::Excluding(version) => VersionSet::excluding(alloc, version),
-            ClauseForm::ExcludingPrefix(prefix) => VersionSet::without_prefix(alloc, prefix),
-            ClauseForm::AtMost(version) => VersionSet::at_most(alloc, version),
-            ClauseForm::AtLeast(version) => VersionSet::at_least(alloc, version),
-            ClauseForm::LessThan(version) => VersionSet::less_than(alloc, version),
-            ClauseForm::GreaterThan(version) => VersionSet::greater_than(alloc, version),
-            ClauseForm::Demanded(_) => VersionSet::all(alloc),
+        match operand {
+            Operand::Version(version) => VersionSet::of_version(alloc, op, version),
+            Operand::Prefix(prefix) => VersionSet::of_prefix(alloc, op, prefix),
+            Operand::Text(_) => VersionSet::all(alloc),
         }
     }
 
@@ -335,7 +288,7 @@ impl VersionSet {
         ensures inhabited { IfOk result (λ s. HasVersionUnlessEmpty s) }
         ensures faults { IfErr result (λ e. e ≡ ClauseFault.NoMemory) }
     {
-        VersionSet::of_form(alloc, clause.form())
+        VersionSet::of_operand(alloc, clause.op(), clause.operand())
     }
 
     /// The versions that are in both sets, by one sweep over the ranges of both: each turn passes

@@ -55,8 +55,8 @@ pub trait LineSink {
         ensures faults { IfErr result (λ e. e ≡ RequireFault.NoMemory) };
 
     /// One more clause, the one in front of the text (PEP 508, "Grammar"), with the longest run of characters that it
-    /// may hold. What stands behind it is given back, without white space before that. The refusals are `BadClause`, 33,
-    /// with the clause's fault, and out of memory, 40.
+    /// may hold. What stands behind it is given back, without white space before that. The refusals are `BadClause`,
+    /// 33, with the clause's fault, and out of memory, 40.
     fn clause<'a>(&mut self, line: &mut Self::Line, text: &'a str) -> Result<&'a str, RequireFault>
         ensures same { self.new ≡ self.old }
         ensures ok { IfOk result (λ rest. (c : Clause) × BoundFrom text.now c rest.now

@@ -140,7 +140,8 @@ impl Gathering {
         Ok(self)
     }
 
-    /// What is demanded so far, and of one package by a line, whose sets are moved. The only fault is `NoMemory`, 42.
+    /// What is demanded so far, and of one package by a line, whose sets are moved: it may be anything until it is
+    /// cleared. The only fault is `NoMemory`, 42.
     pub fn take_line(
         mut self,
         alloc: Global,

@@ -1,15 +1,20 @@
 -- Which clauses have bounds of two places, by how their versions are written: a cut that is made of more than four numbers or of
 -- a number that is too large is not looked at further, where it has a place too. Nothing else rests on that. And whose places are
 -- told where a version is a release alone (`HoldsRelease`, `HoldsPrefix`).
-use Rattle.std.specs.Prelude.{◌≡◌, ◌+◌, ◌<◌, ◌≤◌, ℕ, List, [], ◌∷◌, Option, Some, None, Ok, length, if◌then◌else◌}
+use Rattle.std.specs.Prelude.{◌≡◌, ◌+◌, ◌<◌, ◌≤◌, ℕ, List, [], ◌∷◌, Option, Some, None, Ok, IsOk, length, if◌then◌else◌}
 use Rattle.pep_version.specs.Order.{with_suffixes}
 use Rattle.pep_version.specs.Version.{Version, is_pre_release}
 use Rattle.pep_version.specs.declared.parts.Phase.{Phase}
 use Rattle.specifiers.specs.Admits.{compatible_prefix}
-use Rattle.specifiers.specs.Clause.{Clause, Prefix, compatible, matching, matching_prefix, excluding, excluding_prefix, at_most, at_least, less_than, greater_than, demanded, prefix_clause, version_clause}
+use Rattle.specifiers.specs.Clause.{Clause, Prefix, prefix_clause, version_clause}
+use Rattle.specifiers.specs.Operator.{OperandParts, prefix_part, text_part, version_part}
+use Rattle.specifiers.specs.OperatorEnds.{begin_of, end_of, leaves_out}
+use Rattle.specifiers.specs.declared.op.Begin.{Begin}
+use Rattle.specifiers.specs.declared.op.Begin.TheVariants as begin
+use Rattle.specifiers.specs.declared.op.End.{End}
+use Rattle.specifiers.specs.declared.op.End.TheVariants as ends
 use Rattle.specifiers.specs.declared.op.Op.{Op}
-use Rattle.specifiers.specs.declared.op.Op.TheVariants as op
-use Rattle.pep_clause.specs.OperatorTable.{outside, range, set_of, with_dev, with_post}
+use Rattle.pep_clause.specs.OperatorTable.{between, set_of, with_dev, with_post}
 use Rattle.places.specs.Place.{AreShortNumbers, IsShortRelease, IsShortVersion, release_alone}
 use Rattle.places.specs.declared.bounds.Bounds.{Bounds}
 
@@ -27,11 +32,11 @@ abbrev pub less_version : Version → Version
 less_version v = if is_pre_release v then v else with_dev 0 v
 
 -- `>` begins past a release, which has no place; or before a version
-abbrev pub BeginsShort : Option (Phase × ℕ) → Option ℕ → Option ℕ → Version → Type 0
-BeginsShort None None None v = ⊥
-BeginsShort (Some p) None None v = IsShortVersion (with_suffixes v (Some (p.0, p.1 + 1)) None (Some 0))
-BeginsShort pre (Some n) dev v = IsShortVersion (next_version v)
-BeginsShort pre None (Some n) v = IsShortVersion (next_version v)
+abbrev pub GreaterShort : Option (Phase × ℕ) → Option ℕ → Option ℕ → Version → Type 0
+GreaterShort None None None v = ⊥
+GreaterShort (Some p) None None v = IsShortVersion (with_suffixes v (Some (p.0, p.1 + 1)) None (Some 0))
+GreaterShort pre (Some n) dev v = IsShortVersion (next_version v)
+GreaterShort pre None (Some n) v = IsShortVersion (next_version v)
 
 -- the release with its last number raised by one
 abbrev pub raised_last : List ℕ → List ℕ
@@ -40,44 +45,39 @@ raised_last (n ∷ []) = (n + 1) ∷ []
 raised_last (n ∷ m ∷ rest) = n ∷ raised_last (m ∷ rest)
 
 -- where a prefix ends
-pub record EndsShort (p : Prefix) : Type 0 where
+pub record PrefixEndsShort (p : Prefix) : Type 0 where
   pub epoch : p.epoch ≡ 0
   pub some : 0 < length p.release
   pub few : length p.release ≤ 4
   pub numbers : AreShortNumbers (raised_last p.release)
 
-abbrev pub HasBounds : Clause → Type 0
-HasBounds (at_least v) = IsShortVersion v
-HasBounds (at_most v) = IsShortVersion (next_version v)
-HasBounds (greater_than v) = BeginsShort v.pre v.post v.dev v
-HasBounds (less_than v) = IsShortVersion (less_version v)
-HasBounds (matching v) = IsShortVersion v × IsShortVersion (next_version v)
-HasBounds (excluding v) = ⊥
-HasBounds (matching_prefix p) = IsShortRelease p.epoch p.release × EndsShort p
-HasBounds (excluding_prefix p) = ⊥
-HasBounds (compatible v) = IsShortVersion v × EndsShort (compatible_prefix v)
-HasBounds (demanded text) = Unit {0}
+-- where the versions begin and end that an operator and a version speak of
+abbrev pub BeginsShort : Begin → Version → Type 0
+BeginsShort begin.Least v = Unit {0}
+BeginsShort begin.Version v = IsShortVersion v
+BeginsShort begin.Greater v = GreaterShort v.pre v.post v.dev v
 
--- Of which clauses two places tell what they leave out: those with `!=`, where one with `==` of the same version, as it is
--- written, has bounds.
-abbrev pub LeavesOut : Clause → Type 0
-LeavesOut (excluding v) = HasBounds (matching v)
-LeavesOut (excluding_prefix p) = HasBounds (matching_prefix p)
-LeavesOut (at_least v) = ⊥
-LeavesOut (at_most v) = ⊥
-LeavesOut (greater_than v) = ⊥
-LeavesOut (less_than v) = ⊥
-LeavesOut (matching v) = ⊥
-LeavesOut (matching_prefix p) = ⊥
-LeavesOut (compatible v) = ⊥
-LeavesOut (demanded text) = ⊥
+abbrev pub EndsShort : End → Version → Type 0
+EndsShort ends.Version v = IsShortVersion (next_version v)
+EndsShort ends.Matching v = IsShortVersion (next_version v)
+EndsShort ends.Less v = IsShortVersion (less_version v)
+EndsShort ends.Prefix v = PrefixEndsShort (compatible_prefix v)
+EndsShort ends.All v = Unit {0}
+
+abbrev pub HasPrefixEnds : Prefix → Type 0
+HasPrefixEnds p = IsShortRelease p.epoch p.release × PrefixEndsShort p
+
+-- both have places
+abbrev pub HasEnds : Op → OperandParts → Type 0
+HasEnds o (version_part v) = BeginsShort (begin_of o) v × EndsShort (end_of o) v
+HasEnds o (prefix_part p) = HasPrefixEnds p
+HasEnds o (text_part t) = Unit {0}
 
 -- ---- clauses whose version is a release alone
 
 -- what lies between the places, or with `!=` what lies outside of them, is what the clause admits
 abbrev pub IsBetween : Op → Bounds → Clause → Type 0
-IsBetween op.NotEqual b c = outside b.low b.high ≡ set_of c
-IsBetween _ b c = range b.low b.high ≡ set_of c
+IsBetween o b c = between (leaves_out o) b.low b.high ≡ set_of c
 
 -- the operator and this version make such a clause
 pub record HoldsRelease (o : Op) (r : List ℕ) (b : Bounds) : Type 0 where
@@ -85,24 +85,20 @@ pub record HoldsRelease (o : Op) (r : List ℕ) (b : Bounds) : Type 0 where
   pub made : version_clause o (release_alone r) ≡ Ok clause
   pub between : IsBetween o b clause
 
+abbrev pub release_prefix : List ℕ → Prefix
+release_prefix r = record { epoch = 0; release = r }
+
 -- the operator and this prefix make such a clause
 pub record HoldsPrefix (o : Op) (r : List ℕ) (b : Bounds) : Type 0 where
   pub clause : Clause
-  pub made : prefix_clause o (record { epoch = 0; release = r }) ≡ Ok clause
+  pub made : prefix_clause o (release_prefix r) ≡ Ok clause
   pub between : IsBetween o b clause
 
--- which operators and releases have bounds; `~=` wants two numbers
+-- which operators and releases make a clause that has bounds
 abbrev pub ReleaseHasBounds : Op → List ℕ → Type 0
-ReleaseHasBounds op.Compatible r = (1 < length r) × HasBounds (compatible (release_alone r))
-ReleaseHasBounds op.Equal r = HasBounds (matching (release_alone r))
-ReleaseHasBounds op.NotEqual r = HasBounds (matching (release_alone r))
-ReleaseHasBounds op.AtMost r = HasBounds (at_most (release_alone r))
-ReleaseHasBounds op.AtLeast r = HasBounds (at_least (release_alone r))
-ReleaseHasBounds op.Less r = HasBounds (less_than (release_alone r))
-ReleaseHasBounds op.More r = ⊥
-ReleaseHasBounds op.Exact r = ⊥
+ReleaseHasBounds o r =
+    IsOk (version_clause o (release_alone r)) × HasEnds o (version_part (release_alone r))
 
 abbrev pub PrefixHasBounds : Op → List ℕ → Type 0
-PrefixHasBounds op.Equal r = HasBounds (matching_prefix (record { epoch = 0; release = r }))
-PrefixHasBounds op.NotEqual r = HasBounds (matching_prefix (record { epoch = 0; release = r }))
-PrefixHasBounds _ r = ⊥
+PrefixHasBounds o r =
+    IsOk (prefix_clause o (release_prefix r)) × HasEnds o (prefix_part (release_prefix r))

@@ -1,27 +1,32 @@
 //! What a clause admits, as the versions between two places.
 
-ghost use Rattle.std.specs.Prelude.{◌≡◌, ◌+◌, ◌<◌, ◌≤◌, ◌↔◌, length, IfSome, IsSome, Some};
-ghost use Rattle.specifiers.specs.Clause.{compatible, matching, matching_prefix, prefix_of};
-ghost use Rattle.specifiers.specs.ClauseView.{clause_of};
-ghost use Rattle.pep_clause.specs.Cut.{IsCut, end, least};
+ghost use Rattle.std.specs.Prelude.{◌≡◌, ◌+◌, ◌<◌, ◌≤◌, ◌↔◌, length, IfSome, IsSome};
+ghost use Rattle.specifiers.specs.Admits.{compatible_prefix};
+ghost use Rattle.specifiers.specs.Clause.{prefix_of};
+ghost use Rattle.specifiers.specs.ClauseView.{IsStored, clause_of, operand_parts};
+ghost use Rattle.specifiers.specs.Operator.{operand, operator, version_part};
+ghost use Rattle.specifiers.specs.OperatorEnds.{begin_of, end_of};
+ghost use Rattle.pep_clause.specs.Cut.{IsCut};
 ghost use Rattle.pep_clause.specs.OperatorTable.{
   before_dev,
   before_place,
   before_prefix,
+  begin_cut,
+  end_cut,
   greater_from,
   less_to,
   matching_to,
   next,
-  outside,
   prefix_end,
-  range,
-  set_of,
 };
 ghost use Rattle.places.specs.Bounds.{
   BeginsShort,
   EndsShort,
-  HasBounds,
-  LeavesOut,
+  GreaterShort,
+  HasEnds,
+  HasPrefixEnds,
+  IsBetween,
+  PrefixEndsShort,
   less_version,
   next_version,
   raised_last,
@@ -38,7 +43,7 @@ use crate::place::Place;
 use crate::word::{NUMBER, four};
 use pep_clause::Clause;
 use pep_version::Version;
-use specifiers::ClauseForm;
+use specifiers::{Begin, End, Op, Operand};
 
 /// What lies under the high place and not under the low one.
 #[derive(Clone, Copy)]
@@ -88,7 +93,7 @@ fn less_to(version: &Version) -> Option<Place>
 fn greater_from(version: &Version) -> Option<Place>
     ensures place { IfSome result (λ p. p ≡ greater_from version.now) }
     ensures exactly { IsSome result
-        ↔ BeginsShort version.now.pre version.now.post version.now.dev version.now }
+        ↔ GreaterShort version.now.pre version.now.post version.now.dev version.now }
 {
     if version.post().is_some() || version.dev().is_some() {
         return next(version);
@@ -156,7 +161,7 @@ pub(crate) fn prefix_end(epoch: u64, release: &[u64]) -> Option<Place>
       release =
           release.now;
     })) }
-    ensures exactly { IsSome result ↔ EndsShort (record {
+    ensures exactly { IsSome result ↔ PrefixEndsShort (record {
       epoch = epoch;
       release =
           release.now;
@@ -180,8 +185,8 @@ fn prefix_start(epoch: u64, release: &[u64]) -> Option<Place>
     Place::before_dev(four(release)?)
 }
 
-// `==` with a prefix of this epoch and release
-pub(crate) fn matching_prefix(epoch: u64, release: &[u64]) -> Option<Bounds>
+/// The places of a prefix with this epoch and release.
+pub(crate) fn prefix_ends(epoch: u64, release: &[u64]) -> Option<Bounds>
     requires { 0 < length release.now }
     ensures low { IfSome result (λ b. b.low ≡ before_dev epoch release.now) }
     ensures high { IfSome result (λ b. b.high ≡ prefix_end (record {
@@ -189,133 +194,99 @@ pub(crate) fn matching_prefix(epoch: u64, release: &[u64]) -> Option<Bounds>
       release =
           release.now;
     })) }
-    ensures exactly { IsSome result ↔ HasBounds (matching_prefix (record {
+    ensures exactly { IsSome result ↔ HasPrefixEnds (record {
       epoch = epoch;
       release =
           release.now;
-    })) }
+    }) }
 {
     let low = prefix_start(epoch, release)?;
     let high = prefix_end(epoch, release)?;
     Some(Bounds { low, high })
 }
 
-// `==` with a prefix
+// The places of the prefix that a version is.
 fn with_prefix(prefix: &Version) -> Option<Bounds>
     ensures low { IfSome result (λ b. b.low ≡ before_prefix (prefix_of prefix.now)) }
     ensures high { IfSome result (λ b. b.high ≡ prefix_end (prefix_of prefix.now)) }
-    ensures exactly { IsSome result ↔ HasBounds (matching_prefix (prefix_of prefix.now)) }
+    ensures exactly { IsSome result ↔ HasPrefixEnds (prefix_of prefix.now) }
 {
-    matching_prefix(prefix.epoch(), prefix.release())
+    prefix_ends(prefix.epoch(), prefix.release())
 }
 
-// `~=`
-fn compatible(version: &Version) -> Option<Bounds>
-    ensures range { IfSome result (λ b. range b.low b.high ≡ set_of (compatible version.now)) }
-    ensures exactly { IsSome result ↔ HasBounds (compatible version.now) }
+// Where `~=` ends (PEP 440, "Compatible release").
+fn compatible_to(version: &Version) -> Option<Place>
+    ensures place { IfSome result (λ p. p ≡ prefix_end (compatible_prefix version.now)) }
+    ensures exactly { IsSome result ↔ PrefixEndsShort (compatible_prefix version.now) }
 {
     let release = version.release();
-    let low = before(version)?;
-    let high = prefix_end(version.epoch(), &release[..release.len() - 1])?;
-    Some(Bounds { low, high })
+    prefix_end(version.epoch(), &release[..release.len() - 1])
 }
 
-// `==`
-fn matching(version: &Version) -> Option<Bounds>
-    ensures low { IfSome result (λ b. b.low ≡ before_place version.now) }
-    ensures high { IfSome result (λ b. b.high ≡ matching_to version.now) }
-    ensures exactly { IsSome result ↔ HasBounds (matching version.now) }
+// The place where the versions begin that the clause of an operator and this version speaks of.
+fn begin_place(begin: Begin, version: &Version) -> Option<Place>
+    ensures place { IfSome result (λ p. p ≡ begin_cut begin version.now) }
+    ensures exactly { IsSome result ↔ BeginsShort begin version.now }
 {
-    let low = before(version)?;
-    let high = matching_to(version)?;
-    Some(Bounds { low, high })
-}
-
-// What lies under the place.
-pub(crate) fn under(high: Option<Place>) -> Option<Bounds>
-    ensures bounds { IfSome result (λ b. (b.low ≡ least) × (high ≡ Some b.high)) }
-    ensures exactly { IsSome result ↔ IsSome high }
-{
-    let high = high?;
-    Some(Bounds {
-        low: Place::least(),
-        high,
-    })
-}
-
-// What doesn't lie under the place.
-pub(crate) fn from(low: Option<Place>) -> Option<Bounds>
-    ensures bounds { IfSome result (λ b. (low ≡ Some b.low) × (b.high ≡ end)) }
-    ensures exactly { IsSome result ↔ IsSome low }
-{
-    let low = low?;
-    Some(Bounds {
-        low,
-        high: Place::end(),
-    })
-}
-
-// What the clause of this form admits.
-fn of_form(form: &ClauseForm) -> Option<Bounds>
-    ensures range { IfSome result (λ b. range b.low b.high ≡ set_of (clause_of form.now)) }
-    ensures exactly { IsSome result ↔ HasBounds (clause_of form.now) }
-{
-    match form {
-        ClauseForm::Compatible(version) => compatible(version),
-        ClauseForm::Matching(version) => matching(version),
-        ClauseForm::MatchingPrefix(prefix) => with_prefix(prefix),
-        ClauseForm::AtMost(version) => under(next(version)),
-        ClauseForm::AtLeast(version) => from(before(version)),
-        ClauseForm::LessThan(version) => under(less_to(version)),
-        ClauseForm::GreaterThan(version) => from(greater_from(version)),
-        ClauseForm::Demanded(_) => under(Some(Place::end())),
-        ClauseForm::Excluding(_) | ClauseForm::ExcludingPrefix(_) => None,
+    match begin {
+        Begin::Least => Some(Place::least()),
+        Begin::Version => before(version),
+        Begin::Greater => greater_from(version),
     }
 }
 
-// What `!=` leaves out: what `==` admits.
-fn left_out_of(form: &ClauseForm) -> Option<Bounds>
-    ensures set { IfSome result (λ b. outside b.low b.high ≡ set_of (clause_of form.now)) }
-    ensures exactly { IsSome result ↔ LeavesOut (clause_of form.now) }
+// The place where they end.
+fn end_place(end: End, version: &Version) -> Option<Place>
+    ensures place { IfSome result (λ p. p ≡ end_cut end version.now) }
+    ensures exactly { IsSome result ↔ EndsShort end version.now }
 {
-    match form {
-        ClauseForm::Excluding(version) => matching(version),
-        ClauseForm::ExcludingPrefix(prefix) => with_prefix(prefix),
-        ClauseForm::AtLeast(_)
-        | ClauseForm::AtMost(_)
-        | ClauseForm::GreaterThan(_)
-        | ClauseForm::LessThan(_)
-        | ClauseForm::Matching(_)
-        | ClauseForm::MatchingPrefix(_)
-        | ClauseForm::Compatible(_)
-        | ClauseForm::Demanded(_) => None,
+    match end {
+        End::Version => next(version),
+        End::Matching => matching_to(version),
+        End::Less => less_to(version),
+        End::Prefix => compatible_to(version),
+        End::All => Some(Place::end()),
+    }
+}
+
+// The places of an operator and a version.
+fn version_ends(op: Op, version: &Version) -> Option<Bounds>
+    ensures low { IfSome result (λ b. b.low ≡ begin_cut (begin_of op) version.now) }
+    ensures high { IfSome result (λ b. b.high ≡ end_cut (end_of op) version.now) }
+    ensures exactly { IsSome result ↔ HasEnds op (version_part version.now) }
+{
+    let low = begin_place(op.begin(), version)?;
+    let high = end_place(op.end(), version)?;
+    Some(Bounds { low, high })
+}
+
+// The places of an operator and an operand.
+fn operand_ends(op: Op, operand: &Operand) -> Option<Bounds>
+    requires { IsStored op operand.now }
+    ensures between { IfSome result (λ b. IsBetween op b (clause_of op operand.now)) }
+    ensures exactly { IsSome result ↔ HasEnds op (operand_parts operand.now) }
+{
+    match operand {
+        Operand::Version(version) => version_ends(op, version),
+        Operand::Prefix(prefix) => with_prefix(prefix),
+        Operand::Text(_) => Some(Bounds {
+            low: Place::least(),
+            high: Place::end(),
+        }),
     }
 }
 
 impl Bounds {
-    /// What the clause admits (PEP 440, "Version specifiers"), between two places; `None` for `!=`, for `>` of a
-    /// version without suffixes, and where the epoch isn't 0, there is a label, the release is written with more
-    /// than four numbers, or a number is too large for a place (see [`Place`]). A clause with `===` admits all
-    /// versions here: its text stands beside the ranges.
+    /// The places between which the clause admits all versions and no other (PEP 440, "Version specifiers"), or with
+    /// `!=` leaves out just these ("Version exclusion"). `None` for `>` of a version without suffixes, and where the
+    /// epoch isn't 0, there is a label, the release is written with more than four numbers, or a number is too large
+    /// for a place (see [`Place`]). A clause with `===` admits all versions here: its text stands beside the ranges.
     pub fn of(clause: &Clause) -> Option<Bounds>
-        ensures range { IfSome result (λ b. range b.low b.high ≡ set_of clause.now) }
+        ensures between { IfSome result (λ b. IsBetween (operator clause.now) b clause.now) }
         ensures spelled { IfSome result (λ b. IsCut b.low × IsCut b.high) }
-        ensures exactly { IsSome result ↔ HasBounds clause.now }
+        ensures exactly { IsSome result ↔ HasEnds (operator clause.now) (operand clause.now) }
     {
-        let bounds = of_form(clause.form())?;
-        // Its clauses tell that both cuts are in their one spelling.
-        let _ = bounds.low.cmp(&bounds.high);
-        Some(bounds)
-    }
-
-    /// What a clause with `!=` leaves out (PEP 440, "Version exclusion"), between two places; `None` for other
-    /// operators, and where a clause with `==` in its place has no bounds (see [`Bounds::of`]).
-    pub fn left_out(clause: &Clause) -> Option<Bounds>
-        ensures set { IfSome result (λ b. outside b.low b.high ≡ set_of clause.now) }
-        ensures spelled { IfSome result (λ b. IsCut b.low × IsCut b.high) }
-        ensures exactly { IsSome result ↔ LeavesOut clause.now }
-    {
-        let bounds = left_out_of(clause.form())?;
+        let bounds = operand_ends(clause.op(), clause.operand())?;
         // Its clauses tell that both cuts are in their one spelling.
         let _ = bounds.low.cmp(&bounds.high);
         Some(bounds)

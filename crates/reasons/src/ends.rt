@@ -183,15 +183,15 @@ pub(crate) fn push_places(
     claim: usize,
     clause: &Clause,
 ) -> Result<bool, AllocError> {
-    if let Some(admitted) = Bounds::of(clause) {
-        ends.push(claim, Place::least(), admitted.low)?;
-        ends.push(claim, admitted.high, Place::end())?;
-        return Ok(true);
-    }
-    let Some(out) = Bounds::left_out(clause) else {
+    let Some(bounds) = Bounds::of(clause) else {
         return Ok(false);
     };
-    ends.push(claim, out.low, out.high)?;
+    if clause.op().leaves_out() {
+        ends.push(claim, bounds.low, bounds.high)?;
+    } else {
+        ends.push(claim, Place::least(), bounds.low)?;
+        ends.push(claim, bounds.high, Place::end())?;
+    }
     Ok(true)
 }
 

@@ -33,7 +33,7 @@ impl Hint {
 fn between(clauses: &[Clause]) -> Bounds {
     let mut low = Place::least();
     let mut high = Place::end();
-    for clause in clauses {
+    for clause in clauses.iter().filter(|clause| !clause.op().leaves_out()) {
         if let Some(own) = Bounds::of(clause) {
             low = low.later(own.low);
             high = high.earlier(own.high);

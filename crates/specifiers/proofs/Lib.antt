@@ -5,4 +5,5 @@ pub mod OneAnswer
 pub mod ReadLemmas
 pub mod Written
 pub mod WrittenLemmas
+pub mod MadeClauses
 mod Witnesses

@@ -17,10 +17,7 @@ use Rattle.specifiers.specs.Clause.{VersionAnswers, at_least, at_most, compatibl
 use Rattle.specifiers.specs.Clause.{greater_than, is_final, less_than, matching, matching_prefix}
 use Rattle.specifiers.specs.Clause.{prefix_answer, prefix_clause, prefix_of, version_answer}
 use Rattle.specifiers.specs.Clause.{version_clause}
-use Rattle.specifiers.specs.ClauseView.{clause_of}
 use Rattle.specifiers.specs.Operator.{operator}
-use Rattle.specifiers.specs.declared.clause.ClauseForm.{ClauseForm}
-use Rattle.specifiers.specs.declared.clause.ClauseForm.TheVariants as stored
 use Rattle.specifiers.proofs.OneAnswer.{one-answer, one-clause-of, told-version}
 use Rattle.specifiers.proofs.ReadLemmas.{target-any}
 
@@ -199,29 +196,3 @@ prefix_says o text p v other h = by (reading_of op.Equal text (matching_prefix p
         subst (λ x. SaysOf o text v (says (prefix_clause o x) v)) (sym own)
         (said o text v (prefix_clause o (prefix_of u)) (answer_of o text _ other (answers o))
         (made_prefix o (prefix_of u)))
-
--- a version with a label makes a clause with `==` and `!=` alone
-pub labelled : (o : Op) (w v : Version) → ¬ (o ≡ op.Equal) → ¬ (o ≡ op.NotEqual) →
-    is_empty w.label ≡ false → None ≡ says (version_clause o w) v
-labelled op.Equal w v n m e = absurd (n refl)
-labelled op.NotEqual w v n m e = absurd (m refl)
-labelled op.AtMost w v n m e = rw e refl
-labelled op.AtLeast w v n m e = rw e refl
-labelled op.Less w v n m e = rw e refl
-labelled op.More w v n m e = rw e refl
-labelled op.Compatible w v n m e = rw e refl
-labelled op.Exact w v n m e = refl
-
--- a clause that is kept otherwise has another operator than `==`
-pub other_operator : (f : ClauseForm) → ((v : Version) → ¬ (f ≡ stored.Matching v)) →
-    ((v : Version) → ¬ (f ≡ stored.MatchingPrefix v)) → ¬ (operator (clause_of f) ≡ op.Equal)
-other_operator (stored.Matching v) n m e = n v refl
-other_operator (stored.MatchingPrefix v) n m e = m v refl
-other_operator (stored.Compatible v) n m e = cc e
-other_operator (stored.Excluding v) n m e = cc e
-other_operator (stored.ExcludingPrefix v) n m e = cc e
-other_operator (stored.AtMost v) n m e = cc e
-other_operator (stored.AtLeast v) n m e = cc e
-other_operator (stored.LessThan v) n m e = cc e
-other_operator (stored.GreaterThan v) n m e = cc e
-other_operator (stored.Demanded t) n m e = cc e

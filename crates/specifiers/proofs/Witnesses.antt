@@ -17,7 +17,11 @@ use Rattle.specifiers.specs.Clause.{Clause, ClauseOf, ReadsClause, at_least, at_
 use Rattle.specifiers.specs.Clause.{compatible, demanded, demanded_text, greater_than, is_final}
 use Rattle.specifiers.specs.Clause.{less_than, matching, matching_prefix, operator_of, prefix_of}
 use Rattle.specifiers.specs.Clause.{version_answer}
+use Rattle.specifiers.specs.ClauseView.{TellsVersion}
 use Rattle.specifiers.specs.Operator.{operator}
+use Rattle.specifiers.specs.OperatorEnds.{begin_of, end_of, leaves_out}
+use Rattle.specifiers.specs.declared.op.Begin.TheVariants as begin
+use Rattle.specifiers.specs.declared.op.End.TheVariants as ends
 use Rattle.specifiers.specs.declared.fault.ClauseFault.TheVariants as fault
 use Rattle.specifiers.specs.declared.op.Op.{Op}
 use Rattle.specifiers.specs.declared.op.Op.TheVariants as op
@@ -143,3 +147,19 @@ is_greater-admits_a_post_release e = cc e
 pub is_less-admits_a_pre_release : ¬ (true
     ≡ admits (less_than (release (1 ∷ []))) (public_version (1 ∷ []) (Some (Alpha, 0)) None None))
 is_less-admits_a_pre_release e = cc e
+
+-- `>`
+pub Op_begin-more_at_the_version : ¬ (begin.Version ≡ begin_of op.More)
+Op_begin-more_at_the_version e = cc e
+
+-- `<`
+pub Op_end-less_behind_the_version : ¬ (ends.Version ≡ end_of op.Less)
+Op_end-less_behind_the_version e = cc e
+
+-- `==`
+pub Op_leaves_out-equal : ¬ (true ≡ leaves_out op.Equal)
+Op_leaves_out-equal e = cc e
+
+-- `>=1+1`
+pub version_fault-label_allowed : ¬ TellsVersion op.AtLeast (record (release (1 ∷ [])) { label = number 1 ∷ [] }) None
+version_fault-label_allowed e = cc e

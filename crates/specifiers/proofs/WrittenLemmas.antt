@@ -68,7 +68,7 @@ public-valid v c made is h valid =
     let both = public-answer c v.label (Ok made) h in
     let same : c ≡ made = cc (both.1) in subst IsValidClause (sym same) (valid (is, both.0))
 
-version-valid : (o : Op) (v : Version) (c : Clause) → IsVersion v → Ok c ≡ version_clause o v →
+pub version-valid : (o : Op) (v : Version) (c : Clause) → IsVersion v → Ok c ≡ version_clause o v →
     IsValidClause c
 version-valid op.Equal v c is h =
     let same : c ≡ matching v = cc h in subst IsValidClause (sym same) is
@@ -104,7 +104,7 @@ version-valid op.Exact v c is h = absurd (apart c h)
 star-apart : (c : Clause) → Ok c ≡ Err fault.StarNotAllowed → ⊥
 star-apart c e = cc e
 
-prefix-valid : (o : Op) (v : Version) (c : Clause) → IsVersion v →
+pub prefix-valid : (o : Op) (v : Version) (c : Clause) → IsVersion v →
     Ok c ≡ prefix_clause o (prefix_of v) → IsValidClause c
 prefix-valid op.Equal v c is h =
     let same : c ≡ matching_prefix (prefix_of v) = cc h in

@@ -1,5 +1,7 @@
--- The operator of a clause.
-use Rattle.specifiers.specs.Clause.{Clause, compatible, matching, matching_prefix, excluding}
+-- The operator of a clause, and what stands behind it.
+use Rattle.std.specs.Prelude.{ℕ, List}
+use Rattle.pep_version.specs.Version.{Version}
+use Rattle.specifiers.specs.Clause.{Clause, Prefix, compatible, matching, matching_prefix, excluding}
 use Rattle.specifiers.specs.Clause.{excluding_prefix, at_most, at_least, less_than, greater_than}
 use Rattle.specifiers.specs.Clause.{demanded}
 use Rattle.specifiers.specs.declared.op.Op.{Op}
@@ -16,3 +18,21 @@ operator (at_least v) = op.AtLeast
 operator (less_than v) = op.Less
 operator (greater_than v) = op.More
 operator (demanded text) = op.Exact
+
+-- a version, a prefix or the text of `===`
+pub data OperandParts : Type 0 where
+  version_part : Version → OperandParts
+  prefix_part : Prefix → OperandParts
+  text_part : List ℕ → OperandParts
+
+abbrev pub operand : Clause → OperandParts
+operand (compatible v) = version_part v
+operand (matching v) = version_part v
+operand (matching_prefix p) = prefix_part p
+operand (excluding v) = version_part v
+operand (excluding_prefix p) = prefix_part p
+operand (at_most v) = version_part v
+operand (at_least v) = version_part v
+operand (less_than v) = version_part v
+operand (greater_than v) = version_part v
+operand (demanded text) = text_part text

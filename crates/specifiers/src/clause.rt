@@ -11,27 +11,21 @@ use pep_version::Version;
 use std::alloc::Global;
 use std::marker::Model;
 
-/// How a clause is kept, a prefix as the version that is its epoch and release. Public for the crate
-/// of cuts and sets, which makes ranges of it.
+/// What stands behind the operator of a clause: a version, an epoch and a release with `.*`, kept as the version that
+/// they are, or the text of `===`. Public for the crates of sets and places, which make ranges of it.
 #[derive(Debug, Drop)]
-pub enum ClauseForm {
-    Compatible(Version),
-    Matching(Version),
-    MatchingPrefix(Version),
-    Excluding(Version),
-    ExcludingPrefix(Version),
-    AtMost(Version),
-    AtLeast(Version),
-    LessThan(Version),
-    GreaterThan(Version),
-    Demanded(String),
+pub enum Operand {
+    Version(Version),
+    Prefix(Version),
+    Text(String),
 }
 
 /// A version specifier clause (PEP 440, "Version specifiers"): an operator, and the version, the
 /// prefix or the text that stands behind it.
 #[derive(Debug, Drop)]
 pub struct Clause {
-    form: ClauseForm,
+    op: Op,
+    operand: Operand,
 }
 
 impl Model for Clause {
@@ -40,24 +34,24 @@ impl Model for Clause {
 
     ghost Value = { Clause };
 
-    ghost view = { λ a. clause_of a.form };
+    ghost view = { λ a. clause_of a.op a.operand };
 
-    ghost invariant = { λ a. IsStored a.form };
+    ghost invariant = { λ a. IsStored a.op a.operand };
 }
 
 impl Clause {
     ghost use Rattle.std.specs.Prelude.{◌≡◌, IfErr, IfOk};
-    ghost use Rattle.specifiers.specs.ClauseView.{IsStored, clause_of};
-    ghost use Rattle.specifiers.specs.Operator.{operator};
+    ghost use Rattle.specifiers.specs.ClauseView.{IsStored, clause_of, operand_parts};
+    ghost use Rattle.specifiers.specs.Operator.{operand, operator};
     ghost use Rattle.specifiers.specs.Valid.{IsValidClause};
 
-    /// The clause that is kept so.
-    pub(crate) fn of_form(form: ClauseForm) -> Clause
-        requires { IsStored form }
-        ensures clause { result ≡ clause_of form }
+    /// The clause of this operator and operand.
+    pub(crate) fn made(op: Op, operand: Operand) -> Clause
+        requires { IsStored op operand }
+        ensures clause { result ≡ clause_of op operand }
         ensures valid { IsValidClause result }
     {
-        Clause { form }
+        Clause { op, operand }
     }
 
     /// The operator (PEP 440, "Version specifiers").
@@ -65,24 +59,16 @@ impl Clause {
         ensures operator { result ≡ operator self.now }
         ensures valid { IsValidClause self.now }
     {
-        match &self.form {
-            ClauseForm::Compatible(_) => Op::Compatible,
-            ClauseForm::Matching(_) | ClauseForm::MatchingPrefix(_) => Op::Equal,
-            ClauseForm::Excluding(_) | ClauseForm::ExcludingPrefix(_) => Op::NotEqual,
-            ClauseForm::AtMost(_) => Op::AtMost,
-            ClauseForm::AtLeast(_) => Op::AtLeast,
-            ClauseForm::LessThan(_) => Op::Less,
-            ClauseForm::GreaterThan(_) => Op::More,
-            ClauseForm::Demanded(_) => Op::Exact,
-        }
+        self.op
     }
 
-    /// The form, with what it keeps. Public for the crate of cuts and sets, as the form is.
-    pub fn form(&self) -> &ClauseForm
-        ensures form { clause_of result.now ≡ self.now }
-        ensures stored { IsStored result.now }
+    /// What stands behind the operator. Public for the crates of sets and places, as the operand is.
+    pub fn operand(&self) -> &Operand
+        ensures clause { clause_of (operator self.now) result.now ≡ self.now }
+        ensures parts { operand_parts result.now ≡ operand self.now }
+        ensures stored { IsStored (operator self.now) result.now }
     {
-        &self.form
+        &self.operand
     }
 
     /// An equal clause in storage of its own. The only fault is `NoMemory`.
@@ -90,25 +76,14 @@ impl Clause {
         ensures same { IfOk result (λ c. c ≡ self.now) }
         ensures faults { IfErr result (λ e. e ≡ ClauseFault.NoMemory) }
     {
-        let form = match &self.form {
-            ClauseForm::Compatible(version) => ClauseForm::Compatible(version.copied(alloc)?),
-            ClauseForm::Matching(version) => ClauseForm::Matching(version.copied(alloc)?),
-            ClauseForm::MatchingPrefix(version) => ClauseForm::MatchingPrefix(version.copied(
-                alloc,
-            )?),
-            ClauseForm::Excluding(version) => ClauseForm::Excluding(version.copied(alloc)?),
-            ClauseForm::ExcludingPrefix(version) => ClauseForm::ExcludingPrefix(version.copied(
-                alloc,
-            )?),
-            ClauseForm::AtMost(version) => ClauseForm::AtMost(version.copied(alloc)?),
-            ClauseForm::AtLeast(version) => ClauseForm::AtLeast(version.copied(alloc)?),
-            ClauseForm::LessThan(version) => ClauseForm::LessThan(version.copied(alloc)?),
-            ClauseForm::GreaterThan(version) => ClauseForm::GreaterThan(version.copied(alloc)?),
-            ClauseForm::Demanded(text) => ClauseForm::Demanded(String::from_str(
-                alloc,
-                text.as_str(),
-            )?),
+        let operand = match &self.operand {
+            Operand::Version(version) => Operand::Version(version.copied(alloc)?),
+            Operand::Prefix(version) => Operand::Prefix(version.copied(alloc)?),
+            Operand::Text(text) => Operand::Text(String::from_str(alloc, text.as_str())?),
         };
-        Ok(Clause { form })
+        Ok(Clause {
+            op: self.op,
+            operand,
+        })
     }
 }

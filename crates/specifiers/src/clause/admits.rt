@@ -1,6 +1,6 @@
 // Which versions a clause admits.
 
-ghost use Rattle.std.specs.Prelude.{◌≡◌};
+ghost use Rattle.std.specs.Prelude.{◌≡◌, ◌≢◌};
 ghost use Rattle.pep_version.specs.Order.{public_version, version_cmp};
 ghost use Rattle.texts.specs.Lists.{is_empty};
 ghost use Rattle.specifiers.specs.Admits.{
@@ -22,8 +22,10 @@ ghost use Rattle.specifiers.specs.Clause.{
   prefix_of,
   version_clause,
 };
+ghost use Rattle.specifiers.specs.ClauseView.{of_prefix, of_version};
 
-use crate::clause::{Clause, ClauseForm};
+use crate::clause::read::version_fault;
+use crate::clause::{Clause, Operand};
 use crate::fault::ClauseFault;
 use crate::op::Op;
 use pep_version::Version;
@@ -149,23 +151,40 @@ fn is_greater(wanted: &Version, version: &Version) -> bool
         && (wanted.post().is_some() || !is_post_release_of(version, wanted))
 }
 
+// Whether the clause of an operator and a version admits another version; `===` has no such clause.
+fn admits_version(op: Op, wanted: &Version, version: &Version) -> bool
+    ensures { op ≢ Op.Exact → result ≡ admits (of_version op wanted.now) version.now }
+{
+    match op {
+        Op::Equal => matches(wanted, version),
+        Op::NotEqual => !matches(wanted, version),
+        Op::AtMost => is_at_most(wanted, version),
+        Op::AtLeast => is_at_least(wanted, version),
+        Op::Less => is_less(wanted, version),
+        Op::More => is_greater(wanted, version),
+        Op::Compatible => is_compatible(wanted, version),
+        Op::Exact => false,
+    }
+}
+
 // What the clause of an operator and a version says of another version; nothing where they make no
 // clause.
 fn admitted_by(op: Op, wanted: &Version, version: &Version) -> Option<bool>
     ensures { result ≡ says (version_clause op wanted.now) version.now }
 {
-    let numbers = wanted.release().len();
+    match version_fault(op, wanted) {
+        Some(_) => None,
+        None => Some(admits_version(op, wanted, version)),
+    }
+}
+
+// Whether the clause of an operator and a prefix admits a version.
+fn admits_prefix(op: Op, prefix: &Version, version: &Version) -> bool
+    ensures { result ≡ admits (of_prefix op (prefix_of prefix.now)) version.now }
+{
     match op {
-        Op::Equal => Some(matches(wanted, version)),
-        Op::NotEqual => Some(!matches(wanted, version)),
-        Op::Exact => None,
-        _ if !is_public(wanted) => None,
-        Op::AtMost => Some(is_at_most(wanted, version)),
-        Op::AtLeast => Some(is_at_least(wanted, version)),
-        Op::Less => Some(is_less(wanted, version)),
-        Op::More => Some(is_greater(wanted, version)),
-        Op::Compatible if numbers < 2 => None,
-        Op::Compatible => Some(is_compatible(wanted, version)),
+        Op::NotEqual => !matches_prefix(prefix, version),
+        _ => matches_prefix(prefix, version),
     }
 }
 
@@ -195,17 +214,11 @@ impl Clause {
         ensures no_fault { demanded_text self.now ≡ None → IsOk result }
         ensures faults { IfErr result (λ e. e ≡ ClauseFault.NoMemory) }
     {
-        let truth = match self.form() {
-            ClauseForm::Compatible(wanted) => is_compatible(wanted, version),
-            ClauseForm::Matching(wanted) => matches(wanted, version),
-            ClauseForm::MatchingPrefix(prefix) => matches_prefix(prefix, version),
-            ClauseForm::Excluding(wanted) => !matches(wanted, version),
-            ClauseForm::ExcludingPrefix(prefix) => !matches_prefix(prefix, version),
-            ClauseForm::AtMost(wanted) => is_at_most(wanted, version),
-            ClauseForm::AtLeast(wanted) => is_at_least(wanted, version),
-            ClauseForm::LessThan(wanted) => is_less(wanted, version),
-            ClauseForm::GreaterThan(wanted) => is_greater(wanted, version),
-            ClauseForm::Demanded(text) => version.text(alloc)?.as_str() == text.as_str(),
+        let op = self.op();
+        let truth = match self.operand() {
+            Operand::Version(wanted) => admits_version(op, wanted, version),
+            Operand::Prefix(prefix) => admits_prefix(op, prefix, version),
+            Operand::Text(text) => version.text(alloc)?.as_str() == text.as_str(),
         };
         Ok(truth)
     }
@@ -221,10 +234,13 @@ impl Clause {
         ensures exact { op ≡ Op.Exact → result ≡ None }
         ensures other { ¬ (operator self.now ≡ Op.Equal) → result ≡ None }
     {
-        match self.form() {
-            ClauseForm::Matching(wanted) => admitted_by(op, wanted, version),
-            ClauseForm::MatchingPrefix(prefix) => admitted_by_prefix(op, prefix, version),
-            _ => None,
+        if self.op() != Op::Equal {
+            return None;
+        }
+        match self.operand() {
+            Operand::Version(wanted) => admitted_by(op, wanted, version),
+            Operand::Prefix(prefix) => admitted_by_prefix(op, prefix, version),
+            Operand::Text(_) => None,
         }
     }
 }

@@ -15,9 +15,10 @@ ghost use Rattle.specifiers.specs.Clause.{
   prefix_answer,
   version_answer,
 };
+ghost use Rattle.specifiers.specs.ClauseView.{TellsVersion, compatible_fault, label_fault};
 ghost use Rattle.texts.specs.Bytes.{is_clause_byte};
 
-use crate::clause::{Clause, ClauseForm};
+use crate::clause::{Clause, Operand};
 use crate::fault::ClauseFault;
 use crate::op::Op;
 use pep_version::Version;
@@ -75,7 +76,8 @@ fn demanded_clause(alloc: Global, text: &str) -> Result<Clause, ClauseFault>
     if !is_clause_text(text.as_bytes()) {
         return Err(ClauseFault::BadVersion);
     }
-    Ok(Clause::of_form(ClauseForm::Demanded(text.to_ascii_lowercase(alloc)?)))
+    let demanded = text.to_ascii_lowercase(alloc)?;
+    Ok(Clause::made(Op::Exact, Operand::Text(demanded)))
 }
 
 // The clause of an operator and the version that stands before `.*`.
@@ -84,10 +86,44 @@ fn prefix_clause(operator: Op, version: Version) -> Result<Clause, ClauseFault>
     ensures { result ≡ prefix_answer operator (Ok version) }
 {
     match operator {
-        _ if !is_final(&version) => Err(ClauseFault::StarNotAllowed),
-        Op::Equal => Ok(Clause::of_form(ClauseForm::MatchingPrefix(version))),
-        Op::NotEqual => Ok(Clause::of_form(ClauseForm::ExcludingPrefix(version))),
+        Op::Equal | Op::NotEqual if is_final(&version) => {
+            Ok(Clause::made(operator, Operand::Prefix(version)))
+        }
         _ => Err(ClauseFault::StarNotAllowed),
+    }
+}
+
+// Why a version stands behind no operator that takes none with a label, if it doesn't.
+fn label_fault(version: &Version) -> Option<ClauseFault>
+    ensures { result ≡ label_fault version.now }
+{
+    if version.label().is_empty() {
+        None
+    } else {
+        Some(ClauseFault::LocalNotAllowed)
+    }
+}
+
+// Why a version doesn't stand behind `~=`, if it doesn't.
+fn compatible_fault(version: &Version) -> Option<ClauseFault>
+    ensures { result ≡ compatible_fault version.now }
+{
+    match label_fault(version) {
+        Some(fault) => Some(fault),
+        None if version.release().len() > 1 => None,
+        None => Some(ClauseFault::OneNumber),
+    }
+}
+
+/// Why the operator and the version make no clause, if they make none.
+pub(crate) fn version_fault(operator: Op, version: &Version) -> Option<ClauseFault>
+    ensures { TellsVersion operator version.now result }
+{
+    match operator {
+        Op::Equal | Op::NotEqual => None,
+        Op::Exact => Some(ClauseFault::BadVersion),
+        Op::Compatible => compatible_fault(version),
+        _ => label_fault(version),
     }
 }
 
@@ -96,21 +132,10 @@ fn version_clause(operator: Op, version: Version) -> Result<Clause, ClauseFault>
     requires { IsVersion version }
     ensures { result ≡ version_answer operator (Ok version) }
 {
-    let numbers = version.release().len();
-    let is_public = version.label().is_empty();
-    let form = match operator {
-        Op::Equal => ClauseForm::Matching(version),
-        Op::NotEqual => ClauseForm::Excluding(version),
-        Op::Exact => return Err(ClauseFault::BadVersion),
-        _ if !is_public => return Err(ClauseFault::LocalNotAllowed),
-        Op::AtMost => ClauseForm::AtMost(version),
-        Op::AtLeast => ClauseForm::AtLeast(version),
-        Op::Less => ClauseForm::LessThan(version),
-        Op::More => ClauseForm::GreaterThan(version),
-        Op::Compatible if numbers < 2 => return Err(ClauseFault::OneNumber),
-        Op::Compatible => ClauseForm::Compatible(version),
-    };
-    Ok(Clause::of_form(form))
+    match version_fault(operator, &version) {
+        Some(fault) => Err(fault),
+        None => Ok(Clause::made(operator, Operand::Version(version))),
+    }
 }
 
 // The clause of an operator and a text without white space at its ends.

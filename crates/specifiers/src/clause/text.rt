@@ -1,6 +1,6 @@
 // How a clause is written.
 
-use crate::clause::{Clause, ClauseForm};
+use crate::clause::{Clause, Operand};
 use crate::fault::ClauseFault;
 use std::alloc::Global;
 
@@ -16,19 +16,13 @@ impl Clause {
         ensures faults { IfErr result (λ e. e ≡ ClauseFault.NoMemory) }
     {
         let mut text = String::from_str(alloc, self.op().text())?;
-        match self.form() {
-            ClauseForm::Compatible(version)
-            | ClauseForm::Matching(version)
-            | ClauseForm::Excluding(version)
-            | ClauseForm::AtMost(version)
-            | ClauseForm::AtLeast(version)
-            | ClauseForm::LessThan(version)
-            | ClauseForm::GreaterThan(version) => text.push_str(version.text(alloc)?.as_str())?,
-            ClauseForm::MatchingPrefix(version) | ClauseForm::ExcludingPrefix(version) => {
+        match self.operand() {
+            Operand::Version(version) => text.push_str(version.text(alloc)?.as_str())?,
+            Operand::Prefix(version) => {
                 text.push_str(version.text(alloc)?.as_str())?;
                 text.push_str(".*")?;
             }
-            ClauseForm::Demanded(demanded) => text.push_str(demanded.as_str())?,
+            Operand::Text(demanded) => text.push_str(demanded.as_str())?,
         }
         Ok(text)
     }
@@ -37,8 +31,8 @@ impl Clause {
     pub fn exact_text(&self) -> Option<&str>
         ensures { option_map (λ t. t.now) result ≡ demanded_text self.now }
     {
-        match self.form() {
-            ClauseForm::Demanded(text) => Some(text.as_str()),
+        match self.operand() {
+            Operand::Text(text) => Some(text.as_str()),
             _ => None,
         }
     }

@@ -42,18 +42,13 @@ fn left_out_text(alloc: Global, bounds: Bounds) -> Result<String, ClauseFault> {
     Ok(format!(in alloc; "not {text}")?)
 }
 
-// The bounds of the clause of a text, and of what it leaves out.
-fn both_bounds(alloc: Global, text: &str) -> Result<(Option<Bounds>, Option<Bounds>), ClauseFault> {
-    let clause = Clause::read(alloc, text)?;
-    Ok((Bounds::of(&clause), Bounds::left_out(&clause)))
-}
-
 // The cuts between which the clause of this text admits versions, or leaves them out, where both have a place.
 fn bounds_line(alloc: Global, text: &str) -> Result<String, ClauseFault> {
-    match both_bounds(alloc, text)? {
-        (Some(bounds), _) => bounds_text(alloc, bounds),
-        (None, Some(bounds)) => left_out_text(alloc, bounds),
-        (None, None) => Ok(String::from_str(alloc, "none")?),
+    let clause = Clause::read(alloc, text)?;
+    match Bounds::of(&clause) {
+        Some(bounds) if clause.op().leaves_out() => left_out_text(alloc, bounds),
+        Some(bounds) => bounds_text(alloc, bounds),
+        None => Ok(String::from_str(alloc, "none")?),
     }
 }
 

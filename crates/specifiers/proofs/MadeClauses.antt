@@ -1,0 +1,148 @@
+-- The clause that an operator makes with a version or a prefix.
+use Rattle.std.proofs.Common.{◌≡◌, ◌≢◌, ◌⊎◌, ◌∙◌, Bool, true, false, Some, None, Ok, Err, ap, inl, inr, refl, sym, subst}
+use Rattle.std.specs.Prelude.{IsTrue, MatchOption, if◌then◌else◌, length, nat_lt}
+use Rattle.pep_version.specs.Version.{IsVersion, Version}
+use Rattle.texts.specs.Lists.{is_empty}
+use Rattle.specifiers.proofs.FinalVersion.{IsVersion-prefix_of}
+use Rattle.specifiers.proofs.WrittenLemmas.{version-valid}
+use Rattle.specifiers.specs.Admits.{admits, has_prefix, says}
+use Rattle.specifiers.specs.Clause.{Clause, Prefix, at_least, at_most, compatible, greater_than, is_final, less_than}
+use Rattle.specifiers.specs.Clause.{prefix_of}
+use Rattle.specifiers.specs.Clause.{version_clause}
+use Rattle.specifiers.specs.ClauseView.{IsStored, TellsVersion, clause_of, compatible_fault, label_fault, of_version}
+use Rattle.specifiers.specs.ClauseView.{of_prefix, operand_parts}
+use Rattle.specifiers.specs.Operator.{operand, operator, prefix_part, version_part}
+use Rattle.specifiers.specs.Valid.{IsValidClause}
+use Rattle.specifiers.specs.declared.clause.Operand.{Operand}
+use Rattle.specifiers.specs.declared.clause.Operand.TheVariants as stored
+use Rattle.specifiers.specs.declared.fault.ClauseFault.{ClauseFault}
+use Rattle.specifiers.specs.declared.fault.ClauseFault.TheVariants as fault
+use Rattle.specifiers.specs.declared.op.Op.{Op}
+use Rattle.specifiers.specs.declared.op.Op.TheVariants as op
+
+-- ---- which clause, or why none
+
+by_label : (b : Bool) (c : Clause) →
+    MatchOption (if b then None else Some fault.LocalNotAllowed)
+    ((if b then Ok c else Err fault.LocalNotAllowed) ≡ Ok c)
+    (λ e. (if b then Ok c else Err fault.LocalNotAllowed) ≡ Err e)
+by_label true c = refl
+by_label false c = refl
+
+by_numbers : (b t : Bool) (c : Clause) →
+    MatchOption (if b then (if t then None else Some fault.OneNumber) else Some fault.LocalNotAllowed)
+    ((if b then (if t then Ok c else Err fault.OneNumber) else Err fault.LocalNotAllowed) ≡ Ok c)
+    (λ e. (if b then (if t then Ok c else Err fault.OneNumber) else Err fault.LocalNotAllowed) ≡ Err e)
+by_numbers true true c = refl
+by_numbers true false c = refl
+by_numbers false t c = refl
+
+-- an operator that takes no label
+pub tells-label : (o : Op) (v : Version) → ¬ (o ≡ op.Equal) → ¬ (o ≡ op.NotEqual) → ¬ (o ≡ op.Exact) →
+    ¬ (o ≡ op.Compatible) → TellsVersion o v (label_fault v)
+tells-label op.AtMost v a b c d = by_label (is_empty v.label) (at_most v)
+tells-label op.AtLeast v a b c d = by_label (is_empty v.label) (at_least v)
+tells-label op.Less v a b c d = by_label (is_empty v.label) (less_than v)
+tells-label op.More v a b c d = by_label (is_empty v.label) (greater_than v)
+tells-label op.Equal v a b c d = absurd (a refl)
+tells-label op.NotEqual v a b c d = absurd (b refl)
+tells-label op.Exact v a b c d = absurd (c refl)
+tells-label op.Compatible v a b c d = absurd (d refl)
+
+pub tells-compatible : (v : Version) → TellsVersion op.Compatible v (compatible_fault v)
+tells-compatible v = by_numbers (is_empty v.label) (nat_lt 1 (length v.release)) (compatible v)
+
+-- ---- it may be stored
+
+pub operator-of_version : (o : Op) (v : Version) → operator (of_version o v) ≡ o
+operator-of_version op.Compatible v = refl
+operator-of_version op.Equal v = refl
+operator-of_version op.NotEqual v = refl
+operator-of_version op.AtMost v = refl
+operator-of_version op.AtLeast v = refl
+operator-of_version op.Less v = refl
+operator-of_version op.More v = refl
+operator-of_version op.Exact v = refl
+
+pub stored-version : (o : Op) (v : Version) → IsVersion v → version_clause o v ≡ Ok (of_version o v) →
+    IsStored o (stored.Version v)
+stored-version o v h made = record {
+  operator = operator-of_version o v;
+  valid = version-valid o v (of_version o v) h (sym made);
+  operand = tt;
+}
+
+pub stored-prefix : (o : Op) (v : Version) → (o ≡ op.Equal) ⊎ (o ≡ op.NotEqual) → IsVersion v →
+    IsTrue (is_final v) → IsStored o (stored.Prefix v)
+stored-prefix o v (inl e) h final = subst (λ o. IsStored o (stored.Prefix v)) (sym e) (record {
+  operator = refl;
+  valid = IsVersion-prefix_of v h;
+  operand = final;
+})
+stored-prefix o v (inr e) h final = subst (λ o. IsStored o (stored.Prefix v)) (sym e) (record {
+  operator = refl;
+  valid = IsVersion-prefix_of v h;
+  operand = final;
+})
+
+-- ---- its operand
+
+parts-version : (o : Op) (v : Version) → IsValidClause (of_version o v) →
+    version_part v ≡ operand (of_version o v)
+parts-version op.Compatible v h = refl
+parts-version op.Equal v h = refl
+parts-version op.NotEqual v h = refl
+parts-version op.AtMost v h = refl
+parts-version op.AtLeast v h = refl
+parts-version op.Less v h = refl
+parts-version op.More v h = refl
+parts-version op.Exact v h = cc h
+
+parts-prefix : (o : Op) (p : Prefix) → prefix_part p ≡ operand (of_prefix o p)
+parts-prefix op.Compatible p = refl
+parts-prefix op.Equal p = refl
+parts-prefix op.NotEqual p = refl
+parts-prefix op.AtMost p = refl
+parts-prefix op.AtLeast p = refl
+parts-prefix op.Less p = refl
+parts-prefix op.More p = refl
+parts-prefix op.Exact p = refl
+
+pub parts-clause_of : (o : Op) (x : Operand) → IsStored o x → operand_parts x ≡ operand (clause_of o x)
+parts-clause_of o (stored.Version v) h = parts-version o v h.valid
+parts-clause_of o (stored.Prefix v) h = parts-prefix o (prefix_of v)
+parts-clause_of o (stored.Text t) h = refl
+
+-- ---- what it says
+
+pub says-made : (o : Op) (w v : Version) (b : Bool) → version_clause o w ≡ Ok (of_version o w) →
+    (o ≢ op.Exact → b ≡ admits (of_version o w) v) → Some b ≡ says (version_clause o w) v
+says-made o w v b made told =
+    ap (λ t. Some t) (told (λ e. exact_made w (subst (λ o. version_clause o w ≡ Ok (of_version o w)) e made)))
+    ∙ ap (λ answer. says answer v) (sym made)
+  where
+    exact_made : (w : Version) → ¬ (version_clause op.Exact w ≡ Ok (of_version op.Exact w))
+    exact_made w e = cc e
+
+pub says-refused : (o : Op) (w v : Version) (e : ClauseFault) → version_clause o w ≡ Err e →
+    None ≡ says (version_clause o w) v
+says-refused o w v e made = ap (λ answer. says answer v) (sym made)
+
+-- the version of a clause that isn't of `===`
+pub differs-exact : (o : Op) (v : Version) → IsValidClause (of_version o v) → o ≢ op.Exact
+differs-exact o v h e = exact_valid v (subst (λ o. IsValidClause (of_version o v)) e h)
+  where
+    exact_valid : (v : Version) → ¬ IsValidClause (of_version op.Exact v)
+    exact_valid v h = cc h
+
+-- every operator but `!=` admits what has the prefix
+pub admits-of_prefix : (o : Op) (p : Prefix) (v : Version) → ¬ (o ≡ op.NotEqual) →
+    has_prefix p v ≡ admits (of_prefix o p) v
+admits-of_prefix op.NotEqual p v n = absurd (n refl)
+admits-of_prefix op.Compatible p v n = refl
+admits-of_prefix op.Equal p v n = refl
+admits-of_prefix op.AtMost p v n = refl
+admits-of_prefix op.AtLeast p v n = refl
+admits-of_prefix op.Less p v n = refl
+admits-of_prefix op.More p v n = refl
+admits-of_prefix op.Exact p v n = refl
