@@ -95,6 +95,10 @@ pub Table_eq-none_alike : ¬ (true ≡ same_table [] (named (codes "a") bare_ent
 Table_eq-none_alike e = cc e
 
 -- an entry of `a`
+pub Table_entries-none : ¬ ([] ≡ named (codes "a") bare_entry)
+Table_entries-none e = cc e
+
+-- an entry of `a`
 pub Table_get-nothing : ¬ (None ≡ entry_at (named (codes "a") bare_entry) (codes "a"))
 Table_get-nothing e = cc e
 

@@ -13,7 +13,7 @@ use Rattle.demands.specs.Verdict.{IsVerdict}
 use Rattle.reasons.proofs.FoundClashes.{some_version}
 use Rattle.reasons.specs.Apart.{AreApart, AreRising, HasOwn}
 use Rattle.reasons.specs.Asked.{AskedParts, with_claim, with_found}
-use Rattle.reasons.specs.Claims.{ClaimDemands, PlacedParts, entered, required}
+use Rattle.reasons.specs.Claims.{ClaimDemands, PlacedParts, entered, name_of, required}
 use Rattle.reasons.specs.ClaimSearch.{FindsApplying, FindsCounted}
 use Rattle.reasons.specs.Clash.{IsPartThatClashes}
 use Rattle.reasons.specs.ClashSearch.{AreEnough, IsLeast, StandsFor, without_extras}
@@ -119,6 +119,10 @@ with_claim-before_the_others e =
 
 abbrev required_on : ℕ → PlacedParts
 required_on n = record { input = 1; number = n; claim = required without_marker }
+
+-- the requirement `a[x]`
+pub Claim_name-an_extra : ¬ (codes "x" ≡ name_of (required (record without_marker { extras = codes "x" ∷ [] })))
+Claim_name-an_extra e = cc e
 
 -- a requirement on the second line
 pub with_found-place_before : ¬ (one_asked (required_on 1 ∷ []) ∷ []

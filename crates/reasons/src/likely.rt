@@ -33,10 +33,13 @@ impl Hint {
 fn between(clauses: &[Clause]) -> Bounds {
     let mut low = Place::least();
     let mut high = Place::end();
-    for clause in clauses.iter().filter(|clause| !clause.op().leaves_out()) {
-        if let Some(own) = Bounds::of(clause) {
-            low = low.later(own.low);
-            high = high.earlier(own.high);
+    for clause in clauses {
+        match Bounds::of(clause) {
+            Some(own) if !clause.op().leaves_out() => {
+                low = low.later(own.low);
+                high = high.earlier(own.high);
+            }
+            _ => {}
         }
     }
     Bounds { low, high }
