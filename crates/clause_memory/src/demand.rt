@@ -20,14 +20,13 @@ pub(crate) struct Demand {
 pub(crate) fn demand_of(clause: &Clause) -> Option<Demand>
     ensures { IfSome result (λ demand. DemandsRanges clause.now (demanded_ranges demand)) }
 {
-    let operator = clause.op();
-    if operator == Op::Exact {
+    if clause.op() == Op::Exact {
         return None;
     }
     let bounds = Bounds::of(clause)?;
     Some(Demand {
         bounds,
-        outside: operator.leaves_out(),
+        outside: clause.op().leaves_out(),
     })
 }
 
