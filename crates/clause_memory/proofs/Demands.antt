@@ -10,8 +10,8 @@ use Rattle.texts.proofs.ListLemmas.{nothing_in}
 use Rattle.pep_require.specs.LineParts.{BoundFrom}
 use Rattle.pep_require.specs.Reads.{IsBound}
 use Rattle.pep_require.proofs.BoundPieces.{bound_read, bound_whole, found_piece}
-use Rattle.demands.specs.LineDemands.{DemandsRanges}
-use Rattle.clause_memory.specs.Demand.{KnowsDemand, ReadsDemand, demanded_ranges}
+use Rattle.demands.specs.Way.LineDemands.{DemandsRanges}
+use Rattle.clause_memory.specs.Way.Demand.{KnowsDemand, ReadsDemand, demanded_ranges}
 use Rattle.clause_memory.specs.declared.demand.Demand.{Demand}
 
 -- a clause that all of a text is

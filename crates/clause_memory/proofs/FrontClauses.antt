@@ -18,10 +18,10 @@ use Rattle.pep_require.specs.LineParts.{BoundFrom}
 use Rattle.pep_require.specs.Reads.{IsBound}
 use Rattle.pep_require.proofs.BlankLemmas.{leading, leading_whole, no_leading}
 use Rattle.pep_require.proofs.BoundPieces.{bound_found}
-use Rattle.demands.specs.LineDemands.{AddsClause, DemandsRanges}
+use Rattle.demands.specs.Way.LineDemands.{AddsClause, DemandsRanges}
 use Rattle.demands.specs.Table.{EntryParts}
-use Rattle.clause_memory.specs.Taken.{DemandsFront, TakesFront, goes_on}
-use Rattle.clause_memory.specs.Demand.{KnowsDemand, ReadsDemand, demanded_ranges}
+use Rattle.clause_memory.specs.Way.Taken.{DemandsFront, TakesFront, goes_on}
+use Rattle.clause_memory.specs.Way.Demand.{KnowsDemand, ReadsDemand, demanded_ranges}
 use Rattle.clause_memory.specs.declared.demand.Demand.{Demand}
 
 -- ---- where a clause ends

@@ -38,13 +38,13 @@ use Rattle.pep_clause.specs.OperatorTable.{set_of}
 use Rattle.pep_require.specs.LineParts.{after_operator}
 use Rattle.pep_require.specs.Reads.{IsBound}
 use Rattle.pep_require.proofs.BlankLemmas.{leading, leading_blank, leading_whole}
-use Rattle.places.specs.Bounds.{HoldsPrefix, HoldsRelease, IsBetween}
+use Rattle.places.specs.Way.Bounds.{HoldsPrefix, HoldsRelease, IsBetween}
 use Rattle.places.specs.Place.{release_alone}
 use Rattle.places.specs.declared.bounds.Bounds.{Bounds}
-use Rattle.clause_memory.specs.Taken.{DemandsFront, goes_on}
-use Rattle.clause_memory.specs.Demand.{demanded_ranges}
-use Rattle.clause_memory.specs.Plain.{MakesClause, MakesDemand, NumberFrom, OperandFrom, is_release_byte, star_text}
-use Rattle.specifiers.specs.OperatorEnds.{leaves_out}
+use Rattle.clause_memory.specs.Way.Taken.{DemandsFront, goes_on}
+use Rattle.clause_memory.specs.Way.Demand.{demanded_ranges}
+use Rattle.clause_memory.specs.Way.Plain.{MakesClause, MakesDemand, NumberFrom, OperandFrom, is_release_byte, star_text}
+use Rattle.specifiers.specs.Way.OperatorEnds.{leaves_out}
 use Rattle.clause_memory.specs.declared.demand.Demand.{Demand}
 use Rattle.clause_memory.proofs.FrontClauses.{front_bound}
 

@@ -1,3 +1,1 @@
-pub mod Demand
-pub mod Taken
-pub mod Plain
+pub mod Way

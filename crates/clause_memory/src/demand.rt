@@ -1,8 +1,8 @@
 // What one clause demands.
 
 ghost use Rattle.std.specs.Prelude.{◌≡◌, IfErr, IfOk, IfSome};
-ghost use Rattle.demands.specs.LineDemands.{DemandsRanges};
-ghost use Rattle.clause_memory.specs.Demand.{KnowsDemand, demanded_ranges};
+ghost use Rattle.demands.specs.Way.LineDemands.{DemandsRanges};
+ghost use Rattle.clause_memory.specs.Way.Demand.{KnowsDemand, demanded_ranges};
 
 use pep_clause::{Clause, Op};
 use pep_require::{RequireFault, clause_at};

@@ -1,7 +1,7 @@
 //! A memory of clauses by their texts.
 
 ghost use Rattle.std.specs.Prelude.{◌≡◌, IfErr, IfOk, IfSome, Some, length, take};
-ghost use Rattle.clause_memory.specs.Demand.{IsRemembered, KnowsDemand, remembered_demand};
+ghost use Rattle.clause_memory.specs.Way.Demand.{IsRemembered, KnowsDemand, remembered_demand};
 
 use crate::demand::{Demand, demand_in};
 use pep_require::RequireFault;
@@ -81,7 +81,7 @@ impl Remembered {
 }
 
 impl OfText for Remembered {
-    ghost use Rattle.clause_memory.specs.Demand.{remembered_text};
+    ghost use Rattle.clause_memory.specs.Way.Demand.{remembered_text};
 
     ghost text = { remembered_text };
 
@@ -100,7 +100,7 @@ pub(crate) struct ClauseMemory {
 
 impl Model for ClauseMemory {
     ghost use Rattle.std.specs.Prelude.{All, ⊤};
-    ghost use Rattle.clause_memory.specs.Demand.{IsRemembered};
+    ghost use Rattle.clause_memory.specs.Way.Demand.{IsRemembered};
 
     ghost Value = { ⊤ };
 

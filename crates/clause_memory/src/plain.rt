@@ -2,9 +2,9 @@
 
 ghost use Rattle.std.specs.Prelude.{◌≡◌, ◌<◌, ◌≤◌, ◌++◌, ◌∷◌, IfSome, List, ℕ, false, length};
 ghost use Rattle.texts.specs.Runs.{begins, without_leading_blanks};
-ghost use Rattle.clause_memory.specs.Taken.{DemandsFront, goes_on};
-ghost use Rattle.clause_memory.specs.Demand.{demanded_ranges};
-ghost use Rattle.clause_memory.specs.Plain.{MakesDemand, NumberFrom, ReadsOperand};
+ghost use Rattle.clause_memory.specs.Way.Taken.{DemandsFront, goes_on};
+ghost use Rattle.clause_memory.specs.Way.Demand.{demanded_ranges};
+ghost use Rattle.clause_memory.specs.Way.Plain.{MakesDemand, NumberFrom, ReadsOperand};
 
 use crate::demand::Demand;
 use crate::taking::goes_on;

@@ -6,7 +6,7 @@ ghost use Rattle.pep_marker.specs.Judged.{TextSays};
 ghost use Rattle.pep_require.specs.LineParts.{RefusesMarker, RefusesWritten};
 ghost use Rattle.pep_require.specs.Reads.{ReadsUrl};
 ghost use Rattle.demands.specs.Gathering.{bare_entry};
-ghost use Rattle.clause_memory.specs.Taken.{DemandsUrl};
+ghost use Rattle.clause_memory.specs.Way.Taken.{DemandsUrl};
 
 use crate::memory::ClauseMemory;
 use demands::LineDemands;
@@ -89,7 +89,7 @@ fn put_url(alloc: Global, demands: &mut LineDemands, written: &str) -> Result<()
 }
 
 impl LineSink for DemandSink<'_> {
-    ghost use Rattle.clause_memory.specs.Taken.{HoldsLine};
+    ghost use Rattle.clause_memory.specs.Way.Taken.{HoldsLine};
 
     type Line = LineSoFar;
 

@@ -4,9 +4,9 @@ ghost use Rattle.std.specs.Prelude.{◌≡◌, ◌⊎◌, ◌≤◌, IfErr, IfOk
 ghost use Rattle.std.specs.List.{prefix_len};
 ghost use Rattle.specifiers.specs.Clause.{Clause};
 ghost use Rattle.pep_require.specs.LineParts.{RefusesBound};
-ghost use Rattle.demands.specs.LineDemands.{AddsClause, DemandsRanges};
-ghost use Rattle.clause_memory.specs.Demand.{demanded_ranges};
-ghost use Rattle.clause_memory.specs.Taken.{TakesFront, goes_on};
+ghost use Rattle.demands.specs.Way.LineDemands.{AddsClause, DemandsRanges};
+ghost use Rattle.clause_memory.specs.Way.Demand.{demanded_ranges};
+ghost use Rattle.clause_memory.specs.Way.Taken.{TakesFront, goes_on};
 
 use crate::demand::{Demand, demand_of};
 use crate::memory::ClauseMemory;

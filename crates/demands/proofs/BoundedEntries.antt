@@ -7,11 +7,11 @@ use Rattle.std.specs.declared.cmp.Ordering.TheVariants.{Less, Equal, Greater}
 use Rattle.pep_clause.specs.Cut.{Cut, cut_cmp}
 use Rattle.pep_clause.specs.OperatorTable.{range}
 use Rattle.pep_clause.specs.VersionSet.{IsNormal, Range}
-use Rattle.demands.specs.Finished.{ranges_entry}
+use Rattle.demands.specs.Way.Finished.{ranges_entry}
 use Rattle.demands.specs.Table.{EntryDemands, IsValidEntry}
 use Rattle.demands.specs.Verdict.{IsVerdict}
 use Rattle.demands.specs.declared.verdict.Verdict.TheVariants.{Possible, Nothing}
-use Rattle.places.specs.LeftOut.{spans}
+use Rattle.places.specs.Way.LeftOut.{spans}
 use Rattle.places.specs.declared.bounds.Bounds.{Bounds}
 use Rattle.demands.proofs.ValidEntries.{bare_valid}
 use Rattle.demands.proofs.Verdicts.{verdict_of_entry}

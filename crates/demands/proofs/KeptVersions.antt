@@ -5,7 +5,7 @@ use Rattle.std.proofs.Math.Bool.{and_assoc}
 use Rattle.std.specs.Ordering.{is_lt}
 use Rattle.texts.proofs.Connectives.{and_given}
 use Rattle.pep_clause.specs.Cut.{Cut, IsCut, cut_cmp, end, least}
-use Rattle.pep_clause.specs.Joined.{earlier, joined, later}
+use Rattle.pep_clause.specs.Way.Joined.{earlier, joined, later}
 use Rattle.pep_clause.specs.OperatorTable.{range}
 use Rattle.pep_clause.specs.VersionSet.{IsNormal, Range, all_versions, is_point}
 use Rattle.pep_clause.proofs.Between.{earlier-keeps, later-keeps}
@@ -14,7 +14,7 @@ use Rattle.pep_clause.proofs.LeastCut.{IsNormal-all_versions, point-all_versions
 use Rattle.pep_clause.proofs.NormalJoined.{IsNormal-joined, IsNormal-range}
 use Rattle.pep_clause.proofs.OneList.{same_points}
 use Rattle.demands.specs.Join.{IsIntersection}
-use Rattle.demands.specs.PartialJoins.{AreKept, AreNormal, joined_sets, kept_versions}
+use Rattle.demands.specs.Way.PartialJoins.{AreKept, AreNormal, joined_sets, kept_versions}
 use Rattle.demands.proofs.PartialJoins.{normal_sets}
 
 pub kept-normal : (l h : Cut) (s : List Range) → AreKept l h s → IsNormal (kept_versions l h s)

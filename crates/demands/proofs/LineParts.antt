@@ -8,10 +8,10 @@ use Rattle.pep_clause.specs.VersionSet.{IsNormal, Range, all_versions}
 use Rattle.pep_clause.proofs.LeastCut.{IsNormal-all_versions}
 use Rattle.pep_marker.specs.Name.{IsNormalName}
 use Rattle.pep_require.specs.Requirement.{RequirementParts, UrlParts, bounds}
-use Rattle.pep_require.specs.Sink.{more_clauses, with_clauses, with_name, with_target}
+use Rattle.pep_require.specs.Way.Sink.{more_clauses, with_clauses, with_name, with_target}
 use Rattle.demands.specs.Gathering.{MeetsClauses, bare_entry, target_clauses, target_urls, texts_of}
 use Rattle.demands.specs.Join.{IsIntersection, IsUnion}
-use Rattle.demands.specs.LineDemands.{AddsClause, AddsExtra, AddsUrl, DemandsEntry, DemandsRanges}
+use Rattle.demands.specs.Way.LineDemands.{AddsClause, AddsExtra, AddsUrl, DemandsEntry, DemandsRanges}
 use Rattle.demands.specs.Table.{EntryParts, is_url_text}
 use Rattle.demands.proofs.KeptSets.{union_more, union_none}
 use Rattle.demands.proofs.TakenClauses.{meets_more, meets_none, meets_one, meets_text, text_of_none, texts_append, texts_more}

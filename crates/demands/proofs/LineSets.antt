@@ -8,7 +8,7 @@ use Rattle.std.proofs.Common.{append_assoc}
 use Rattle.std.proofs.lemmas.List.{map_push}
 use Rattle.texts.proofs.Connectives.{and_given, and_given_second}
 use Rattle.pep_clause.specs.Cut.{Cut, end, least}
-use Rattle.pep_clause.specs.Joined.{joined}
+use Rattle.pep_clause.specs.Way.Joined.{joined}
 use Rattle.pep_clause.specs.VersionSet.{IsNormal, Range, all_versions, is_point}
 use Rattle.pep_clause.proofs.JoinedPoints.{is_point-joined}
 use Rattle.pep_clause.proofs.LeastCut.{point-all_versions}
@@ -16,9 +16,9 @@ use Rattle.places.specs.declared.bounds.Bounds.{Bounds}
 use Rattle.pep_require.specs.Requirement.{IsAscending}
 use Rattle.demands.specs.Gathering.{bare_entry}
 use Rattle.demands.specs.Join.{IsIntersection, IsUnion}
-use Rattle.demands.specs.LineSets.{AreLineSets, AreValidOthers, left_by, line_sets, line_versions}
-use Rattle.demands.specs.Others.{OtherParts, entry_with, no_others}
-use Rattle.demands.specs.PartialJoins.{AreNormal, joined_sets, kept_versions}
+use Rattle.demands.specs.Way.LineSets.{AreLineSets, AreValidOthers, left_by, line_sets, line_versions}
+use Rattle.demands.specs.Way.Others.{OtherParts, entry_with, no_others}
+use Rattle.demands.specs.Way.PartialJoins.{AreNormal, joined_sets, kept_versions}
 use Rattle.demands.specs.Table.{IsValidEntry}
 use Rattle.demands.proofs.KeptVersions.{kept-normal, last_two}
 use Rattle.demands.proofs.PartialJoins.{normal_behind, normal_sets, points_behind}

@@ -3,14 +3,14 @@ use Rattle.std.proofs.Common.{◌≡◌, ◌&&◌, List, [], ◌∷◌, ◌++◌
 use Rattle.std.proofs.Math.Bool.{and_assoc, and_comm}
 use Rattle.texts.proofs.Connectives.{and_given_second}
 use Rattle.pep_clause.specs.Cut.{Cut, IsCut}
-use Rattle.pep_clause.specs.Joined.{joined}
+use Rattle.pep_clause.specs.Way.Joined.{joined}
 use Rattle.pep_clause.specs.VersionSet.{IsNormal, Range, all_versions, is_point}
 use Rattle.pep_clause.proofs.JoinedPoints.{is_point-joined}
 use Rattle.pep_clause.proofs.LeastCut.{IsNormal-all_versions, point-all_versions}
 use Rattle.pep_clause.proofs.NormalJoined.{IsNormal-joined}
 use Rattle.pep_clause.proofs.OneList.{same_points}
 use Rattle.demands.specs.Join.{IsIntersection}
-use Rattle.demands.specs.PartialJoins.{AreNormal, joined_sets}
+use Rattle.demands.specs.Way.PartialJoins.{AreNormal, joined_sets}
 
 pub normal_sets : (sets : List (List Range)) → AreNormal sets → IsNormal (joined_sets sets)
 normal_sets [] h = IsNormal-all_versions

@@ -7,11 +7,6 @@ pub mod Join
 pub mod JoinLaws
 pub mod Code
 pub mod Gathering
-pub mod Collected
-pub mod Others
-pub mod PartialJoins
 pub mod IntersectionLaws
 pub mod EntryLaws
-pub mod Finished
-pub mod LineDemands
-pub mod LineSets
+pub mod Way

@@ -2,10 +2,10 @@
 
 ghost use Rattle.std.specs.Prelude.{◌≡◌, IfErr, IfOk, IsTrue, OnOk};
 ghost use Rattle.pep_clause.specs.Cut.{end, least};
-ghost use Rattle.pep_clause.specs.Joined.{joined};
+ghost use Rattle.pep_clause.specs.Way.Joined.{joined};
 ghost use Rattle.pep_clause.specs.OperatorTable.{outside, range};
 ghost use Rattle.pep_clause.specs.VersionSet.{IsNormal, all_versions};
-ghost use Rattle.demands.specs.Finished.{kept_ranges};
+ghost use Rattle.demands.specs.Way.Finished.{kept_ranges};
 ghost use Rattle.demands.specs.Join.{IsIntersection};
 
 use crate::fault::TableFault;
@@ -26,9 +26,9 @@ pub(crate) struct Beside {
 
 impl Model for Beside {
     ghost use Rattle.std.specs.Prelude.{List};
-    ghost use Rattle.pep_clause.specs.Joined.{joined};
+    ghost use Rattle.pep_clause.specs.Way.Joined.{joined};
     ghost use Rattle.pep_clause.specs.VersionSet.{IsNormal, Range};
-    ghost use Rattle.demands.specs.PartialJoins.{AreNormal, joined_sets};
+    ghost use Rattle.demands.specs.Way.PartialJoins.{AreNormal, joined_sets};
 
     ghost Value = { List Range };
 

@@ -1,8 +1,8 @@
 // What is demanded of one package in all.
 
 ghost use Rattle.std.specs.Prelude.{◌≡◌, ◌≢◌, ◌<◌, ◌∷◌, [], IfErr, IfOk, IsOk, length, option_map};
-ghost use Rattle.demands.specs.Finished.{kept_ranges, other_parts};
-ghost use Rattle.demands.specs.Others.{entry_with, kept_others};
+ghost use Rattle.demands.specs.Way.Finished.{kept_ranges, other_parts};
+ghost use Rattle.demands.specs.Way.Others.{entry_with, kept_others};
 ghost use Rattle.demands.specs.Table.{EntryDemands, IsValidEntry};
 ghost use Rattle.demands.specs.Verdict.{IsEntryVerdict, IsVerdict};
 
@@ -23,8 +23,8 @@ pub struct Finished {
 
 impl Model for Finished {
     ghost use Rattle.std.specs.Prelude.{option_map};
-    ghost use Rattle.demands.specs.Finished.{kept_ranges};
-    ghost use Rattle.demands.specs.Others.{entry_with, kept_others};
+    ghost use Rattle.demands.specs.Way.Finished.{kept_ranges};
+    ghost use Rattle.demands.specs.Way.Others.{entry_with, kept_others};
     ghost use Rattle.demands.specs.Table.{EntryParts, IsValidEntry};
 
     ghost Value = { EntryParts };

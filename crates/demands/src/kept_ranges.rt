@@ -2,7 +2,7 @@
 
 ghost use Rattle.std.specs.Prelude.{◌≡◌, ◌↔◌, [], IfErr, IfOk, IsTrue};
 ghost use Rattle.pep_clause.specs.OperatorTable.{range};
-ghost use Rattle.demands.specs.Finished.{kept_ranges};
+ghost use Rattle.demands.specs.Way.Finished.{kept_ranges};
 
 use crate::entry::versions_copied;
 use crate::fault::TableFault;

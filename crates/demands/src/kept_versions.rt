@@ -6,11 +6,11 @@ ghost use Rattle.pep_clause.specs.Cut.{IsCut};
 ghost use Rattle.pep_clause.specs.OperatorTable.{outside, range, set_of};
 ghost use Rattle.pep_clause.specs.VersionSet.{Range, all_versions};
 ghost use Rattle.pep_require.specs.View.{target_parts};
-ghost use Rattle.demands.specs.Finished.{kept_ranges};
+ghost use Rattle.demands.specs.Way.Finished.{kept_ranges};
 ghost use Rattle.demands.specs.Gathering.{MeetsClauses, target_clauses};
 ghost use Rattle.demands.specs.Join.{IsIntersection};
-ghost use Rattle.demands.specs.LineSets.{left_by};
-ghost use Rattle.demands.specs.PartialJoins.{beside_versions, joined_sets};
+ghost use Rattle.demands.specs.Way.LineSets.{left_by};
+ghost use Rattle.demands.specs.Way.PartialJoins.{beside_versions, joined_sets};
 
 use crate::beside::Beside;
 use crate::fault::TableFault;
@@ -35,7 +35,7 @@ pub(crate) struct KeptVersions {
 impl Model for KeptVersions {
     ghost use Rattle.std.specs.Prelude.{List, option_map};
     ghost use Rattle.pep_clause.specs.VersionSet.{Range};
-    ghost use Rattle.demands.specs.PartialJoins.{AreKept, beside_versions, kept_versions};
+    ghost use Rattle.demands.specs.Way.PartialJoins.{AreKept, beside_versions, kept_versions};
 
     ghost Value = { List Range };
 

@@ -7,7 +7,7 @@ ghost use Rattle.pep_clause.specs.OperatorTable.{outside, range};
 ghost use Rattle.pep_clause.specs.VersionSet.{IsNormal};
 ghost use Rattle.pep_require.specs.Requirement.{UrlParts};
 ghost use Rattle.demands.specs.Gathering.{bare_entry};
-ghost use Rattle.demands.specs.LineDemands.{AddsClause, AddsExtra, AddsUrl, DemandsRanges};
+ghost use Rattle.demands.specs.Way.LineDemands.{AddsClause, AddsExtra, AddsUrl, DemandsRanges};
 ghost use Rattle.demands.specs.Table.{IsValidEntry, is_url_text};
 
 use crate::others::Others;
@@ -33,8 +33,8 @@ pub struct LineDemands {
 }
 
 impl Model for LineDemands {
-    ghost use Rattle.demands.specs.LineSets.{AreLineSets, AreValidOthers, line_versions};
-    ghost use Rattle.demands.specs.Others.{entry_with};
+    ghost use Rattle.demands.specs.Way.LineSets.{AreLineSets, AreValidOthers, line_versions};
+    ghost use Rattle.demands.specs.Way.Others.{entry_with};
     ghost use Rattle.demands.specs.Table.{EntryParts};
 
     ghost Value = { EntryParts };

@@ -5,7 +5,7 @@ ghost use Rattle.pep_require.specs.Requirement.{IsAscending};
 ghost use Rattle.pep_require.specs.View.{requirement_parts, target_parts};
 ghost use Rattle.demands.specs.Gathering.{bare_entry, target_clauses, target_urls, texts_of};
 ghost use Rattle.demands.specs.Join.{IsUnion};
-ghost use Rattle.demands.specs.Others.{
+ghost use Rattle.demands.specs.Way.Others.{
   JoinsOthers,
   TakesOthers,
   DemandsNothingElse,
@@ -34,7 +34,7 @@ pub(crate) struct Others {
 }
 
 impl Model for Others {
-    ghost use Rattle.demands.specs.Others.{OtherParts};
+    ghost use Rattle.demands.specs.Way.Others.{OtherParts};
 
     ghost Value = { OtherParts };
 
@@ -248,7 +248,7 @@ pub struct OtherTexts {
 }
 
 impl Model for OtherTexts {
-    ghost use Rattle.demands.specs.Others.{OtherParts};
+    ghost use Rattle.demands.specs.Way.Others.{OtherParts};
 
     ghost Value = { OtherParts };
 

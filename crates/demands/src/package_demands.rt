@@ -4,8 +4,8 @@ ghost use Rattle.std.specs.Prelude.{◌≡◌, IfErr, IfOk, OnOk, option_map};
 ghost use Rattle.pep_require.specs.View.{requirement_parts};
 ghost use Rattle.demands.specs.Gathering.{HasValidParts, TakesEntry, bare_entry};
 ghost use Rattle.demands.specs.Join.{JoinsEntries};
-ghost use Rattle.demands.specs.Others.{JoinsOthers, TakesOthers, kept_others};
-ghost use Rattle.demands.specs.Finished.{ranges_entry};
+ghost use Rattle.demands.specs.Way.Others.{JoinsOthers, TakesOthers, kept_others};
+ghost use Rattle.demands.specs.Way.Finished.{ranges_entry};
 ghost use Rattle.demands.specs.Table.{IsValidEntry};
 
 use crate::entry::Entry;
@@ -30,7 +30,7 @@ pub struct PackageDemands {
 
 impl Model for PackageDemands {
     ghost use Rattle.std.specs.Prelude.{option_map};
-    ghost use Rattle.demands.specs.Others.{entry_with, kept_others};
+    ghost use Rattle.demands.specs.Way.Others.{entry_with, kept_others};
     ghost use Rattle.demands.specs.Table.{EntryParts};
 
     ghost Value = { EntryParts };

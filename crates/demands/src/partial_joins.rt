@@ -5,7 +5,7 @@
 ghost use Rattle.std.specs.Prelude.{◌≡◌, ◌<◌, IfErr, IfOk, IsTrue, OnOk, length};
 ghost use Rattle.pep_clause.specs.VersionSet.{all_versions};
 ghost use Rattle.demands.specs.Join.{IsIntersection};
-ghost use Rattle.demands.specs.PartialJoins.{AreNormal, joined_sets};
+ghost use Rattle.demands.specs.Way.PartialJoins.{AreNormal, joined_sets};
 
 use crate::fault::TableFault;
 use pep_clause::VersionSet;

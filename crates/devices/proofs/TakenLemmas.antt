@@ -3,7 +3,7 @@ use Rattle.std.proofs.Common.{◌∙◌, ℕ, List, [], ◌∷◌, ◌++◌, Opt
 use Rattle.std.proofs.lemmas.List.{append-nil}
 use Rattle.std.specs.Prelude.{unwrap_or}
 use Rattle.std.specs.Io.KnownBytes.{Appends, append_known}
-use Rattle.devices.specs.Pieces.{TellsTaken, marked}
+use Rattle.devices.specs.Way.Pieces.{TellsTaken, marked}
 
 -- nothing is taken yet but what was told
 pub TellsTaken-first : (told : Option (List ℕ)) → TellsTaken (marked told) told []

@@ -1,3 +1,3 @@
 pub mod Device
 pub mod Folder
-pub mod Pieces
+pub mod Way

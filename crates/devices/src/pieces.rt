@@ -14,7 +14,7 @@ ghost use Rattle.std.specs.Prelude.{
   ℕ,
 };
 ghost use Rattle.std.specs.Io.KnownBytes.{Appends};
-ghost use Rattle.devices.specs.Pieces.{TellsTaken, marked};
+ghost use Rattle.devices.specs.Way.Pieces.{TellsTaken, marked};
 ghost use Rattle.texts.specs.TextOut.{Extends};
 
 use crate::device::{Failed, Sink};

@@ -1,7 +1,7 @@
 //! What was taken so far, for proofs alone: nothing of it is kept at run time.
 
 ghost use Rattle.std.specs.Prelude.{◌≡◌, ◌++◌, None};
-ghost use Rattle.devices.specs.Pieces.{marked};
+ghost use Rattle.devices.specs.Way.Pieces.{marked};
 
 use crate::device::Sink;
 use boxcar::tag::{Names, Tag};

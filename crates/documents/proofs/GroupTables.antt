@@ -16,7 +16,7 @@ use Rattle.toml.specs.declared.value.Value.{Value}
 use Rattle.pep_marker.specs.Name.{name_cmp, name_of}
 use Rattle.documents.specs.Groups.{Group, all_different, group_at, groups_of, has_group}
 use Rattle.documents.specs.Groups.{with_group}
-use Rattle.documents.specs.GroupViews.{arrays_at}
+use Rattle.documents.specs.Way.GroupViews.{arrays_at}
 use Rattle.documents.proofs.GroupLaws.{neither, or_right}
 use Rattle.documents.proofs.ProjectExtras.{nothing_found, or_nothing}
 

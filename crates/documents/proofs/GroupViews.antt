@@ -26,7 +26,7 @@ use Rattle.documents.specs.declared.groups.GroupWalk.{GroupWalk}
 use Rattle.documents.specs.Groups as groups
 use Rattle.documents.specs.Groups.{all_different, group_at, group_member, groups_in, groups_of, has_one}
 use Rattle.documents.specs.Groups.{include, included_name, text}
-use Rattle.documents.specs.GroupViews.{active_view, arrays_at, group_view, left_of, walk_view, walk_with}
+use Rattle.documents.specs.Way.GroupViews.{active_view, arrays_at, group_view, left_of, walk_view, walk_with}
 use Rattle.documents.specs.Texts.{lent_texts}
 use Rattle.documents.specs.GroupWalk.{ActiveGroup, going, is_active, open_at}
 use Rattle.documents.specs.GroupWalk.{open_group, refused, size_of, step, take_member, with_name}

@@ -17,7 +17,7 @@ use Rattle.pep_marker.specs.Name.{name_cmp, name_of}
 use Rattle.faults.specs.declared.fault.Cause.TheVariants as cause
 use Rattle.documents.specs.Document.{required, texts_of}
 use Rattle.documents.specs.Project.{Extra, extra_at, extras_of, has_extra, with_extra}
-use Rattle.documents.specs.ProjectExtras.{HasExtraTexts}
+use Rattle.documents.specs.Way.ProjectExtras.{HasExtraTexts}
 
 -- ---- tests joined by `||`
 

@@ -1,12 +1,11 @@
 pub mod Document
 pub mod EnvironmentFile
-pub mod GroupViews
 pub mod GroupWalk
 pub mod Groups
 pub mod LevelViews
 pub mod Nesting
 pub mod Project
-pub mod ProjectExtras
 pub mod ProjectRequirements
 pub mod RefusedProject
 pub mod Texts
+pub mod Way

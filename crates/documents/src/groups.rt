@@ -39,7 +39,7 @@ ghost use Rattle.documents.specs.GroupWalk.{
   take_member,
   size_of,
 };
-ghost use Rattle.documents.specs.GroupViews.{arrays_at, group_view, left_of, walk_view, walk_with};
+ghost use Rattle.documents.specs.Way.GroupViews.{arrays_at, group_view, left_of, walk_view, walk_with};
 ghost use Rattle.documents.specs.Texts.{lent_texts};
 
 use crate::document::name_in;

@@ -20,7 +20,8 @@ ghost use Rattle.pep_marker.specs.Name.{normalized};
 ghost use Rattle.pep_require.specs.Reads.{Reads};
 ghost use Rattle.pep_require.specs.View.{requirement_parts};
 ghost use Rattle.faults.specs.NoMemory.{no_memory};
-ghost use Rattle.documents.specs.ProjectRequirements.{AskedTexts, IsProjectOf};
+ghost use Rattle.documents.specs.ProjectRequirements.{IsProjectOf};
+ghost use Rattle.documents.specs.Way.AskedTexts.{AskedTexts};
 ghost use Rattle.documents.specs.Project.{
   checks_dynamic,
   extras_at,
@@ -29,7 +30,7 @@ ghost use Rattle.documents.specs.Project.{
   project_texts,
 };
 ghost use Rattle.documents.specs.Document.{document_of, required};
-ghost use Rattle.documents.specs.ProjectExtras.{HasExtraTexts};
+ghost use Rattle.documents.specs.Way.ProjectExtras.{HasExtraTexts};
 ghost use Rattle.documents.specs.RefusedProject.{IsRefusedProject, IsRefusedText};
 ghost use Rattle.documents.specs.Texts.{lent_texts};
 

@@ -21,14 +21,14 @@ use Rattle.documents.proofs.Projects.{one_project, refused_project}
 use Rattle.inputs.specs.declared.input.Input.{Input}
 use Rattle.inputs.specs.declared.input.Kind.{Kind}
 use Rattle.inputs.specs.declared.input.Kind.TheVariants as kind
-use Rattle.inputs.specs.GatheredLines.{GathersInputs}
+use Rattle.inputs.specs.Way.GatheredLines.{GathersInputs}
 use Rattle.inputs.specs.Gathered.{AcceptsBytes, BytesDemand, Gathered, IsAccepted}
 use Rattle.inputs.specs.Streams.{ReadsDefined}
 use Rattle.inputs.specs.Lists.{HoldsTable, IsListBy, IsRequirementList, Lists, content}
 use Rattle.inputs.specs.Lists.{requirement_lines}
 use Rattle.inputs.specs.Refusal.{IsRefused, IsUndefinedList}
 use Rattle.inputs.specs.TableFiles.{IsRefusedTable, IsTableFile, by_encoding, by_environment, by_size, by_text}
-use Rattle.inputs.specs.Wanted.{TakesWanted, Wanted}
+use Rattle.inputs.specs.Way.Wanted.{TakesWanted, Wanted}
 use Rattle.inputs.proofs.DefinedMarkers.{both_markers, undefined_project}
 use Rattle.inputs.proofs.ListLemmas.{line_of_list, refused_list}
 use Rattle.inputs.proofs.WantedDemands.{nothing_besides, part_joined, wanted_is_table}

@@ -30,11 +30,11 @@ use Rattle.documents.proofs.ReadTexts.{numbered, zip_append}
 use Rattle.inputs.specs.declared.gathering.DemandTaker.{DemandTaker}
 use Rattle.inputs.specs.declared.input.Input.{Input}
 use Rattle.inputs.specs.declared.input.Kind.TheVariants as kind
-use Rattle.inputs.specs.GatheredLines.{AreRead, GathersBytes, GathersInputs, RefusesAsInput, RefusesTexts}
-use Rattle.inputs.specs.LineReading.{TakesInTurn}
+use Rattle.inputs.specs.Way.GatheredLines.{AreRead, GathersBytes, GathersInputs, RefusesAsInput, RefusesTexts}
+use Rattle.inputs.specs.Way.LineReading.{TakesInTurn}
 use Rattle.inputs.specs.Refusal.{IsRefused, RefusesInputs, no_memory}
-use Rattle.inputs.specs.TakenTexts.{GathersText, RefusesTextIn}
-use Rattle.inputs.specs.Wanted.{TakesWanted, wanted_name}
+use Rattle.inputs.specs.Way.TakenTexts.{GathersText, RefusesTextIn}
+use Rattle.inputs.specs.Way.Wanted.{TakesWanted, wanted_name}
 use Rattle.inputs.proofs.AcceptedInputs.{refused_in}
 use Rattle.inputs.proofs.TakenLines.{in_turn-append}
 use Rattle.inputs.proofs.TakenTexts.{gathered_in_turn}

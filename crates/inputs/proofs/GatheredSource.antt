@@ -21,9 +21,9 @@ use Rattle.inputs.specs.Gathered.{AcceptsBytes, BytesDemand, Gathered, IsAccepte
 use Rattle.inputs.specs.Merge.{IsMerge}
 use Rattle.pep_table.specs.TableText.{IsTableText}
 use Rattle.inputs.proofs.MergeLemmas.{shows_verdicts}
-use Rattle.inputs.specs.GatheredLines.{GathersBytes}
-use Rattle.inputs.specs.LineReading.{RefusesSource, TakesInTurn, TakesSource}
-use Rattle.inputs.specs.LineReading as reading
+use Rattle.inputs.specs.Way.GatheredLines.{GathersBytes}
+use Rattle.inputs.specs.Way.LineReading.{RefusesSource, TakesInTurn, TakesSource}
+use Rattle.inputs.specs.Way.LineReading as reading
 use Rattle.pep_require.specs.Requirement.{RequirementParts}
 use Rattle.pep_marker.specs.Environment.{extra_in}
 use Rattle.std.specs.Prelude.{◌↔◌}
@@ -31,8 +31,8 @@ use Rattle.inputs.specs.Lists.{Lists, content, is_skipped, requirements_among}
 use Rattle.inputs.specs.Refusal.{IsRefused, no_memory}
 use Rattle.inputs.specs.Streams.{IsGoodLine, IsTableOfList, MayFollow, ReadsDefined}
 use Rattle.inputs.specs.Streams.{ReadsTable, RefusesReading, by_bytes, by_failure}
-use Rattle.inputs.specs.TakenTexts.{GathersText, RefusesTextIn}
-use Rattle.inputs.specs.Wanted.{Wanted}
+use Rattle.inputs.specs.Way.TakenTexts.{GathersText, RefusesTextIn}
+use Rattle.inputs.specs.Way.Wanted.{Wanted}
 use Rattle.inputs.proofs.AcceptedInputs.{bytes_demand_in, defined_all, refused_bytes}
 use Rattle.inputs.proofs.TakenTexts.{list_gathered, list_refused_in}
 use Rattle.inputs.proofs.WantedDemands.{nothing_besides, wanted_is_table, wanted_nothing}

@@ -7,15 +7,15 @@ use Rattle.std.specs.Borrow.{Bor}
 use Rattle.std.specs.List.{onto_first}
 use Rattle.std.specs.Prelude.{IfSome}
 use Rattle.texts.specs.Limits.{input_limit, line_limit}
-use Rattle.texts.specs.Split.{left_parts}
+use Rattle.texts.specs.Way.Split.{left_parts}
 use Rattle.pep_require.specs.declared.fault.RequireFault.TheVariants as fault
 use Rattle.faults.specs.declared.fault.Cause.{Cause}
 use Rattle.faults.specs.declared.fault.Cause.TheVariants as cause
 use Rattle.faults.specs.declared.fault.LineFault.{LineFault}
 use Rattle.faults.specs.declared.fault.LineFault.TheVariants as line_fault
 use Rattle.documents.specs.RefusedProject.{IsNumbered}
-use Rattle.inputs.specs.LineReading.{IsCauseOf, IsHeld, RefusesEnded, RefusesHeld, RefusesLineBytes}
-use Rattle.inputs.specs.LineReading.{RefusesList, RefusesPiece}
+use Rattle.inputs.specs.Way.LineReading.{IsCauseOf, IsHeld, RefusesEnded, RefusesHeld, RefusesLineBytes}
+use Rattle.inputs.specs.Way.LineReading.{RefusesList, RefusesPiece}
 use Rattle.inputs.specs.Lists.{lines_of}
 use Rattle.inputs.specs.Refusal.{by_length, by_line, by_size, no_line}
 use Rattle.inputs.proofs.ListLemmas.{line_known}

@@ -9,9 +9,9 @@ use Rattle.std.proofs.KnownBytes.{Consumes-kept, Consumes-nil, Consumes-trans}
 use Rattle.faults.specs.declared.fault.Cause.{Cause}
 use Rattle.faults.specs.declared.fault.Cause.TheVariants as cause
 use Rattle.faults.specs.declared.fault.LineFault.{LineFault}
-use Rattle.inputs.specs.LineReading.{HasTaken, RefusesEnded, RefusesList, RefusesPiece}
-use Rattle.inputs.specs.LineReading.{RefusesSource, TakesLine, TakesSource}
-use Rattle.inputs.specs.LineReading.{by_bytes, by_failure}
+use Rattle.inputs.specs.Way.LineReading.{HasTaken, RefusesEnded, RefusesList, RefusesPiece}
+use Rattle.inputs.specs.Way.LineReading.{RefusesSource, TakesLine, TakesSource}
+use Rattle.inputs.specs.Way.LineReading.{by_bytes, by_failure}
 use Rattle.inputs.specs.Lists.{input_limit, lines_of}
 use Rattle.inputs.specs.Refusal.{by_size}
 use Rattle.inputs.specs.Streams.{MayFollow, ReadsUpTo}

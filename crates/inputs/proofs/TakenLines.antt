@@ -8,12 +8,12 @@ use Rattle.std.proofs.lemmas.List.{map-append}
 use Rattle.std.proofs.lemmas.List.Elements.{All-from_recursion, filter-append}
 use Rattle.std.specs.Borrow.{Bor}
 use Rattle.texts.specs.Limits.{line_limit}
-use Rattle.texts.specs.Split.{left_parts}
+use Rattle.texts.specs.Way.Split.{left_parts}
 use Rattle.faults.specs.declared.fault.LineFault.TheVariants as line_fault
 use Rattle.inputs.specs.Lists.{content, is_skipped, lines_of, requirements_among}
 use Rattle.texts.specs.Limits.{input_limit}
-use Rattle.inputs.specs.LineReading.{HasTaken, HasText, IsHeld, SoFar, TakesFound, TakesInTurn, TakesLine}
-use Rattle.inputs.specs.LineReading.{TakesLines}
+use Rattle.inputs.specs.Way.LineReading.{HasTaken, HasText, IsHeld, SoFar, TakesFound, TakesInTurn, TakesLine}
+use Rattle.inputs.specs.Way.LineReading.{TakesLines}
 use Rattle.inputs.specs.Refusal.{IsNoLine, by_encoding}
 use Rattle.inputs.proofs.LineTexts.{content_is_utf8, line_is_utf8}
 use Rattle.inputs.proofs.Pieces.{held_goes_on, left_lines, line_count, lines_go_on}

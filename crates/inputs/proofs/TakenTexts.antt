@@ -14,12 +14,12 @@ use Rattle.faults.specs.declared.fault.LineFault.{LineFault}
 use Rattle.faults.specs.declared.fault.LineFault.TheVariants as line_fault
 use Rattle.documents.proofs.Placed.{known}
 use Rattle.inputs.specs.declared.input.Kind.TheVariants as kind
-use Rattle.inputs.specs.GatheredLines.{GathersBytes, RefusesAsInput}
-use Rattle.inputs.specs.LineReading.{RefusesList, RefusesTextOf, TakesInTurn, TakesLines}
+use Rattle.inputs.specs.Way.GatheredLines.{GathersBytes, RefusesAsInput}
+use Rattle.inputs.specs.Way.LineReading.{RefusesList, RefusesTextOf, TakesInTurn, TakesLines}
 use Rattle.inputs.specs.Lists.{IsRequirementList, requirement_lines}
 use Rattle.inputs.specs.Refusal.{IsRefusedLine, IsRefusedList, by_content, by_line}
-use Rattle.inputs.specs.TakenTexts.{AddsText, GathersText, RefusesText, RefusesTextIn}
-use Rattle.inputs.specs.Wanted.{TakesWanted}
+use Rattle.inputs.specs.Way.TakenTexts.{AddsText, GathersText, RefusesText, RefusesTextIn}
+use Rattle.inputs.specs.Way.Wanted.{TakesWanted}
 use Rattle.inputs.proofs.ListLemmas.{line_known}
 use Rattle.inputs.proofs.WantedDemands.{all_wanted}
 

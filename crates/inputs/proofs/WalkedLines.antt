@@ -7,17 +7,17 @@ use Rattle.pep_marker.specs.Holds.{Truth}
 use Rattle.pep_marker.specs.Name.{IsNormalName}
 use Rattle.pep_require.specs.Reads.{Reads}
 use Rattle.pep_require.specs.Requirement.{HasUndefinedMarker, MarkerSays, RequirementParts}
-use Rattle.pep_require.specs.Sink.{IsWalked, with_extras}
-use Rattle.demands.specs.Collected.{collected_texts}
+use Rattle.pep_require.specs.Way.Sink.{IsWalked, with_extras}
+use Rattle.demands.specs.Way.Collected.{collected_texts}
 use Rattle.demands.specs.Gathering.{TakesIf, TakesRequirement}
 use Rattle.demands.specs.Join.{IsUnion}
-use Rattle.demands.specs.LineDemands.{DemandsEntry}
+use Rattle.demands.specs.Way.LineDemands.{DemandsEntry}
 use Rattle.demands.specs.Table.{EntryParts, TableParts}
 use Rattle.demands.proofs.KeptSets.{collected_rise, members_collected}
-use Rattle.clause_memory.specs.Taken.{HoldsLine}
+use Rattle.clause_memory.specs.Way.Taken.{HoldsLine}
 use Rattle.clause_memory.specs.declared.sink.LineSoFar.{LineSoFar}
-use Rattle.inputs.specs.TakenTexts.{GathersText}
-use Rattle.inputs.specs.Wanted.{wants}
+use Rattle.inputs.specs.Way.TakenTexts.{GathersText}
+use Rattle.inputs.specs.Way.Wanted.{wants}
 
 -- the requirement, with its extras in order and each once
 abbrev pub in_order : RequirementParts → RequirementParts

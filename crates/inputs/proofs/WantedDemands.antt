@@ -20,7 +20,7 @@ use Rattle.demands.specs.Gathering.{TakesIf}
 use Rattle.demands.specs.Join.{JoinsTables}
 use Rattle.demands.specs.Table.{EntryParts, HasExactPoints, IsTable, IsValidEntry, IsValidTable}
 use Rattle.demands.specs.Table.{TableDemands, TableParts, entry_at, names}
-use Rattle.inputs.specs.Wanted.{TakesWanted, Wanted, wanted_part, wants}
+use Rattle.inputs.specs.Way.Wanted.{TakesWanted, Wanted, wanted_part, wants}
 
 -- ---- demands that count
 

@@ -27,7 +27,7 @@ use Rattle.faults.specs.declared.fault.Place.TheVariants as place
 use Rattle.texts.specs.Bytes.{is_letter_or_digit}
 use Rattle.texts.specs.Limits.{line_limit}
 use Rattle.inputs.specs.Gathered.{BytesDemand, Gathered}
-use Rattle.inputs.specs.LineReading.{HasText}
+use Rattle.inputs.specs.Way.LineReading.{HasText}
 use Rattle.inputs.specs.Lists.{IsRequirementList}
 use Rattle.inputs.specs.Merge.{IsMerge}
 use Rattle.inputs.specs.Refusal.{IsNoLine, by_encoding, by_length, no_memory}

@@ -1,12 +1,9 @@
 pub mod Gathered
-pub mod GatheredLines
-pub mod LineReading
 pub mod ListedText
 pub mod Lists
 pub mod Merge
 pub mod Origins
 pub mod Refusal
-pub mod Wanted
-pub mod TakenTexts
 pub mod Streams
 pub mod TableFiles
+pub mod Way

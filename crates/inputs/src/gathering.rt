@@ -22,11 +22,11 @@ ghost use Rattle.pep_marker.specs.Environment.{EnvironmentParts};
 ghost use Rattle.pep_require.specs.LineParts.{RefusesLine};
 ghost use Rattle.pep_require.specs.Reads.{Reads};
 ghost use Rattle.pep_require.specs.Requirement.{RequirementParts};
-ghost use Rattle.pep_require.specs.Sink.{IsWalked};
+ghost use Rattle.pep_require.specs.Way.Sink.{IsWalked};
 ghost use Rattle.demands.specs.Table.{HasExactPoints, IsTable};
 ghost use Rattle.documents.specs.RefusedProject.{IsRefusedText};
 ghost use Rattle.documents.specs.Texts.{lent_texts};
-ghost use Rattle.inputs.specs.GatheredLines.{
+ghost use Rattle.inputs.specs.Way.GatheredLines.{
   AreRead,
   GathersBytes,
   GathersInputs,
@@ -34,11 +34,11 @@ ghost use Rattle.inputs.specs.GatheredLines.{
   RefusesTexts,
 };
 ghost use Rattle.inputs.specs.Gathered.{Gathered, IsAccepted};
-ghost use Rattle.inputs.specs.LineReading.{TakesInTurn};
+ghost use Rattle.inputs.specs.Way.LineReading.{TakesInTurn};
 ghost use Rattle.inputs.specs.Refusal.{RefusesInputs};
-ghost use Rattle.clause_memory.specs.Taken.{HoldsLine};
-ghost use Rattle.inputs.specs.TakenTexts.{GathersText, RefusesTextIn};
-ghost use Rattle.inputs.specs.Wanted.{
+ghost use Rattle.clause_memory.specs.Way.Taken.{HoldsLine};
+ghost use Rattle.inputs.specs.Way.TakenTexts.{GathersText, RefusesTextIn};
+ghost use Rattle.inputs.specs.Way.Wanted.{
   Wanted,
   wanted_name,
   wants,
@@ -81,8 +81,8 @@ pub(crate) struct DemandTaker<'a> {
 }
 
 impl Taker for DemandTaker<'_> {
-    ghost use Rattle.inputs.specs.TakenTexts.{GathersText, RefusesTextIn};
-    ghost use Rattle.inputs.specs.Wanted.{wanted_name};
+    ghost use Rattle.inputs.specs.Way.TakenTexts.{GathersText, RefusesTextIn};
+    ghost use Rattle.inputs.specs.Way.Wanted.{wanted_name};
 
     type Taken = Gathering;
 

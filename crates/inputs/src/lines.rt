@@ -21,11 +21,11 @@ ghost use Rattle.std.specs.Prelude.{
 };
 ghost use Rattle.std.specs.List.{slice_split};
 ghost use Rattle.texts.specs.Limits.{line_limit};
-ghost use Rattle.texts.specs.Split.{left_parts};
+ghost use Rattle.texts.specs.Way.Split.{left_parts};
 ghost use Rattle.inputs.specs.Lists.{content, is_skipped};
 ghost use Rattle.texts.specs.Limits.{input_limit};
 ghost use Rattle.inputs.specs.Refusal.{IsNoLine};
-ghost use Rattle.inputs.specs.LineReading.{
+ghost use Rattle.inputs.specs.Way.LineReading.{
   HasTaken,
   HasText,
   IsHeld,

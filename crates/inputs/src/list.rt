@@ -31,7 +31,7 @@ struct RequirementTaker {
 impl Taker for RequirementTaker {
     ghost use Rattle.std.specs.Prelude.{map};
     ghost use Rattle.pep_require.specs.View.{requirement_parts};
-    ghost use Rattle.inputs.specs.TakenTexts.{AddsText, RefusesText};
+    ghost use Rattle.inputs.specs.Way.TakenTexts.{AddsText, RefusesText};
 
     type Taken = Vec<Requirement>;
 

@@ -15,7 +15,7 @@ ghost use Rattle.std.specs.Prelude.{
 };
 ghost use Rattle.devices.specs.Device.{IsFresh};
 ghost use Rattle.inputs.specs.Lists.{input_limit};
-ghost use Rattle.inputs.specs.LineReading.{RefusesSource, TakesSource};
+ghost use Rattle.inputs.specs.Way.LineReading.{RefusesSource, TakesSource};
 ghost use Rattle.inputs.specs.Refusal.{no_memory};
 ghost use Rattle.inputs.specs.Streams.{ReadsTable, ReadsUpTo, RefusesReading, failed_read};
 

@@ -5,7 +5,7 @@ ghost use Rattle.demands.specs.Table.{IsValidTable, TableParts};
 ghost use Rattle.pep_table.specs.Refused.{IsRefusedAsTable};
 ghost use Rattle.pep_table.specs.TableText.{IsReadAs};
 ghost use Rattle.inputs.specs.TableFiles.{IsRefusedTable};
-ghost use Rattle.inputs.specs.Wanted.{IsPartOfFile, wanted_name, wanted_part};
+ghost use Rattle.inputs.specs.Way.Wanted.{IsPartOfFile, wanted_name, wanted_part};
 
 use faults::{Cause, LineFault};
 use pep_marker::{Environment, Name};

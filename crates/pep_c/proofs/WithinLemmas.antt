@@ -32,7 +32,8 @@ use Rattle.pep_c.specs.ClauseLists.{RefusesClauses}
 use Rattle.pep_c.specs.Ranges.{IsSetOfClauses, admits_in_range}
 use Rattle.pep_c.specs.Versions.{IsNoClause, RefusesVersion, clause_not_utf8, faulty_clause, no_version}
 use Rattle.pep_c.specs.Versions.{version_not_utf8}
-use Rattle.pep_c.specs.Within.{AllAdmit, LieWithin, RefusesSecond, first_demanded}
+use Rattle.pep_c.specs.Within.{AllAdmit, LieWithin, RefusesSecond}
+use Rattle.pep_c.specs.Way.Within.{first_demanded}
 
 -- ---- the text that is demanded
 

@@ -14,3 +14,4 @@ pub mod Split
 pub mod Versions
 pub mod Why
 pub mod Within
+pub mod Way

@@ -1,10 +1,9 @@
 -- Whether clauses admit no version that others don't.
-use Rattle.std.specs.Prelude.{◌≡◌, ℤ, ◌↔◌, ℕ, Bool, IsTrue, List, [], ◌∷◌, Option, None}
+use Rattle.std.specs.Prelude.{◌≡◌, ℤ, ◌↔◌, ℕ, Bool, IsTrue, List}
 use Rattle.std.specs.List.{list_all}
-use Rattle.std.specs.Option.{option_or}
 use Rattle.pep_version.specs.Version.{IsVersion, Version}
 use Rattle.specifiers.specs.Admits.{admits}
-use Rattle.specifiers.specs.Clause.{Clause, demanded_text}
+use Rattle.specifiers.specs.Clause.{Clause}
 use Rattle.faults.specs.declared.fault.Fault.{Fault}
 use Rattle.faults.specs.declared.fault.Place.TheVariants as place
 use Rattle.pep_c.specs.ClauseLists.{AreClauses, RefusesClauses}
@@ -40,10 +39,3 @@ pub data RefusesWithin (bytes others : List ℕ) (fault : Fault) : Type 0 where
   by_first : RefusesClauses bytes fault → RefusesWithin bytes others fault
   by_second : (cs : List Clause) → AreClauses bytes cs → RefusesSecond others fault →
       RefusesWithin bytes others fault
-
--- ---- the code's way
-
--- the text that the first clause with `===` demands, if there is one
-abbrev pub first_demanded : List Clause → Option (List ℕ)
-first_demanded [] = None
-first_demanded (c ∷ cs) = option_or (demanded_text c) (first_demanded cs)

@@ -18,13 +18,8 @@ ghost use Rattle.faults.specs.NoMemory.{no_memory};
 ghost use Rattle.pep_c.specs.ClauseLists.{AreClauses};
 ghost use Rattle.pep_c.specs.Ranges.{IsSetOfClauses};
 ghost use Rattle.pep_c.specs.Room.{GivesNothing, TellsRefusal};
-ghost use Rattle.pep_c.specs.Within.{
-  IsWithin,
-  LieWithin,
-  RefusesSecond,
-  RefusesWithin,
-  first_demanded,
-};
+ghost use Rattle.pep_c.specs.Within.{IsWithin, LieWithin, RefusesSecond, RefusesWithin};
+ghost use Rattle.pep_c.specs.Way.Within.{first_demanded};
 
 use crate::clause_lists::{admits_all, clauses_of};
 use crate::ranges::set_of;

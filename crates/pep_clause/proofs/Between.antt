@@ -6,7 +6,7 @@ use Rattle.std.specs.Ordering.{is_lt, ordering_reverse}
 use Rattle.std.specs.Prelude.{if◌then◌else◌}
 use Rattle.std.specs.declared.cmp.Ordering.{Ordering}
 use Rattle.std.specs.declared.cmp.Ordering.TheVariants.{Less, Equal, Greater}
-use Rattle.pep_clause.specs.Joined.{earlier, later}
+use Rattle.pep_clause.specs.Way.Joined.{earlier, later}
 use Rattle.texts.proofs.Connectives.{and_given, and_given_second, and_not_given, not_given}
 use Rattle.texts.proofs.Connectives.{not_given_second}
 

@@ -9,8 +9,8 @@ use Rattle.pep_version.specs.Version.{Version}
 use Rattle.pep_clause.specs.Cut.{Cut, before, cut_cmp}
 use Rattle.pep_clause.specs.Laws.{cut_total}
 use Rattle.pep_clause.proofs.UnderCut.{is_in-is_point}
-use Rattle.pep_clause.specs.Joined.{all_within, are_within, range_joined, is_within, joined}
-use Rattle.pep_clause.specs.Joined.{row_joined, earlier, later}
+use Rattle.pep_clause.specs.Way.Joined.{all_within, are_within, range_joined, is_within, joined}
+use Rattle.pep_clause.specs.Way.Joined.{row_joined, earlier, later}
 use Rattle.pep_clause.specs.OperatorTable.{range}
 use Rattle.pep_clause.specs.VersionSet.{Range, is_in, is_point}
 use Rattle.pep_clause.proofs.Between.{below-earlier, below-not_above, is_between, less_told}

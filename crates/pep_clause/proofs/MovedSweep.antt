@@ -8,7 +8,7 @@ use Rattle.std.specs.declared.cmp.Ordering.{Ordering}
 use Rattle.std.specs.declared.cmp.Ordering.TheVariants.{Less, Equal, Greater}
 use Rattle.pep_clause.specs.Cut.{Cut, IsCut, cut_cmp}
 use Rattle.pep_clause.specs.Laws.{cut_total}
-use Rattle.pep_clause.specs.Joined.{SameBehind, earlier, joined, later, range_joined, row_joined}
+use Rattle.pep_clause.specs.Way.Joined.{SameBehind, earlier, joined, later, range_joined, row_joined}
 use Rattle.pep_clause.specs.OperatorTable.{range}
 use Rattle.pep_clause.specs.VersionSet.{IsNormal, Range}
 use Rattle.pep_clause.proofs.Between.{not_turned}

@@ -9,7 +9,7 @@ use Rattle.pep_clause.specs.VersionSet.{IsNormal, Range}
 use Rattle.pep_clause.proofs.Between.{below-later_first, below-later_second, earlier-keeps}
 use Rattle.pep_clause.proofs.Between.{earlier-not_above_first, earlier-not_above_second}
 use Rattle.pep_clause.proofs.Between.{later-keeps, less_told}
-use Rattle.pep_clause.specs.Joined.{earlier, later, range_joined, joined, row_joined}
+use Rattle.pep_clause.specs.Way.Joined.{earlier, later, range_joined, joined, row_joined}
 use Rattle.pep_clause.proofs.NormalLists.{AllAbove, AllAbove-append, Apart, Apart-append}
 use Rattle.pep_clause.proofs.NormalLists.{IsNormal-apart, IsNormal-from, IsNormal-spelled}
 use Rattle.pep_clause.proofs.NormalLists.{NoneBeyond, NoneBeyond-append, Spelled, Spelled-append}

@@ -11,7 +11,7 @@ use Rattle.std.specs.declared.cmp.Ordering.{Ordering}
 use Rattle.std.specs.declared.cmp.Ordering.TheVariants.{Less, Equal, Greater}
 use Rattle.pep_clause.proofs.Between.{below-earlier, below-not_above, earlier-keeps, is_between}
 use Rattle.pep_clause.proofs.Between.{less_told}
-use Rattle.pep_clause.specs.Joined.{earlier}
+use Rattle.pep_clause.specs.Way.Joined.{earlier}
 use Rattle.pep_clause.specs.Cut.{Cut, IsCut, before, cut_cmp}
 use Rattle.pep_clause.proofs.Density.{between_cuts}
 use Rattle.pep_clause.specs.SetEquality.{SameVersions, same_range, same_ranges, same_ranges-equiv}

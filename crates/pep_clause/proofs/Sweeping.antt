@@ -7,7 +7,7 @@ use Rattle.std.specs.Ordering.{is_lt}
 use Rattle.std.specs.Prelude.{if◌then◌else◌}
 use Rattle.pep_clause.specs.Cut.{Cut, cut_cmp}
 use Rattle.pep_clause.specs.Laws.{cut_total}
-use Rattle.pep_clause.specs.Joined.{earlier, joined, later, range_joined, row_joined}
+use Rattle.pep_clause.specs.Way.Joined.{earlier, joined, later, range_joined, row_joined}
 use Rattle.pep_clause.specs.OperatorTable.{range}
 use Rattle.pep_clause.specs.VersionSet.{HasFewRanges, IsNormal, Range}
 use Rattle.pep_clause.proofs.Between.{below-later_first, below-later_second, less_told}

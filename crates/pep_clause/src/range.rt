@@ -4,7 +4,7 @@ ghost use Rattle.std.specs.Prelude.{◌≡◌, ◌&&◌, ◌↔◌, ◌∷◌, [
 ghost use Rattle.std.specs.Prelude.{if◌then◌else◌};
 ghost use Rattle.std.specs.Cmp.{partial_equiv_from_equiv};
 ghost use Rattle.std.specs.declared.cmp.Ordering.TheVariants.{Less};
-ghost use Rattle.pep_clause.specs.Joined.{SameBehind, later, range_joined, is_within};
+ghost use Rattle.pep_clause.specs.Way.Joined.{SameBehind, later, range_joined, is_within};
 ghost use Rattle.pep_clause.specs.Cut.{IsCut, cut_cmp, is_under};
 ghost use Rattle.pep_clause.specs.OperatorTable.{range};
 ghost use Rattle.pep_clause.specs.SetEquality.{same_range, same_range-equiv};

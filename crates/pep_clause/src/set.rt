@@ -31,7 +31,7 @@ ghost use Rattle.specifiers.specs.Clause.{demanded_text, prefix_of};
 ghost use Rattle.specifiers.specs.ClauseView.{IsStored, clause_of, of_prefix, of_version};
 ghost use Rattle.pep_clause.specs.Cut.{Cut, IsCut, cut_cmp};
 ghost use Rattle.pep_clause.specs.Inhabited.{HasVersionUnlessEmpty};
-ghost use Rattle.pep_clause.specs.Joined.{all_within, are_within, joined};
+ghost use Rattle.pep_clause.specs.Way.Joined.{all_within, are_within, joined};
 ghost use Rattle.pep_clause.specs.OperatorTable.{between, outside, range, set_of};
 ghost use Rattle.pep_clause.specs.SetEquality.{SameVersions, same_ranges, same_ranges-equiv};
 ghost use Rattle.pep_clause.specs.VersionSet.{In, IsIncreasing, IsNormal, all_versions, cuts, is_in};
@@ -259,11 +259,7 @@ impl VersionSet {
     }
 
     // The versions that the clause of this operator and operand admits; all where it demands a text.
-    fn of_operand(
-        alloc: Global,
-        op: Op,
-        operand: &Operand,
-    ) -> Result<VersionSet, ClauseFault>
+    fn of_operand(alloc: Global, op: Op, operand: &Operand) -> Result<VersionSet, ClauseFault>
         requires { IsStored op operand.now }
         ensures list { IfOk result (λ s. s ≡ set_of (clause_of op operand.now)) }
         ensures faults { IfErr result (λ e. e ≡ ClauseFault.NoMemory) }

@@ -5,7 +5,7 @@ ghost use Rattle.std.specs.Ordering.{is_lt};
 ghost use Rattle.std.specs.declared.cmp.Ordering.TheVariants.{Less};
 ghost use Rattle.pep_clause.specs.Cut.{IsCut, cut_cmp};
 ghost use Rattle.pep_clause.specs.OperatorTable.{range};
-ghost use Rattle.pep_clause.specs.Joined.{SameBehind, joined, later, range_joined};
+ghost use Rattle.pep_clause.specs.Way.Joined.{SameBehind, joined, later, range_joined};
 ghost use Rattle.pep_clause.specs.VersionSet.{IsNormal};
 
 use crate::cut::Cut;

@@ -6,10 +6,10 @@ use Rattle.pep_marker.specs.Marker.{MarkerParts, comparisons, Token, open_parent
 use Rattle.pep_marker.specs.Marker.{close_parenthesis, and_word, or_word, operand, operator}
 use Rattle.pep_marker.specs.Marker.{IsOrChain, one_chain, or_chain, IsAndChain, one_item, and_chain}
 use Rattle.pep_marker.specs.Marker.{IsItem, comparison, parentheses, opened, operators}
-use Rattle.pep_marker.specs.Chains.{ItemFrom, comparison_from, parentheses_from, PartFrom}
-use Rattle.pep_marker.specs.Chains.{item_part, chain_part, ChainFrom, parts_from, RestFrom}
-use Rattle.pep_marker.specs.Chains.{rest_end, rest_more, ends, ends_and, ends_or, part_ends, joined}
-use Rattle.pep_marker.specs.Chains.{link_word}
+use Rattle.pep_marker.specs.Way.Chains.{ItemFrom, comparison_from, parentheses_from, PartFrom}
+use Rattle.pep_marker.specs.Way.Chains.{item_part, chain_part, ChainFrom, parts_from, RestFrom}
+use Rattle.pep_marker.specs.Way.Chains.{rest_end, rest_more, ends, ends_and, ends_or, part_ends, joined}
+use Rattle.pep_marker.specs.Way.Chains.{link_word}
 use Rattle.pep_marker.specs.declared.chains.Link.{Link}
 use Rattle.pep_marker.specs.declared.chains.Link.TheVariants.{And, Or}
 

@@ -4,18 +4,18 @@ use Rattle.std.proofs.Common.{sym, ap, refl, subst, ◌∙◌, add-one, arith}
 use Rattle.std.proofs.Common.{inl, inr, length, map, get_or, drop, take, ◌≤◌, []}
 use Rattle.std.specs.Prelude.{Result, Ok, Err, IfOk}
 use Rattle.std.proofs.lemmas.List.{length-map, take_all}
-use Rattle.pep_marker.specs.Token.{lexeme_of, operand_of, token_of}
+use Rattle.pep_marker.specs.Way.Token.{lexeme_of, operand_of, token_of}
 use Rattle.pep_marker.specs.declared.token.Lexeme.TheVariants as lexeme
 use Rattle.pep_marker.specs.declared.token.Side.{Side}
 use Rattle.pep_marker.specs.declared.fault.MarkerFault.{MarkerFault}
 use Rattle.pep_marker.specs.declared.token.Token as cut
 use Rattle.pep_marker.specs.Marker.{MarkerParts, comparisons, Token, open_parenthesis, AreTooMany}
 use Rattle.pep_marker.specs.Marker.{close_parenthesis, Operand, Operator, compare, operand, operator}
-use Rattle.pep_marker.specs.Chains.{ItemFrom, comparison_from, parentheses_from, PartFrom}
-use Rattle.pep_marker.specs.Chains.{ChainFrom, parts_from, RestFrom}
-use Rattle.pep_marker.specs.Chains.{rest_end, rest_more, ends, ends_or, part_ends, joined}
-use Rattle.pep_marker.specs.Chains.{link_word, NoItem, NoPart, NoChain}
-use Rattle.pep_marker.specs.Chains.{is_closed, Refuses}
+use Rattle.pep_marker.specs.Way.Chains.{ItemFrom, comparison_from, parentheses_from, PartFrom}
+use Rattle.pep_marker.specs.Way.Chains.{ChainFrom, parts_from, RestFrom}
+use Rattle.pep_marker.specs.Way.Chains.{rest_end, rest_more, ends, ends_or, part_ends, joined}
+use Rattle.pep_marker.specs.Way.Chains.{link_word, NoItem, NoPart, NoChain}
+use Rattle.pep_marker.specs.Way.Chains.{is_closed, Refuses}
 use Rattle.pep_marker.specs.declared.chains.Link.{Link}
 use Rattle.pep_marker.specs.declared.chains.Link.TheVariants.{Or}
 use Rattle.pep_marker.proofs.ChainLaws.{same_part, same_chain, moved, more, goes_on, behind_one}

@@ -4,7 +4,7 @@ use Rattle.pep_marker.specs.Marker.{MarkerParts, compare, and, or, Token}
 use Rattle.pep_marker.specs.Marker.{IsOrChain, one_chain, or_chain, IsAndChain, one_item, and_chain}
 use Rattle.pep_marker.specs.Marker.{IsItem, comparison, parentheses}
 use Rattle.pep_marker.specs.MarkerText.{is_comparison, is_or}
-use Rattle.pep_marker.specs.MarkerTokens.{closed_tokens, marker_tokens}
+use Rattle.pep_marker.specs.Way.MarkerTokens.{closed_tokens, marker_tokens}
 
 -- ---- one parenthesis more may be open
 

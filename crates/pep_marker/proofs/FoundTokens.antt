@@ -25,9 +25,9 @@ use Rattle.pep_marker.specs.Marker.{operand, operator, variable, text, version_o
 use Rattle.pep_marker.specs.Marker.{is_not_in, is_quote, is_word_byte, IsToken, ends_before}
 use Rattle.texts.specs.Runs.{begins, IsBlank}
 use Rattle.texts.specs.Bytes.{is_blank_byte}
-use Rattle.pep_marker.specs.TokenReading.{next_token, word_token, text_token, operator_token}
-use Rattle.pep_marker.specs.TokenReading.{word_of, word_run, in_behind, not_in_token}
-use Rattle.pep_marker.specs.TokenReading.{is_quoted_byte}
+use Rattle.pep_marker.specs.Way.TokenReading.{next_token, word_token, text_token, operator_token}
+use Rattle.pep_marker.specs.Way.TokenReading.{word_of, word_run, in_behind, not_in_token}
+use Rattle.pep_marker.specs.Way.TokenReading.{is_quoted_byte}
 use Rattle.texts.proofs.RunLemmas.{all-run, ascii-class, begins-rest}
 use Rattle.pep_marker.proofs.TokenLaws.{found_at, same_found}
 use Rattle.texts.proofs.Connectives.{and_first, and_second, and_from, by_answer}

@@ -21,9 +21,12 @@ use Rattle.pep_marker.specs.declared.header.HeaderIn.{HeaderIn}
 use Rattle.pep_marker.specs.declared.header.HeaderIn.TheVariants.{Missing, Own, Other, Bad}
 use Rattle.pep_marker.specs.Environment.{EnvironmentParts, IsEnvironment, is_value, place}
 use Rattle.pep_marker.specs.Environment.{value_of, variable_name, variables}
-use Rattle.pep_marker.specs.Header.{DifferAt, FindsHeader, FindsLines, IsHeaderValue, further}
-use Rattle.pep_marker.specs.Header.{form_line, found_behind, header, header_line, header_lines}
-use Rattle.pep_marker.specs.Header.{header_value, here, named_line, named_lines}
+use Rattle.pep_marker.specs.Header.{DifferAt, FindsHeader, further}
+use Rattle.pep_marker.specs.Way.HeaderLines.{FindsLines, IsHeaderValue}
+use Rattle.pep_marker.specs.Header.{form_line, header, header_line, header_lines}
+use Rattle.pep_marker.specs.Way.HeaderLines.{found_behind}
+use Rattle.pep_marker.specs.Header.{header_value, here, named_line}
+use Rattle.pep_marker.specs.Way.HeaderLines.{named_lines}
 use Rattle.pep_marker.specs.Name.{begins_with_separator, normalized}
 use Rattle.pep_marker.proofs.NormalNames.{normalized-twice}
 use Rattle.pep_marker.proofs.VariableLemmas.{at_place}

@@ -7,9 +7,9 @@ use Rattle.pep_marker.specs.Marker.{MarkerParts, comparisons, Token, HasTokens, 
 use Rattle.pep_marker.specs.Marker.{IsMarker, is_word_byte, NoMarker, BeginsWith, IsNoMarker}
 use Rattle.pep_marker.specs.declared.fault.MarkerFault.{MarkerFault}
 use Rattle.pep_marker.specs.declared.fault.MarkerFault.TheVariants.{NoMemory}
-use Rattle.pep_marker.specs.Token.{token_of}
+use Rattle.pep_marker.specs.Way.Token.{token_of}
 use Rattle.pep_marker.specs.declared.token.Token as cut
-use Rattle.pep_marker.specs.Chains.{ChainFrom, NoChain, Refuses, ends_or}
+use Rattle.pep_marker.specs.Way.Chains.{ChainFrom, NoChain, Refuses, ends_or}
 use Rattle.pep_marker.specs.declared.chains.Link.TheVariants.{Or}
 use Rattle.pep_marker.proofs.ChainLaws.{chain_grammar, one_marker_of_tokens, same_chain}
 use Rattle.pep_marker.proofs.ChainLaws.{whole_from}
@@ -20,7 +20,7 @@ use Rattle.texts.proofs.Connectives.{and_first}
 use Rattle.std.specs.List.{list_all}
 use Rattle.texts.specs.Bytes.{is_blank_byte}
 use Rattle.pep_marker.specs.MarkerText.{marker_text}
-use Rattle.pep_marker.specs.MarkerTokens.{marker_tokens}
+use Rattle.pep_marker.specs.Way.MarkerTokens.{marker_tokens}
 
 -- the tokens of a text that is a marker
 tokens_are : (x : List ℕ) (ts : List Token) (m : MarkerParts) → HasTokens x ts →

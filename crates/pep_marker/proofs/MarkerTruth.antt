@@ -17,12 +17,12 @@ use Rattle.specifiers.proofs.OneAnswer.{one-answer, one-clause-of}
 use Rattle.specifiers.proofs.OneOperand.{equal_too}
 use Rattle.pep_marker.specs.Environment.{EnvironmentParts}
 use Rattle.pep_marker.specs.Holds.{Compares, Evaluates, Truth, both, is_extra}
-use Rattle.pep_marker.specs.ComparedView.{VersionsSay}
+use Rattle.pep_marker.specs.Way.ComparedView.{VersionsSay}
 use Rattle.pep_marker.specs.Holds.{operand_value, plain_truth}
 use Rattle.pep_marker.specs.Marker.{MarkerParts, Operator, and, compare, is_in, is_not_in, or}
 use Rattle.pep_marker.specs.Marker.{version_operator}
 use Rattle.pep_marker.specs.Name.{normalized}
-use Rattle.pep_marker.specs.Value.{IsMatchingOf, IsVersionOf}
+use Rattle.pep_marker.specs.Way.Value.{IsMatchingOf, IsVersionOf}
 use Rattle.std.specs.Borrow.{Bor}
 use Rattle.std.specs.Option.{option_copied}
 use Rattle.std.proofs.Common.{subst}

@@ -4,7 +4,7 @@ use Rattle.std.specs.List.{list_all}
 use Rattle.std.specs.Ordering.{nat_cmp}
 use Rattle.pep_marker.specs.Name.{IsNormalName, name_cmp}
 use Rattle.texts.specs.Bytes.{is_name_byte}
-use Rattle.texts.specs.Heads.{head_of}
+use Rattle.texts.specs.Way.Heads.{head_of}
 use Rattle.texts.proofs.Connectives.{and_first, and_second}
 use Rattle.texts.proofs.HeadLemmas as heads
 use Rattle.texts.proofs.HeadLemmas.{Small}

@@ -30,8 +30,8 @@ use Rattle.pep_marker.specs.Environment.{is_required, pair_fault, place, variabl
 use Rattle.pep_marker.specs.Environment.{variable_of, variables}
 use Rattle.pep_marker.specs.Pairs.{pair_texts}
 use Rattle.pep_marker.proofs.VariableLemmas.{of_own_name, one_place, variable_of-name}
-use Rattle.pep_marker.specs.Slots.{HoldsPairs, HoldsValues, Slots, slot, slot_fault, slot_texts}
-use Rattle.pep_marker.specs.Slots.{variable_fault}
+use Rattle.pep_marker.specs.Way.Slots.{HoldsPairs, HoldsValues, Slots, slot, slot_fault, slot_texts}
+use Rattle.pep_marker.specs.Way.Slots.{variable_fault}
 
 -- ---- the code's table of variables and their names
 

@@ -17,9 +17,9 @@ use Rattle.pep_marker.specs.Marker.{is_not_in, is_quote, is_word_byte, IsToken, 
 use Rattle.pep_marker.specs.Marker.{HasTokens, is_quotable}
 use Rattle.texts.specs.Runs.{begins, IsBlank, without_leading_blanks}
 use Rattle.texts.specs.Bytes.{is_blank_byte}
-use Rattle.pep_marker.specs.TokenReading.{next_token, word_token, text_token, operator_token}
-use Rattle.pep_marker.specs.TokenReading.{word_of, word_run, in_behind}
-use Rattle.pep_marker.specs.TokenReading.{is_quoted_byte}
+use Rattle.pep_marker.specs.Way.TokenReading.{next_token, word_token, text_token, operator_token}
+use Rattle.pep_marker.specs.Way.TokenReading.{word_of, word_run, in_behind}
+use Rattle.pep_marker.specs.Way.TokenReading.{is_quoted_byte}
 use Rattle.texts.proofs.RunLemmas.{prefix_len-span, run-span, rest-all, rest-span}
 use Rattle.texts.proofs.Connectives.{and_first, and_second, by_answer, not-true}
 

@@ -13,8 +13,8 @@ use Rattle.pep_marker.specs.Marker as syntax
 use Rattle.pep_marker.specs.Marker.{BeginsWith, HasTokens}
 use Rattle.texts.specs.Runs.{begins, IsBlank, without_leading_blanks}
 use Rattle.texts.specs.Bytes.{is_blank_byte}
-use Rattle.pep_marker.specs.Token.{AreSpans, AreSpansFrom, IsTokenAt, token_of}
-use Rattle.pep_marker.specs.TokenReading.{next_token}
+use Rattle.pep_marker.specs.Way.Token.{AreSpans, AreSpansFrom, IsTokenAt, token_of}
+use Rattle.pep_marker.specs.Way.TokenReading.{next_token}
 use Rattle.pep_marker.specs.declared.token.Token.{Token}
 use Rattle.pep_marker.proofs.FoundTokens.{Stands, boundary-token, token-stands, token_some}
 use Rattle.texts.proofs.RunLemmas.{all-rest, all-run, begins-rest, rest-all, rest-span}

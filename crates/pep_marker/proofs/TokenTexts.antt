@@ -14,11 +14,11 @@ use Rattle.pep_marker.specs.Marker.{IsOrChain, one_chain, or_chain, IsAndChain, 
 use Rattle.pep_marker.specs.Marker.{IsItem, comparison, parentheses, IsMarker, compare, and, or}
 use Rattle.pep_marker.specs.MarkerText.{operand_text, marker_operator_text, quote_of, is_or}
 use Rattle.pep_marker.specs.MarkerText.{is_comparison, in_parentheses, marker_text}
-use Rattle.pep_marker.specs.MarkerTokens.{closed_tokens, marker_tokens, IsQuotable}
-use Rattle.pep_marker.specs.MarkerTokens.{AreQuotable, IsQuotableOperand}
+use Rattle.pep_marker.specs.Way.MarkerTokens.{closed_tokens, marker_tokens, IsQuotable}
+use Rattle.pep_marker.specs.Way.MarkerTokens.{AreQuotable, IsQuotableOperand}
 use Rattle.texts.specs.Runs.{begins, IsBlank}
 use Rattle.texts.specs.Bytes.{is_blank_byte}
-use Rattle.pep_marker.specs.TokenReading.{is_quoted_byte}
+use Rattle.pep_marker.specs.Way.TokenReading.{is_quoted_byte}
 use Rattle.pep_marker.proofs.TokenLaws.{quote-either}
 use Rattle.texts.proofs.Connectives.{and_first, and_second, and_from, by_answer, or_second}
 

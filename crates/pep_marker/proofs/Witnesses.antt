@@ -17,7 +17,8 @@ use Rattle.specifiers.specs.declared.op.Op.TheVariants.{Compatible, Less}
 use Rattle.texts.specs.Bytes.{is_letter_or_digit, is_name_byte}
 use Rattle.pep_marker.specs.Environment.{EnvironmentParts, environment_of, is_value, pairs_fault}
 use Rattle.pep_marker.specs.Environment.{value_at, variable_name, variable_of}
-use Rattle.pep_marker.specs.Header.{found_behind, header_value}
+use Rattle.pep_marker.specs.Header.{header_value}
+use Rattle.pep_marker.specs.Way.HeaderLines.{found_behind}
 use Rattle.pep_marker.specs.Holds.{Compares, Evaluates}
 use Rattle.pep_marker.specs.Judged.{RefusesText}
 use Rattle.pep_marker.specs.Marker.{MarkerParts, compare, or, text, variable, version_operator}

@@ -1,12 +1,11 @@
 -- The lines in front of a table's text, which name the environment in which the table was made.
-use Rattle.std.specs.Prelude.{◌≡◌, ◌≢◌, ℕ, ◌+◌, ◌≤◌, ⊤, Bool, true, false, IsTrue, List, [], ◌∷◌, ◌++◌, codes, map}
-use Rattle.std.specs.List.{AllZip}
+use Rattle.std.specs.Prelude.{◌≡◌, ◌≢◌, ℕ, ◌+◌, List, ◌∷◌, ◌++◌, codes, map}
 use Rattle.texts.specs.Lines.{line, written}
 use Rattle.pep_marker.specs.declared.environment.Variable.{Variable}
 use Rattle.pep_marker.specs.declared.environment.Variable.TheVariants.{Extra}
 use Rattle.pep_marker.specs.declared.header.HeaderIn.{HeaderIn}
 use Rattle.pep_marker.specs.declared.header.HeaderIn.TheVariants.{Missing, Own, Other, Bad}
-use Rattle.pep_marker.specs.Environment.{EnvironmentParts, IsEnvironment, extra_in, is_value}
+use Rattle.pep_marker.specs.Environment.{EnvironmentParts, IsEnvironment, extra_in}
 use Rattle.pep_marker.specs.Environment.{value_of, variable_name, variables}
 use Rattle.pep_marker.specs.Name.{normalized}
 
@@ -52,39 +51,3 @@ FindsHeader e x (Other n rest) = (f : EnvironmentParts) × IsEnvironment f
     × (x ≡ header f ++ rest.now) × DifferAt (header_lines e) (header_lines f) n
 FindsHeader e x (Bad rest) = ((behind : List ℕ) × (x ≡ line form_line ++ behind))
     × ((f : EnvironmentParts) (behind : List ℕ) → IsEnvironment f → ¬ (x ≡ header f ++ behind))
-
--- ---- the lines of some variables: the code's way
-
--- a text that a header may have of a variable
-abbrev pub IsHeaderValue : Variable → List ℕ → Type 0
-IsHeaderValue Extra x = IsTrue (is_value x) × (normalized x ≡ x)
-IsHeaderValue v x = IsTrue (is_value x)
-
-abbrev pub named_lines : List Variable → List (List ℕ) → List (List ℕ)
-named_lines [] xs = []
-named_lines (v ∷ vs) [] = []
-named_lines (v ∷ vs) (x ∷ xs) = named_line v x ∷ named_lines vs xs
-
--- what stands in front of a text where the lines of these variables are due
-abbrev pub FindsLines : EnvironmentParts → List Variable → List ℕ → HeaderIn → Type 0
-FindsLines e vs x Missing = ⊥
-FindsLines e vs x (Own rest) = x ≡ written (map (header_line e) vs) ++ rest.now
-FindsLines e vs x (Other n rest) = (xs : List (List ℕ)) × AllZip IsHeaderValue vs xs
-    × (x ≡ written (named_lines vs xs) ++ rest.now)
-    × DifferAt (map (header_line e) vs) (named_lines vs xs) n
-FindsLines e vs x (Bad rest) = (xs : List (List ℕ)) (behind : List ℕ) → AllZip IsHeaderValue vs xs →
-    ¬ (x ≡ written (named_lines vs xs) ++ behind)
-
--- .. and where a line stands in front of it, which is the one that is due or another
-abbrev pub found_behind : Bool → HeaderIn → HeaderIn
-found_behind true (Own rest) = Own rest
-found_behind true (Other n rest) = Other (n + 1) rest
-found_behind false (Own rest) = Other 1 rest
-found_behind false (Other n rest) = Other 1 rest
-found_behind b (Bad rest) = Bad rest
-found_behind b Missing = Missing
-
--- a line that differs is one of so many
-abbrev pub IsWithin : ℕ → HeaderIn → Type 0
-IsWithin m (Other n rest) = n ≤ m
-IsWithin m _ = ⊤

@@ -2,7 +2,6 @@ pub mod Name
 pub mod NameText
 pub mod Environment
 pub mod Pairs
-pub mod Slots
 pub mod Header
 pub mod Marker
 pub mod MarkerText
@@ -11,9 +10,4 @@ pub mod Judged
 pub mod Code
 pub mod View
 pub mod NormalView
-pub mod Value
-pub mod ComparedView
-pub mod Token
-pub mod Chains
-pub mod TokenReading
-pub mod MarkerTokens
+pub mod Way

@@ -3,7 +3,7 @@
 
 ghost use Rattle.std.specs.Prelude.{◌≡◌, ℕ, ◌+◌, ◌≤◌, ◌∷◌, IfErr, IfNone, IfOk, IfSome, None};
 ghost use Rattle.std.specs.Prelude.{false, map, true};
-ghost use Rattle.pep_marker.specs.Chains.{
+ghost use Rattle.pep_marker.specs.Way.Chains.{
   ChainFrom,
   ItemFrom,
   NoChain,
@@ -21,7 +21,7 @@ ghost use Rattle.pep_marker.specs.Chains.{
 };
 ghost use Rattle.pep_marker.specs.Marker as syntax;
 ghost use Rattle.pep_marker.specs.Marker.{comparisons};
-ghost use Rattle.pep_marker.specs.Token.{operand_of, token_of};
+ghost use Rattle.pep_marker.specs.Way.Token.{operand_of, token_of};
 ghost use Rattle.pep_marker.specs.View.{operand_parts, operator_parts, tree_parts};
 
 use crate::fault::MarkerFault;

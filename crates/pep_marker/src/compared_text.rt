@@ -9,8 +9,8 @@ ghost use Rattle.specifiers.specs.Clause.{ClauseOf};
 ghost use Rattle.pep_marker.specs.Holds.{operand_value};
 ghost use Rattle.pep_marker.specs.Name.{normalized};
 ghost use Rattle.pep_marker.specs.NormalView.{normal_bytes};
-ghost use Rattle.pep_marker.specs.ComparedView.{VersionsSay, compared_bytes};
-ghost use Rattle.pep_marker.specs.Value.{IsVersionOf};
+ghost use Rattle.pep_marker.specs.Way.ComparedView.{VersionsSay, compared_bytes};
+ghost use Rattle.pep_marker.specs.Way.Value.{IsVersionOf};
 ghost use Rattle.pep_marker.specs.View.{operand_parts};
 
 use crate::environment::Environment;

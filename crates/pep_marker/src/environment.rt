@@ -15,7 +15,7 @@ ghost use Rattle.pep_marker.specs.Environment.{
   variable_of,
 };
 ghost use Rattle.pep_marker.specs.Pairs.{pair_texts};
-ghost use Rattle.pep_marker.specs.Slots.{HoldsValues, slot_texts};
+ghost use Rattle.pep_marker.specs.Way.Slots.{HoldsValues, slot_texts};
 
 use crate::fault::MarkerFault;
 use crate::slots::{Slots, free_variable, missing};

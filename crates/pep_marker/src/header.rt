@@ -4,17 +4,8 @@ ghost use Rattle.std.specs.Prelude.{◌≡◌, ◌++◌, ◌≤◌, ◌↔◌, I
 ghost use Rattle.std.specs.Prelude.{List, codes, length, map, string_bytes, true};
 ghost use Rattle.texts.specs.Lines.{line, written};
 ghost use Rattle.pep_marker.specs.Environment.{IsEnvironment, is_value};
-ghost use Rattle.pep_marker.specs.Header.{
-  FindsHeader,
-  FindsLines,
-  IsHeaderValue,
-  IsWithin,
-  found_behind,
-  header,
-  header_line,
-  header_value,
-  named_line,
-};
+ghost use Rattle.pep_marker.specs.Header.{FindsHeader, header, header_line, header_value, named_line};
+ghost use Rattle.pep_marker.specs.Way.HeaderLines.{FindsLines, IsHeaderValue, IsWithin, found_behind};
 
 use crate::environment::{Environment, NAMED, Variable};
 use crate::fault::MarkerFault;

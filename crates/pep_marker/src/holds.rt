@@ -13,7 +13,7 @@ ghost use Rattle.pep_marker.specs.Holds.{
 };
 ghost use Rattle.pep_marker.specs.Marker as syntax;
 ghost use Rattle.pep_marker.specs.Name.{normalized};
-ghost use Rattle.pep_marker.specs.ComparedView.{VersionsSay, compared_bytes};
+ghost use Rattle.pep_marker.specs.Way.ComparedView.{VersionsSay, compared_bytes};
 ghost use Rattle.pep_marker.specs.View.{marker_parts, operand_parts, operator_parts, tree_parts};
 
 use crate::compared_text::ComparedText;

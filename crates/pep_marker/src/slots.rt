@@ -2,7 +2,7 @@
 
 ghost use Rattle.std.specs.Prelude.{◌≡◌, ◌&&◌, None, Some, IfErr, IfOk, IsTrue, find, is_none};
 ghost use Rattle.pep_marker.specs.Environment.{is_required, is_value, variable_of, variables};
-ghost use Rattle.pep_marker.specs.Slots.{slot, slot_fault};
+ghost use Rattle.pep_marker.specs.Way.Slots.{slot, slot_fault};
 
 use crate::environment::{NAMED, Variable};
 use crate::fault::MarkerFault;

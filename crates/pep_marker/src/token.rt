@@ -7,9 +7,9 @@ ghost use Rattle.std.specs.Str.{IsCharBoundary};
 ghost use Rattle.pep_marker.specs.Marker as syntax;
 ghost use Rattle.pep_marker.specs.Marker.{BeginsWith, HasTokens, is_quote, is_word_byte};
 ghost use Rattle.texts.specs.Runs.{without_leading_blanks};
-ghost use Rattle.pep_marker.specs.Token.{AreSpans, IsTokenAt, found_of, lexeme_of, token_of};
-ghost use Rattle.pep_marker.specs.TokenReading.{in_behind, is_quoted_byte, next_token};
-ghost use Rattle.pep_marker.specs.TokenReading.{operator_token, text_token, word_of, word_token};
+ghost use Rattle.pep_marker.specs.Way.Token.{AreSpans, IsTokenAt, found_of, lexeme_of, token_of};
+ghost use Rattle.pep_marker.specs.Way.TokenReading.{in_behind, is_quoted_byte, next_token};
+ghost use Rattle.pep_marker.specs.Way.TokenReading.{operator_token, text_token, word_of, word_token};
 
 use crate::environment::Variable;
 use crate::fault::MarkerFault;
@@ -92,7 +92,7 @@ fn quoted_run(quote: u8, text: &[u8]) -> usize
 }
 
 // What a word is, `not` apart.
-#[tactic(auto, unfolding(crate::specs::TokenReading::word_of))]
+#[tactic(auto, unfolding(crate::specs::Way::TokenReading::word_of))]
 fn word_lexeme<'a>(word: &[u8]) -> Option<Lexeme<'a>>
     ensures { option_map lexeme_of result ≡ word_of word.now }
 {
@@ -110,7 +110,7 @@ fn word_lexeme<'a>(word: &[u8]) -> Option<Lexeme<'a>>
 }
 
 // How many bytes of white space and `in` stand behind a `not`.
-#[tactic(auto, unfolding(crate::specs::TokenReading::in_behind))]
+#[tactic(auto, unfolding(crate::specs::Way::TokenReading::in_behind))]
 fn in_behind(text: &[u8]) -> Option<usize>
     ensures count { result ≡ in_behind text.now }
     ensures within { IfSome result (λ n. n ≤ length text.now) }
@@ -126,7 +126,7 @@ fn in_behind(text: &[u8]) -> Option<usize>
 }
 
 // The token of a word, and how many bytes it is written in.
-#[tactic(auto, unfolding(crate::specs::TokenReading::word_token))]
+#[tactic(auto, unfolding(crate::specs::Way::TokenReading::word_token))]
 fn word_token<'a>(text: &[u8]) -> Option<(Lexeme<'a>, usize)>
     ensures { found_of result ≡ word_token text.now }
 {
@@ -140,7 +140,7 @@ fn word_token<'a>(text: &[u8]) -> Option<(Lexeme<'a>, usize)>
 }
 
 // The token of a text in quotes, from the byte behind the first one on.
-#[tactic(auto, unfolding(crate::specs::TokenReading::text_token))]
+#[tactic(auto, unfolding(crate::specs::Way::TokenReading::text_token))]
 fn text_token(quote: u8, text: &str) -> Option<(Lexeme<'_>, usize)>
     requires { IsTrue (is_quote quote) }
     ensures { found_of result ≡ text_token quote text.now }
@@ -157,7 +157,7 @@ fn text_token(quote: u8, text: &str) -> Option<(Lexeme<'_>, usize)>
 }
 
 // The operator in front of a text, and how many bytes it is written in.
-#[tactic(auto, unfolding(crate::specs::TokenReading::operator_token))]
+#[tactic(auto, unfolding(crate::specs::Way::TokenReading::operator_token))]
 fn operator_token<'a>(text: &[u8]) -> Option<(Lexeme<'a>, usize)>
     ensures { found_of result ≡ operator_token text.now }
 {
@@ -168,7 +168,7 @@ fn operator_token<'a>(text: &[u8]) -> Option<(Lexeme<'a>, usize)>
 
 // The token in front of a text that does not begin with white space, and how many bytes it is
 // written in.
-#[tactic(auto, unfolding(crate::specs::TokenReading::next_token))]
+#[tactic(auto, unfolding(crate::specs::Way::TokenReading::next_token))]
 fn next_token(text: &str) -> Option<(Lexeme<'_>, usize)>
     ensures { found_of result ≡ next_token text.now }
 {

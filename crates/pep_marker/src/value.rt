@@ -27,7 +27,7 @@ pub(crate) struct Value {
 impl Model for Value {
     ghost use Rattle.std.specs.Prelude.{◌≡◌, List, ℕ, string_bytes};
     ghost use Rattle.pep_marker.specs.Name.{normalized};
-    ghost use Rattle.pep_marker.specs.Value.{IsMatchingOf, IsVersionOf};
+    ghost use Rattle.pep_marker.specs.Way.Value.{IsMatchingOf, IsVersionOf};
 
     ghost Value = { List ℕ };
 

@@ -11,7 +11,7 @@ use Rattle.std.proofs.lemmas.Str.{IsUtf8-drop, IsUtf8-past_char, encode_ascii}
 use Rattle.texts.specs.Bytes.{is_blank_byte}
 use Rattle.texts.specs.Runs.{begins, without_leading_blanks}
 use Rattle.texts.proofs.RunLemmas.{all-run, begins-rest, rest-all}
-use Rattle.pep_require.specs.ExtrasParts.{NamesWithin, NoExtra, NoneWithin, no_names, some_names}
+use Rattle.pep_require.specs.Way.ExtrasParts.{NamesWithin, NoExtra, NoneWithin, no_names, some_names}
 use Rattle.pep_require.specs.Reads.{IsExtra}
 use Rattle.pep_require.proofs.ExtrasLoops.{one_more}
 use Rattle.pep_require.proofs.ExtrasPieces.{all_but, none_pass, one_part}

@@ -7,7 +7,7 @@ use Rattle.texts.proofs.Connectives.{by_answer}
 use Rattle.texts.specs.Runs.{begins}
 use Rattle.texts.specs.Bytes.{is_blank_byte}
 use Rattle.texts.proofs.RunLemmas.{rest-span, run-span}
-use Rattle.pep_require.specs.ExtrasParts.{NamesWithin, no_names, some_names}
+use Rattle.pep_require.specs.Way.ExtrasParts.{NamesWithin, no_names, some_names}
 use Rattle.pep_require.specs.LineParts.{ExtrasFrom, is_bracket}
 use Rattle.pep_require.specs.Reads.{IsExtra, NamesExtras, none, empty, listed}
 use Rattle.pep_require.specs.Requirement.{IsAscending}

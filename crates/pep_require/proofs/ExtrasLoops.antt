@@ -22,7 +22,7 @@ use Rattle.pep_marker.specs.Name.{name_of}
 use Rattle.texts.specs.Runs.{begins, without_leading_blanks}
 use Rattle.texts.specs.Bytes.{is_blank_byte}
 use Rattle.texts.proofs.RunLemmas.{all-rest}
-use Rattle.pep_require.specs.ExtrasParts.{NamesWithin, NoExtra, NoneWithin, no_names, some_names}
+use Rattle.pep_require.specs.Way.ExtrasParts.{NamesWithin, NoExtra, NoneWithin, no_names, some_names}
 use Rattle.pep_require.specs.LineParts.{ExtrasFrom, NoExtras, is_bracket}
 use Rattle.pep_require.specs.Reads.{IsExtra, NamesExtras, none, empty, listed}
 use Rattle.pep_require.specs.Requirement.{IsAscending}

@@ -17,7 +17,7 @@ use Rattle.pep_marker.specs.Name.{is_name, name_of, normalized}
 use Rattle.texts.specs.Runs.{begins, without_leading_blanks}
 use Rattle.texts.specs.Bytes.{is_blank_byte}
 use Rattle.texts.proofs.RunLemmas.{all-rest, rest-all, rest-span, run-span}
-use Rattle.pep_require.specs.ExtrasParts.{NoExtra}
+use Rattle.pep_require.specs.Way.ExtrasParts.{NoExtra}
 use Rattle.pep_require.specs.Reads.{IsExtra}
 use Rattle.pep_require.proofs.BlankLemmas.{leading, leading_blank, leading_whole}
 

@@ -3,10 +3,10 @@ use Rattle.std.proofs.Common.{◌≡◌, ℕ, List, Option, subst, sym}
 use Rattle.std.specs.Prelude.{Contains, ◌↔◌, option_map}
 use Rattle.pep_marker.specs.Marker.{MarkerParts}
 use Rattle.pep_marker.specs.View.{marker_parts}
-use Rattle.pep_require.specs.Kept.{Keeps}
+use Rattle.pep_require.specs.Way.Kept.{Keeps}
 use Rattle.pep_require.specs.Reads.{Reads}
 use Rattle.pep_require.specs.Requirement.{IsAscending, RequirementParts, TargetParts}
-use Rattle.pep_require.specs.Sink.{IsWalked, with_extras}
+use Rattle.pep_require.specs.Way.Sink.{IsWalked, with_extras}
 use Rattle.pep_require.specs.View.{target_parts}
 use Rattle.pep_require.specs.declared.keeping.Kept.{Kept}
 

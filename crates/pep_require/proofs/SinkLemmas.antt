@@ -8,7 +8,7 @@ use Rattle.pep_require.proofs.SortedNames.{collected_rise, collected_texts, memb
 use Rattle.pep_require.proofs.ExtrasLoops.{none_read}
 use Rattle.specifiers.specs.Clause.{Clause}
 use Rattle.pep_require.specs.Requirement.{IsAscending, RequirementParts, TargetParts, bounds, direct}
-use Rattle.pep_require.specs.Sink.{Adds, AddsClauses, AddsTarget, ExtrasNamed, more_clauses, targeted, with_clauses, with_extra, with_extras, with_name, with_named, with_target}
+use Rattle.pep_require.specs.Way.Sink.{Adds, AddsClauses, AddsTarget, ExtrasNamed, more_clauses, targeted, with_clauses, with_extra, with_extras, with_name, with_named, with_target}
 
 more : (cs ds : List Clause) (t : TargetParts) →
     more_clauses ds (more_clauses cs t) ≡ more_clauses (cs ++ ds) t

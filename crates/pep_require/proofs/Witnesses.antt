@@ -16,7 +16,7 @@ use Rattle.pep_require.specs.LineParts.{bad_ending, no_target}
 use Rattle.pep_require.specs.Requirement.{MarkerSays, UrlParts, bounds, direct}
 use Rattle.pep_require.specs.RequirementText.{requirement_text}
 use Rattle.pep_require.specs.declared.fault.RequireFault.TheVariants as fault
-use Rattle.pep_require.specs.Sink.{IsWalked, more_clauses, with_extra, with_extras, with_name}
+use Rattle.pep_require.specs.Way.Sink.{IsWalked, more_clauses, with_extra, with_extras, with_name}
 use Rattle.pep_require.proofs.ExtrasLoops.{none_read}
 use Rattle.pep_require.proofs.FaultLaws.{one_fault}
 use Rattle.pep_require.proofs.LineLaws.{refused_is_not_read}

@@ -9,7 +9,7 @@ ghost use Rattle.pep_require.specs.LineParts.{
   RefusesBounds,
   is_end,
 };
-ghost use Rattle.pep_require.specs.Sink.{AddsClauses};
+ghost use Rattle.pep_require.specs.Way.Sink.{AddsClauses};
 
 use crate::fault::RequireFault;
 use crate::front::{behind, stripped};

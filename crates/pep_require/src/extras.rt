@@ -16,11 +16,11 @@ ghost use Rattle.std.specs.Prelude.{
   not,
 };
 ghost use Rattle.std.specs.List.{prefix_len};
-ghost use Rattle.pep_require.specs.ExtrasParts.{NamesWithin, NoExtra, NoneWithin};
+ghost use Rattle.pep_require.specs.Way.ExtrasParts.{NamesWithin, NoExtra, NoneWithin};
 ghost use Rattle.pep_require.specs.LineParts.{RefusesExtras};
 ghost use Rattle.pep_require.specs.Reads.{IsExtra};
 ghost use Rattle.pep_require.specs.Requirement.{IsAscending};
-ghost use Rattle.pep_require.specs.Sink.{Adds, ExtrasNamed, with_named};
+ghost use Rattle.pep_require.specs.Way.Sink.{Adds, ExtrasNamed, with_named};
 
 use crate::fault::RequireFault;
 use crate::front::{behind, stripped};

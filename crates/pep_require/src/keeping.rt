@@ -2,7 +2,7 @@
 
 ghost use Rattle.std.specs.Prelude.{◌≡◌, ◌≤◌, ◌++◌, ◌∷◌, [], IfErr, IfOk, None, OnOk, length};
 ghost use Rattle.pep_require.specs.Requirement.{bounds};
-ghost use Rattle.pep_require.specs.Sink.{more_clauses};
+ghost use Rattle.pep_require.specs.Way.Sink.{more_clauses};
 ghost use Rattle.pep_require.specs.View.{target_parts};
 
 use crate::clauses::clause_at;
@@ -33,9 +33,9 @@ pub(crate) struct Kept {
 
 impl Kept {
     ghost use Rattle.std.specs.Prelude.{List, ℕ};
-    ghost use Rattle.pep_require.specs.Kept.{Keeps};
+    ghost use Rattle.pep_require.specs.Way.Kept.{Keeps};
     ghost use Rattle.pep_require.specs.Reads.{Reads};
-    ghost use Rattle.pep_require.specs.Sink.{IsWalked};
+    ghost use Rattle.pep_require.specs.Way.Sink.{IsWalked};
     ghost use Rattle.pep_require.specs.View.{requirement_parts};
 
     // Nothing of any line.
@@ -144,7 +144,7 @@ fn keep_extra(names: &mut Vec<Name>, name: Name, line: &str) -> Result<(), Requi
 }
 
 impl<'t> LineSink for Keeper<'t> {
-    ghost use Rattle.pep_require.specs.Kept.{Keeps};
+    ghost use Rattle.pep_require.specs.Way.Kept.{Keeps};
 
     type Line = Kept;
 

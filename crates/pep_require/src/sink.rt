@@ -12,7 +12,7 @@ ghost use Rattle.pep_require.specs.LineParts.{
 };
 ghost use Rattle.pep_require.specs.Reads.{ReadsUrl};
 ghost use Rattle.pep_require.specs.Requirement.{UrlParts, direct};
-ghost use Rattle.pep_require.specs.Sink.{
+ghost use Rattle.pep_require.specs.Way.Sink.{
   Adds,
   AddsClauses,
   AddsTarget,

@@ -6,7 +6,7 @@ ghost use Rattle.texts.specs.Runs.{begins};
 ghost use Rattle.texts.specs.Bytes.{is_blank_byte};
 ghost use Rattle.pep_require.specs.LineParts.{RefusesTarget, TargetFrom, is_bare_byte};
 ghost use Rattle.pep_require.specs.Requirement.{TargetParts};
-ghost use Rattle.pep_require.specs.Sink.{AddsTarget};
+ghost use Rattle.pep_require.specs.Way.Sink.{AddsTarget};
 
 use crate::clauses::walk_clauses;
 use crate::fault::RequireFault;

@@ -5,7 +5,7 @@ ghost use Rattle.pep_marker.specs.Marker.{MarkerParts};
 ghost use Rattle.pep_require.specs.LineParts.{RefusesEnding, RefusesLine, with_marker};
 ghost use Rattle.pep_require.specs.Reads.{ReadsMarker};
 ghost use Rattle.pep_require.specs.Requirement.{RequirementParts};
-ghost use Rattle.pep_require.specs.Sink.{IsWalked};
+ghost use Rattle.pep_require.specs.Way.Sink.{IsWalked};
 
 use crate::extras::walk_extras;
 use crate::fault::RequireFault;

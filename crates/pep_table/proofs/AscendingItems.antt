@@ -10,7 +10,7 @@ use Rattle.std.specs.List.{slice_get}
 use Rattle.std.specs.Ordering.{is_lt, nat_cmp}
 use Rattle.pep_clause.proofs.Between.{less_told}
 use Rattle.pep_require.specs.Requirement.{IsAscending}
-use Rattle.pep_table.specs.EntryReading.{FollowsAlike}
+use Rattle.pep_table.specs.Way.EntryReading.{FollowsAlike}
 
 -- a list is what stands before its last item, and that
 pub last_split : {X : Type 0} (xs : List X) (x : X) → slice_get xs (length xs - 1) ≡ Some x →

@@ -5,8 +5,8 @@ use Rattle.std.specs.declared.cmp.Ordering.TheVariants.{Less}
 use Rattle.pep_clause.specs.Cut.{Cut, cut_cmp}
 use Rattle.pep_clause.specs.OperatorTable.{range}
 use Rattle.demands.proofs.BoundedEntries.{no_range, one_range}
-use Rattle.demands.specs.Finished.{other_parts}
-use Rattle.demands.specs.Others.{OtherParts}
+use Rattle.demands.specs.Way.Finished.{other_parts}
+use Rattle.demands.specs.Way.Others.{OtherParts}
 use Rattle.demands.specs.Table.{EntryParts}
 use Rattle.demands.specs.Verdict.{verdict_word}
 use Rattle.demands.specs.declared.verdict.Verdict.{Verdict}

@@ -15,7 +15,7 @@ use Rattle.pep_clause.proofs.OneList.{same_points}
 use Rattle.pep_clause.proofs.SetLemmas.{IsNormal-set_of}
 use Rattle.pep_clause.proofs.Sweeping.{few_ranges}
 use Rattle.pep_clause.specs.Cut.{Cut, cut_cmp, end, least}
-use Rattle.pep_clause.specs.Joined.{joined}
+use Rattle.pep_clause.specs.Way.Joined.{joined}
 use Rattle.pep_clause.specs.OperatorTable.{before_place, before_prefix, greater_from, less_to}
 use Rattle.pep_clause.specs.OperatorTable.{matching_to, next, outside, prefix_end, range, set_of}
 use Rattle.specifiers.specs.Admits.{compatible_prefix}

@@ -12,7 +12,7 @@ use Rattle.pep_table.proofs.TableLines.{header_name, kind_line, lines_feed, line
 use Rattle.texts.proofs.LineLemmas.{lines_one}
 use Rattle.pep_table.proofs.TableLines.{range_lines, table_stops, text_entries}
 use Rattle.pep_table.proofs.TableLines.{text_lines, url_lines}
-use Rattle.pep_table.specs.EntryReading.{head_line}
+use Rattle.pep_table.specs.Way.EntryReading.{head_line}
 use Rattle.demands.proofs.SameLemmas.{one_of_parts}
 use Rattle.demands.specs.Table.{EntryParts, IsValidEntry, IsValidTable, TableParts}
 use Rattle.pep_table.specs.TableText.{AreTableLines, range_text}

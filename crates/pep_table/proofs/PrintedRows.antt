@@ -3,7 +3,7 @@ use Rattle.std.proofs.Common.{◌≡◌, ◌∙◌, ℕ, List, [], ◌∷◌, �
 use Rattle.pep_marker.specs.Environment.{EnvironmentParts}
 use Rattle.pep_marker.specs.Header.{header}
 use Rattle.demands.specs.Table.{EntryParts, TableParts}
-use Rattle.pep_table.specs.Printout.{row_text, rows_text}
+use Rattle.pep_table.specs.Way.Printout.{row_text, rows_text}
 use Rattle.pep_table.specs.TableText.{AreTableLines, IsTableText, Shows, entry_text}
 use Rattle.pep_table.specs.declared.printout.Row.{Row}
 use Rattle.pep_table.proofs.WrittenParts.{rows_text-append}

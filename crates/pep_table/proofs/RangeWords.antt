@@ -13,7 +13,7 @@ use Rattle.pep_clause.specs.VersionSet.{Range}
 use Rattle.pep_require.proofs.ExtrasLoops.{all_but_at}
 use Rattle.pep_table.proofs.CutTexts.{is_not_space, normal_plain, without_space}
 use Rattle.texts.proofs.CutLists.{run_one}
-use Rattle.pep_table.specs.TableReading.{IsRange}
+use Rattle.pep_table.specs.Way.TableReading.{IsRange}
 use Rattle.pep_table.specs.TableText.{range_text}
 
 -- ---- texts at their spaces

@@ -10,9 +10,9 @@ use Rattle.std.proofs.lemmas.List.Elements.{All-weaker}
 use Rattle.texts.proofs.Connectives.{and_first, and_second}
 use Rattle.pep_require.specs.Requirement.{IsAscending}
 use Rattle.texts.proofs.CutLists.{run_one}
-use Rattle.pep_table.specs.TableReading.{AreItems, BeginsKind, Front, HasNoFeed, HasNoFront}
-use Rattle.pep_table.specs.TableReading.{kind_front}
-use Rattle.pep_table.specs.Refused.{AreKindLines, IsBehind}
+use Rattle.pep_table.specs.Way.TableReading.{AreItems, BeginsKind, Front, HasNoFeed, HasNoFront}
+use Rattle.pep_table.specs.Way.TableReading.{kind_front}
+use Rattle.pep_table.specs.Way.ReadText.{AreKindLines, IsBehind}
 use Rattle.pep_table.specs.TableText.{kind_lines, line}
 
 -- ---- lines

@@ -17,12 +17,12 @@ use Rattle.texts.proofs.CutLists.{map_one}
 use Rattle.pep_table.proofs.TableLines.{demanded_plain, header_feed, header_name, name_plain, url_plain}
 use Rattle.demands.specs.declared.verdict.Verdict.{Verdict}
 use Rattle.demands.specs.declared.verdict.Verdict.TheVariants.{Possible, Nothing, Conflict}
-use Rattle.pep_table.specs.EntryReading.{BeginsSpace, HasHead, HasNoHead, HasNoParts, HasParts, head_line}
-use Rattle.pep_table.specs.EntryReading.{parts_then, ranges_then, texts_then, urls_then}
+use Rattle.pep_table.specs.Way.EntryReading.{BeginsSpace, HasHead, HasNoHead, HasNoParts, HasParts, head_line}
+use Rattle.pep_table.specs.Way.EntryReading.{parts_then, ranges_then, texts_then, urls_then}
 use Rattle.demands.proofs.SameLemmas.{one_of_parts}
 use Rattle.demands.specs.Table.{EntryParts, IsValidEntry, is_url_text}
-use Rattle.pep_table.specs.TableReading.{AreItems, AreRanges, BeginsKind, Front, HasNoFeed}
-use Rattle.pep_table.specs.TableReading.{HasNoFront, kind_front}
+use Rattle.pep_table.specs.Way.TableReading.{AreItems, AreRanges, BeginsKind, Front, HasNoFeed}
+use Rattle.pep_table.specs.Way.TableReading.{HasNoFront, kind_front}
 use Rattle.pep_table.specs.TableText.{kind_lines, range_text}
 use Rattle.demands.specs.Verdict.{verdict_word}
 

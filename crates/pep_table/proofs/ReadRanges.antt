@@ -11,7 +11,7 @@ use Rattle.pep_table.proofs.AscendingItems.{last_split}
 use Rattle.pep_table.proofs.CutTexts.{HasCuts, have_cuts, one_range_of_text, range_feed}
 use Rattle.pep_table.proofs.ReadItems.{FitLines}
 use Rattle.texts.proofs.CutLists.{each_append, map_one}
-use Rattle.pep_table.specs.TableReading.{AreRanges, HasNoFeed, IsRange}
+use Rattle.pep_table.specs.Way.TableReading.{AreRanges, HasNoFeed, IsRange}
 use Rattle.pep_table.specs.TableText.{range_text}
 
 -- ---- lists of texts that ranges have

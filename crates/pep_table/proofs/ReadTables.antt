@@ -18,15 +18,16 @@ use Rattle.pep_table.proofs.ReadParts.{one_head}
 use Rattle.pep_table.proofs.TableLines.{name_plain, regroup}
 use Rattle.demands.proofs.Verdicts.{verdict_one}
 use Rattle.demands.specs.declared.verdict.Verdict.{Verdict}
-use Rattle.pep_table.specs.EntryReading.{BeginsSpace, FollowsAlike, HasHead, HasNext, HasNoHead}
-use Rattle.pep_table.specs.EntryReading.{HasNoNext, found_with, wanted_entry}
-use Rattle.pep_table.specs.EntryReading.{HasNoParts, HasOtherVerdict, HasParts, IsEntryAt, head_line}
-use Rattle.pep_table.specs.EntryReading.{parts_then, ranges_then, texts_then, urls_then}
+use Rattle.pep_table.specs.Way.EntryReading.{BeginsSpace, FollowsAlike, HasHead, HasNext, HasNoHead}
+use Rattle.pep_table.specs.Way.EntryReading.{HasNoNext, found_with, wanted_entry}
+use Rattle.pep_table.specs.Way.EntryReading.{HasNoParts, HasOtherVerdict, HasParts, IsEntryAt, head_line}
+use Rattle.pep_table.specs.Way.EntryReading.{parts_then, ranges_then, texts_then, urls_then}
 use Rattle.demands.specs.Table.{EntryDemands, EntryParts, IsValidEntry, IsValidTable, TableParts}
 use Rattle.demands.specs.Table.{names}
 use Rattle.pep_table.specs.TableText.{AreNoLines, AreTableLines, Shows, entry_text, kind_lines}
 use Rattle.pep_table.specs.TableText.{line, range_text}
-use Rattle.pep_table.specs.Refused.{BeginsEntry, HaltsAt, HasNoEntry, IsBehind, StopsIn}
+use Rattle.pep_table.specs.Refused.{BeginsEntry, HasNoEntry}
+use Rattle.pep_table.specs.Way.ReadText.{HaltsAt, IsBehind, StopsIn}
 use Rattle.pep_table.specs.declared.read.Halt.{Halt}
 use Rattle.pep_table.specs.declared.read.Halt.TheVariants.{NoMemory, At}
 use Rattle.pep_table.proofs.ToldLines.{lines_append, one_entry}

@@ -18,9 +18,9 @@ use Rattle.texts.proofs.CutLists.{all_append, each_map}
 use Rattle.pep_table.proofs.TableLines.{IsTextEntry, demanded_plain, name_plain, text_entries, url_plain}
 use Rattle.demands.specs.declared.verdict.Verdict.{Verdict}
 use Rattle.demands.specs.declared.verdict.Verdict.TheVariants.{Possible, Nothing, Conflict}
-use Rattle.pep_table.specs.EntryReading.{head_line}
+use Rattle.pep_table.specs.Way.EntryReading.{head_line}
 use Rattle.demands.specs.Table.{EntryParts, IsValidEntry, IsValidTable, TableParts, is_url_text}
-use Rattle.pep_table.specs.TableReading.{kind_front}
+use Rattle.pep_table.specs.Way.TableReading.{kind_front}
 use Rattle.pep_table.specs.TableText.{AreTableLines, entry_text, kind_lines, line, range_text}
 use Rattle.demands.specs.Verdict.{verdict_word}
 

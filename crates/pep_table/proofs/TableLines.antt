@@ -20,7 +20,7 @@ use Rattle.pep_table.proofs.CutTexts.{is_plain, range_feed, without_feed, withou
 use Rattle.texts.proofs.CutLists.{Stops, all_append, each_append, each_map, run_one}
 use Rattle.demands.specs.declared.verdict.Verdict.{Verdict}
 use Rattle.demands.specs.declared.verdict.Verdict.TheVariants.{Possible, Nothing, Conflict}
-use Rattle.pep_table.specs.EntryReading.{head_line}
+use Rattle.pep_table.specs.Way.EntryReading.{head_line}
 use Rattle.demands.specs.Table.{EntryParts, IsValidEntry, TableParts, is_url_text, names}
 use Rattle.pep_table.specs.TableText.{AreTableLines, entry_text, kind_lines, line, range_text}
 use Rattle.demands.specs.Verdict.{verdict_word}

@@ -6,7 +6,7 @@ use Rattle.pep_require.specs.Requirement.{RequirementParts}
 use Rattle.pep_require.proofs.Ascending.{IsIn-from_Contains}
 use Rattle.demands.specs.Gathering.{TakesEntry, TakesRequirement, bare_entry, target_clauses, target_urls, texts_of}
 use Rattle.demands.specs.Join.{IsUnion, JoinsAt, JoinsEntries, JoinsTables}
-use Rattle.demands.specs.LineDemands.{DemandsEntry}
+use Rattle.demands.specs.Way.LineDemands.{DemandsEntry}
 use Rattle.demands.specs.Table.{EntryParts, TableParts, entry_at}
 use Rattle.demands.proofs.TakenClauses.{meets_joined}
 use Rattle.pep_table.specs.OneText.{entry_first, entry_other}

@@ -16,10 +16,11 @@ use Rattle.demands.specs.declared.verdict.Verdict.{Verdict}
 use Rattle.demands.specs.declared.verdict.Verdict.TheVariants.{Possible, Nothing, Conflict}
 use Rattle.demands.specs.Table.{IsValidTable, TableParts, names}
 use Rattle.demands.specs.Verdict.{verdict_word}
-use Rattle.pep_table.specs.EntryReading.{HasNoHead, parts_then}
+use Rattle.pep_table.specs.Way.EntryReading.{HasNoHead, parts_then}
 use Rattle.pep_table.specs.TableText.{AreNoLines, AreTableLines, IsNoTableText, IsReadAs, IsTableText}
 use Rattle.pep_table.specs.TableText.{IsUnread}
-use Rattle.pep_table.specs.Refused.{DecidesText, IsHead, IsRefusedAsTable, IsToldLine, TellsLine}
+use Rattle.pep_table.specs.Refused.{IsHead, IsRefusedAsTable, IsToldLine}
+use Rattle.pep_table.specs.Way.ReadText.{DecidesText, TellsLine}
 use Rattle.pep_table.specs.Refused.{feeds, of_none, of_other}
 use Rattle.pep_table.proofs.OneTableOfText.{same_lines}
 use Rattle.pep_table.proofs.ReadParts.{no_verdict}

@@ -9,14 +9,16 @@ use Rattle.texts.specs.Lines.{is_not_feed}
 use Rattle.demands.specs.Table.{EntryParts, IsValidEntry, TableParts}
 use Rattle.demands.specs.declared.verdict.Verdict.{Verdict}
 use Rattle.pep_table.proofs.ReadParts.{entry_plain}
-use Rattle.pep_table.specs.EntryReading.{HasParts, parts_then, ranges_then, texts_then}
-use Rattle.pep_table.specs.EntryReading.{urls_then}
+use Rattle.pep_table.specs.Way.EntryReading.{HasParts, parts_then, ranges_then, texts_then}
+use Rattle.pep_table.specs.Way.EntryReading.{urls_then}
 use Rattle.pep_table.proofs.ReadItems.{items_fit}
-use Rattle.pep_table.specs.TableReading.{AreItems, Front, HasNoFeed}
+use Rattle.pep_table.specs.Way.TableReading.{AreItems, Front, HasNoFeed}
 use Rattle.pep_table.specs.TableText.{AreNoLines, AreTableLines, Shows, entry_text, kind_lines}
 use Rattle.pep_table.specs.TableText.{line, range_text}
-use Rattle.pep_table.specs.Refused.{AreIndented, AreKindLines, BeginsEntry}
-use Rattle.pep_table.specs.Refused.{HaltsAt, IsBehind, StopsIn, TellsLine, feeds, line_more, no_line}
+use Rattle.pep_table.specs.Refused.{AreIndented, BeginsEntry}
+use Rattle.pep_table.specs.Way.ReadText.{AreKindLines}
+use Rattle.pep_table.specs.Refused.{feeds, line_more, no_line}
+use Rattle.pep_table.specs.Way.ReadText.{HaltsAt, IsBehind, StopsIn, TellsLine}
 use Rattle.demands.specs.declared.fault.TableFault.{TableFault}
 use Rattle.demands.specs.declared.fault.TableFault.TheVariants.{BadTable}
 use Rattle.demands.specs.declared.fault.TableFault.TheVariants as table

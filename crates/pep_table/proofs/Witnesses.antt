@@ -13,7 +13,7 @@ use Rattle.pep_marker.specs.declared.environment.Variable.TheVariants.{Extra}
 use Rattle.pep_marker.specs.declared.fault.MarkerFault.TheVariants as marker_fault
 use Rattle.pep_require.specs.Requirement.{HasUndefinedMarker, RequirementParts, bounds}
 use Rattle.demands.specs.Demand.{ApplyingDemands, presence}
-use Rattle.demands.specs.Finished.{ranges_entry}
+use Rattle.demands.specs.Way.Finished.{ranges_entry}
 use Rattle.demands.specs.Gathering.{IsFirstUndefined, TakesApplying, TakesRequirement, bare_entry}
 use Rattle.demands.specs.Join.{JoinsTables}
 use Rattle.demands.specs.SameTables.{same_table}
@@ -21,7 +21,7 @@ use Rattle.demands.specs.Table.{EntryParts, IsTable, IsValidTable, TableParts, e
 use Rattle.demands.specs.declared.fault.TableFault.{TableFault}
 use Rattle.demands.specs.declared.fault.TableFault.TheVariants as fault
 use Rattle.demands.specs.declared.verdict.Verdict.TheVariants.{Conflict}
-use Rattle.pep_table.specs.EntryReading.{found_with}
+use Rattle.pep_table.specs.Way.EntryReading.{found_with}
 use Rattle.pep_table.specs.TableText.{AreNoLines, IsTableText, Shows, entry_text}
 
 abbrev named : List ℕ → EntryParts → TableParts

@@ -7,9 +7,9 @@ use Rattle.std.proofs.lemmas.List.Folds.{concat-append}
 use Rattle.std.specs.List.{concat}
 use Rattle.std.specs.Prelude.{Vec}
 use Rattle.std.specs.declared.alloc.Global.{Global}
-use Rattle.places.specs.LeftOut.{span, spans}
+use Rattle.places.specs.Way.LeftOut.{span, spans}
 use Rattle.places.specs.declared.bounds.Bounds.{Bounds}
-use Rattle.pep_table.specs.Printout.{in_blocks, row_text, rows_text}
+use Rattle.pep_table.specs.Way.Printout.{in_blocks, row_text, rows_text}
 use Rattle.pep_table.specs.TableText.{kind_lines, line, range_text}
 use Rattle.pep_table.specs.declared.printout.Row.{Row}
 

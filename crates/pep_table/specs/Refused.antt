@@ -1,5 +1,5 @@
 -- Why a text is refused as a table, and which line is told.
-use Rattle.std.specs.Prelude.{◌≡◌, ℕ, ◌+◌, ◌≤◌, ◌⊎◌, ◌==◌, ⊤, codes, List, [], ◌∷◌, ◌++◌, All, count_by}
+use Rattle.std.specs.Prelude.{◌≡◌, ℕ, ◌+◌, ◌≤◌, ◌⊎◌, ◌==◌, codes, List, [], ◌∷◌, ◌++◌, count_by}
 use Rattle.pep_marker.specs.Environment.{EnvironmentParts, IsEnvironment}
 use Rattle.pep_marker.specs.Header.{form_line, header}
 use Rattle.demands.specs.Table.{EntryParts, IsValidTable, TableParts}
@@ -7,10 +7,8 @@ use Rattle.demands.specs.declared.verdict.Verdict.{Verdict}
 use Rattle.demands.specs.declared.fault.TableFault.{TableFault}
 use Rattle.demands.specs.declared.fault.TableFault.TheVariants.{BadTable, OtherEnvironment}
 use Rattle.texts.specs.Lines.{HasNoFeed}
-use Rattle.pep_table.specs.TableText.{AreNoLines, AreTableLines, IsMadeElsewhere, IsNoTableText}
-use Rattle.pep_table.specs.TableText.{IsReadAs, Shows, entry_text, kind_lines, line}
-use Rattle.pep_table.specs.declared.read.Halt.{Halt}
-use Rattle.pep_table.specs.declared.read.Halt.TheVariants.{NoMemory, At}
+use Rattle.pep_table.specs.TableText.{AreTableLines, IsMadeElsewhere, IsNoTableText}
+use Rattle.pep_table.specs.TableText.{Shows, entry_text, line}
 
 -- how many line feeds stand in the text
 abbrev pub feeds : List ℕ → ℕ
@@ -80,36 +78,3 @@ pub data IsRefusedAsTable (e : EnvironmentParts) (x : List ℕ) (fault : TableFa
       IsRefusedAsTable e x fault
   of_none : (number : ℕ) → fault ≡ BadTable number → IsNoTableText e x → IsToldLine x number →
       IsRefusedAsTable e x fault
-
--- ---- a text and the lines with which it ends: the code's way
-
--- Behind its header, or alone, the lines end the text. Where they are a table's, the text is read as
--- it; where they are no table's, the text is none's.
-abbrev pub DecidesText : EnvironmentParts → List ℕ → List ℕ → Type 0
-DecidesText e x lines = ((t : TableParts) → AreTableLines t lines → IsReadAs e t x)
-    × (AreNoLines lines → IsNoTableText e x)
-    × ((head : List ℕ) × IsHead x head × (x ≡ head ++ lines))
-
--- where the lines end the text, the fault tells which line follows on entries at their front
-abbrev pub TellsLine : List ℕ → List ℕ → TableFault → Type 0
-TellsLine x lines fault = (head : List ℕ) → x ≡ head ++ lines →
-    (number : ℕ) × (fault ≡ BadTable number) × (front rest : List ℕ) × BeginsEntries front rest
-    × (lines ≡ front ++ rest) × (number ≡ feeds (head ++ front) + 1)
-
--- ---- the code's way: where reading stops
-
-abbrev pub HaltsAt : (List ℕ → Type 0) → Halt → Type 0
-HaltsAt P NoMemory = ⊤
-HaltsAt P (At rest) = P rest.now
-
--- it is what is left of the text behind such a front
-abbrev pub IsBehind : (List ℕ → Type 0) → List ℕ → List ℕ → Type 0
-IsBehind Are x rest = (front : List ℕ) × (x ≡ front ++ rest) × Are front
-
--- .. behind the entries that are read, and lines of the next one
-abbrev pub StopsIn : List ℕ → List ℕ → Type 0
-StopsIn x rest = IsBehind (λ front. BeginsEntries front rest) x rest
-
--- lines of one kind
-abbrev pub AreKindLines : List ℕ → List ℕ → Type 0
-AreKindLines kind x = (texts : List (List ℕ)) × All HasNoFeed texts × (x ≡ kind_lines kind texts)

@@ -5,7 +5,7 @@ ghost use Rattle.pep_require.specs.Requirement.{HasUndefinedMarker, RequirementP
 ghost use Rattle.pep_require.specs.View.{requirement_parts};
 ghost use Rattle.demands.specs.Gathering.{TakesApplying, TakesRequirement};
 ghost use Rattle.demands.specs.Join.{JoinsTables};
-ghost use Rattle.demands.specs.LineDemands.{DemandsEntry};
+ghost use Rattle.demands.specs.Way.LineDemands.{DemandsEntry};
 ghost use Rattle.demands.specs.Table.{IsValidEntry, IsValidTable};
 ghost use Rattle.demands.specs.declared.verdict.Verdict.{Verdict};
 ghost use Rattle.pep_table.specs.TableText.{IsTableText, Shows, entry_text};

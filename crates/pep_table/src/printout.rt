@@ -25,7 +25,7 @@ pub(crate) struct Row {
 }
 
 impl Row {
-    ghost use Rattle.pep_table.specs.Printout.{row_text};
+    ghost use Rattle.pep_table.specs.Way.Printout.{row_text};
 
     /// What is gathered of a name, finished and judged. The only fault is `NoMemory`.
     pub(crate) fn of(alloc: Global, name: Name, gathered: PackageDemands) -> Result<Row, TableFault>
@@ -63,7 +63,7 @@ pub(crate) struct Rows {
 
 impl Model for Rows {
     ghost use Rattle.std.specs.Prelude.{List, ◌++◌};
-    ghost use Rattle.pep_table.specs.Printout.{in_blocks};
+    ghost use Rattle.pep_table.specs.Way.Printout.{in_blocks};
     ghost use Rattle.pep_table.specs.declared.printout.Row.{Row};
 
     ghost Value = { List Row };
@@ -72,7 +72,7 @@ impl Model for Rows {
 }
 
 impl Rows {
-    ghost use Rattle.pep_table.specs.Printout.{in_blocks, rows_text};
+    ghost use Rattle.pep_table.specs.Way.Printout.{in_blocks, rows_text};
 
     /// None. The only fault is `NoMemory`.
     pub(crate) fn new(alloc: Global) -> Result<Rows, TableFault>
@@ -142,7 +142,7 @@ pub struct Printout {
 
 impl Model for Printout {
     ghost use Rattle.std.specs.Prelude.{List, ℕ, ◌++◌, string_bytes};
-    ghost use Rattle.pep_table.specs.Printout.{rows_text};
+    ghost use Rattle.pep_table.specs.Way.Printout.{rows_text};
 
     ghost Value = { List ℕ };
 
@@ -150,7 +150,7 @@ impl Model for Printout {
 }
 
 impl Printout {
-    ghost use Rattle.pep_table.specs.Printout.{rows_text};
+    ghost use Rattle.pep_table.specs.Way.Printout.{rows_text};
 
     /// The header, and the lines of the rows.
     pub(crate) fn of_rows(header: String, rows: Rows) -> Printout

@@ -7,7 +7,7 @@ ghost use Rattle.std.specs.Prelude.{◌≡◌, ◌≤◌, ◌+◌, ◌⊎◌, �
 ghost use Rattle.std.specs.Prelude.{IfErr, IfOk, IfSome, IsTrue, None, Some};
 ghost use Rattle.std.specs.Option.{option_copied};
 ghost use Rattle.pep_require.specs.Requirement.{IsAscending};
-ghost use Rattle.pep_table.specs.EntryReading.{
+ghost use Rattle.pep_table.specs.Way.EntryReading.{
   FollowsAlike,
   HasHead,
   HasNext,
@@ -24,17 +24,8 @@ ghost use Rattle.demands.specs.Table.{IsValidTable, TableParts, entry_at, names}
 ghost use Rattle.pep_table.specs.NamedEntry.{entry_alone};
 ghost use Rattle.pep_marker.specs.Environment.{IsEnvironment};
 ghost use Rattle.pep_marker.specs.Header.{FindsHeader};
-ghost use Rattle.pep_table.specs.Refused.{
-  AreIndented,
-  BeginsEntry,
-  DecidesText,
-  HaltsAt,
-  IsBehind,
-  IsRefusedAsTable,
-  StopsIn,
-  TellsLine,
-  feeds,
-};
+ghost use Rattle.pep_table.specs.Refused.{AreIndented, BeginsEntry, IsRefusedAsTable, feeds};
+ghost use Rattle.pep_table.specs.Way.ReadText.{DecidesText, HaltsAt, IsBehind, StopsIn, TellsLine};
 ghost use Rattle.pep_table.specs.TableText.{AreNoLines, AreTableLines, IsReadAs, Shows};
 ghost use Rattle.demands.specs.Verdict.{verdict_word};
 

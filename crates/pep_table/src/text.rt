@@ -23,9 +23,9 @@ ghost use Rattle.pep_table.specs.TableText.{
   other_lines,
   range_text,
 };
-ghost use Rattle.demands.specs.Finished.{kept_ranges, other_parts};
-ghost use Rattle.demands.specs.Others.{kept_others};
-ghost use Rattle.places.specs.LeftOut.{spans};
+ghost use Rattle.demands.specs.Way.Finished.{kept_ranges, other_parts};
+ghost use Rattle.demands.specs.Way.Others.{kept_others};
+ghost use Rattle.places.specs.Way.LeftOut.{spans};
 ghost use Rattle.demands.specs.Verdict.{verdict_word};
 ghost use Rattle.texts.specs.TextOut.{Extends};
 

@@ -3,7 +3,7 @@ use Rattle.std.proofs.Common.{◌≡◌, Err, sym, subst}
 use Rattle.pep_version.specs.declared.fault.VersionFault.{VersionFault}
 use Rattle.pep_version.specs.declared.fault.VersionFault.TheVariants.{NotAVersion, NumberTooLarge}
 use Rattle.pep_version.specs.declared.fault.VersionFault.TheVariants.{NoMemory}
-use Rattle.pep_version.specs.Segments.{Answers}
+use Rattle.pep_version.specs.Way.Segments.{Answers}
 
 -- what does not fit in a part does not fit in the whole
 pub handed : {A B : Type 0} (P : A → Type 0) (Q : B →

@@ -21,10 +21,10 @@ use Rattle.pep_version.proofs.Words.{letter-no-digit, pre-letters, starts_letter
 use Rattle.pep_version.proofs.Readers.{digits-append, may_follow}
 use Rattle.pep_version.proofs.Suffixes.{suffix-read, tail-worded}
 use Rattle.pep_version.proofs.Tails.{Tail, digits-all, digits-start, whole-of}
-use Rattle.pep_version.specs.Reading.{bang, behind, epoch_taken, from_epoch, read_epoch, read_label}
-use Rattle.pep_version.specs.Reading.{read_label_text, read_suffix, read_version, release_behind}
-use Rattle.pep_version.specs.Reading.{release_front, passes, behind_epoch, is_label_text}
-use Rattle.pep_version.specs.Reading.{starts_digit, with_suffix, without_separator, without_v}
+use Rattle.pep_version.specs.Way.Reading.{bang, behind, epoch_taken, from_epoch, read_epoch, read_label}
+use Rattle.pep_version.specs.Way.Reading.{read_label_text, read_suffix, read_version, release_behind}
+use Rattle.pep_version.specs.Way.Reading.{release_front, passes, behind_epoch, is_label_text}
+use Rattle.pep_version.specs.Way.Reading.{starts_digit, with_suffix, without_separator, without_v}
 
 abbrev pub is_dotted : List ℕ → Bool
 is_dotted [] = true

@@ -5,9 +5,9 @@ use Rattle.pep_version.specs.declared.fault.VersionFault.{VersionFault}
 use Rattle.pep_version.specs.declared.fault.VersionFault.TheVariants.{NotAVersion, NumberTooLarge}
 use Rattle.pep_version.specs.declared.fault.VersionFault.TheVariants.{NoMemory}
 use Rattle.pep_version.specs.declared.slices.Slices.{Slices}
-use Rattle.pep_version.specs.Slices.{AreReadable, left_runs, version_of_slices}
-use Rattle.pep_version.specs.Reading.{passes, read_version}
-use Rattle.pep_version.specs.Segments.{VersionOf}
+use Rattle.pep_version.specs.Way.Slices.{AreReadable, left_runs, version_of_slices}
+use Rattle.pep_version.specs.Way.Reading.{passes, read_version}
+use Rattle.pep_version.specs.Way.Segments.{VersionOf}
 use Rattle.pep_version.specs.Spelling.{Reads, SpellsAny}
 use Rattle.texts.specs.Space.{trimmed}
 use Rattle.pep_version.specs.Version.{IsVersion, NumbersFit, Version}

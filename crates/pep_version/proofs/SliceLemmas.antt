@@ -10,9 +10,9 @@ use Rattle.std.proofs.lemmas.List.Folds.{list_all-map}
 use Rattle.std.specs.Char.{is_ascii_alphanumeric, is_ascii_digit, to_ascii_lowercase}
 use Rattle.std.specs.List.{All, AllByRecursion, list_all, onto_first}
 use Rattle.std.specs.Str.Parse.{digits_value}
-use Rattle.pep_version.specs.Slices.{lower}
-use Rattle.pep_version.specs.Reading.{behind, front, goes_on, release_behind, release_front}
-use Rattle.pep_version.specs.Reading.{starts_digit, stripped}
+use Rattle.pep_version.specs.Way.Slices.{lower}
+use Rattle.pep_version.specs.Way.Reading.{behind, front, goes_on, release_behind, release_front}
+use Rattle.pep_version.specs.Way.Reading.{starts_digit, stripped}
 use Rattle.pep_version.specs.Spelling.{is_run, segment_of_run, separated_parts}
 use Rattle.texts.specs.Bytes.{is_separator}
 use Rattle.pep_version.specs.Version.{Segment, SegmentFits, number, is_word_byte, word}

@@ -9,13 +9,13 @@ use Rattle.std.specs.List.{AllByRecursion, list_all, onto_first}
 use Rattle.std.specs.Str.{str_to_ascii_lowercase}
 use Rattle.std.specs.Str.Parse.{digits_value}
 use Rattle.pep_version.specs.declared.parts.Phase.{Phase}
-use Rattle.pep_version.specs.Reading.{bang, behind, behind_epoch, behind_phase, behind_word}
-use Rattle.pep_version.specs.Reading.{epoch_taken, front, is_label_text, number_behind, or_else}
-use Rattle.pep_version.specs.Reading.{passes, phase_or, pre_taken, read_dev, read_epoch, read_label}
-use Rattle.pep_version.specs.Reading.{read_label_text, read_post, read_pre, read_version}
-use Rattle.pep_version.specs.Reading.{read_word_and_number, release_behind, release_front}
-use Rattle.pep_version.specs.Reading.{starts_digit, stripped, table, taken, without_separator}
-use Rattle.pep_version.specs.Reading.{without_v}
+use Rattle.pep_version.specs.Way.Reading.{bang, behind, behind_epoch, behind_phase, behind_word}
+use Rattle.pep_version.specs.Way.Reading.{epoch_taken, front, is_label_text, number_behind, or_else}
+use Rattle.pep_version.specs.Way.Reading.{passes, phase_or, pre_taken, read_dev, read_epoch, read_label}
+use Rattle.pep_version.specs.Way.Reading.{read_label_text, read_post, read_pre, read_version}
+use Rattle.pep_version.specs.Way.Reading.{read_word_and_number, release_behind, release_front}
+use Rattle.pep_version.specs.Way.Reading.{starts_digit, stripped, table, taken, without_separator}
+use Rattle.pep_version.specs.Way.Reading.{without_v}
 use Rattle.pep_version.specs.Spelling.{DevSpelling, EpochSpelling, IsOneOf, IsOptionalSeparator}
 use Rattle.pep_version.specs.Spelling.{LabelSpelling, OptionalNumberSpelling, PostSpelling}
 use Rattle.pep_version.specs.Spelling.{PreSpelling, PrecedingVSpelling, SpellsAny, WordAndNumber}

@@ -15,8 +15,8 @@ use Rattle.pep_version.proofs.Readers.{post-plain, tail-follows}
 use Rattle.pep_version.proofs.Tails.{Bare, Tail, Worded, digits-start, implicit-read, label-plain}
 use Rattle.pep_version.proofs.Tails.{opens, tail-at, tail-at-label, tail-dev, tail-number}
 use Rattle.pep_version.proofs.Tails.{whole-of, worded-read}
-use Rattle.pep_version.specs.Reading.{behind_phase, pre_taken, read_post_dev, read_pre, read_suffix}
-use Rattle.pep_version.specs.Reading.{starts_digit, table, with_phase, without_separator}
+use Rattle.pep_version.specs.Way.Reading.{behind_phase, pre_taken, read_post_dev, read_pre, read_suffix}
+use Rattle.pep_version.specs.Way.Reading.{starts_digit, table, with_phase, without_separator}
 
 not-l : (b : ℕ) (rest : List ℕ) → may_follow (b ∷ rest) ≡ true → (108 == b) ≡ false
 not-l b rest f = grind arith

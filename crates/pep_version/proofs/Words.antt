@@ -7,7 +7,7 @@ use Rattle.texts.specs.Bytes.{is_separator}
 use Rattle.texts.proofs.Connectives.{and_first, and_parts, and_second}
 use Rattle.pep_version.specs.declared.parts.Phase.{Phase}
 use Rattle.pep_version.specs.declared.parts.Phase.TheVariants.{Alpha, Beta, Rc}
-use Rattle.pep_version.specs.Reading.{without_separator}
+use Rattle.pep_version.specs.Way.Reading.{without_separator}
 use Rattle.pep_version.specs.Spelling.{IsOneOf, ends_in_letter, pre_words}
 
 pub one_has : (p : List ℕ → Bool) (words : List (List ℕ)) (letters : List ℕ) →

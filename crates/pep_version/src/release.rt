@@ -3,7 +3,7 @@
 ghost use Rattle.std.specs.Prelude.{map, IsTrue};
 ghost use Rattle.std.specs.List.{list_all};
 ghost use Rattle.std.specs.Str.Parse.{digits_value};
-ghost use Rattle.pep_version.specs.Numbers.{NumbersOf};
+ghost use Rattle.pep_version.specs.Way.Numbers.{NumbersOf};
 ghost use Rattle.pep_version.specs.Spelling.{dotted_parts, is_number};
 
 use crate::fault::VersionFault;

@@ -12,7 +12,7 @@ ghost use Rattle.std.specs.Prelude.{
   IsTrue,
 };
 ghost use Rattle.std.specs.List.{list_all};
-ghost use Rattle.pep_version.specs.Slices.{
+ghost use Rattle.pep_version.specs.Way.Slices.{
   IsDigits,
   label_of,
   left_runs,
@@ -21,7 +21,7 @@ ghost use Rattle.pep_version.specs.Slices.{
   pre_of,
   value_of,
 };
-ghost use Rattle.pep_version.specs.Segments.{NumberOf, OptionalOf, PreOf, SegmentOf, SegmentsOf};
+ghost use Rattle.pep_version.specs.Way.Segments.{NumberOf, OptionalOf, PreOf, SegmentOf, SegmentsOf};
 ghost use Rattle.pep_version.specs.Spelling.{is_run, segment_of_run, separated_parts};
 
 use crate::fault::VersionFault;

@@ -12,7 +12,7 @@ ghost use Rattle.std.specs.Prelude.{
 };
 ghost use Rattle.std.specs.Char.{is_ascii_alphanumeric};
 ghost use Rattle.std.specs.List.{list_all};
-ghost use Rattle.pep_version.specs.Slices.{
+ghost use Rattle.pep_version.specs.Way.Slices.{
   AreReadable,
   IsDigits,
   label_of,
@@ -26,7 +26,7 @@ ghost use Rattle.pep_version.specs.Slices.{
   value_of,
   version_of_slices,
 };
-ghost use Rattle.pep_version.specs.Reading.{
+ghost use Rattle.pep_version.specs.Way.Reading.{
   behind,
   behind_phase,
   behind_word,

@@ -16,8 +16,8 @@ ghost use Rattle.std.specs.Prelude.{
 };
 ghost use Rattle.std.specs.Char.{is_ascii_lowercase};
 ghost use Rattle.std.specs.List.{All, list_all, list_any};
-ghost use Rattle.pep_version.specs.Slices.{AreReadable, version_of_slices};
-ghost use Rattle.pep_version.specs.Segments.{VersionOf};
+ghost use Rattle.pep_version.specs.Way.Slices.{AreReadable, version_of_slices};
+ghost use Rattle.pep_version.specs.Way.Segments.{VersionOf};
 ghost use Rattle.pep_version.specs.Spelling.{Reads};
 ghost use Rattle.pep_version.specs.Text.{KeepsFront, normal_text};
 ghost use Rattle.texts.specs.TextOut.{Extends};

@@ -11,7 +11,7 @@ use Rattle.std.proofs.lemmas.List.Folds.{list_any-append}
 use Rattle.std.proofs.lemmas.List.Sorted.{All-permutation, list_any-IsPermutation}
 use Rattle.texts.proofs.Connectives.{and-true, and_parts, not-true, or-false, or_assoc}
 use Rattle.pep_clause.specs.Cut.{Cut, IsCut, cut_cmp, end, least}
-use Rattle.pep_clause.specs.Joined.{later}
+use Rattle.pep_clause.specs.Way.Joined.{later}
 use Rattle.pep_clause.specs.Laws.{cut_total}
 use Rattle.pep_clause.specs.OperatorTable.{outside, range}
 use Rattle.pep_clause.specs.VersionSet.{IsNormal, Range, all_versions, is_point}
@@ -21,7 +21,7 @@ use Rattle.pep_clause.proofs.LeastCut.{IsNormal-all_versions, end-below_none, no
 use Rattle.pep_clause.proofs.NormalJoined.{IsNormal-joined}
 use Rattle.pep_clause.proofs.NormalLists.{Apart}
 use Rattle.pep_clause.proofs.RangeRows.{IsNormal-outside}
-use Rattle.places.specs.LeftOut.{IsPart, is_left_out, left_over, meets, span, spans}
+use Rattle.places.specs.Way.LeftOut.{IsPart, is_left_out, left_over, meets, span, spans}
 use Rattle.places.specs.declared.bounds.Bounds.{Bounds}
 
 abbrev pub is_below : Cut → Cut → Bool

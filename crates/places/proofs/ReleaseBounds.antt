@@ -4,14 +4,14 @@ use Rattle.std.specs.Prelude.{IsOk, if◌then◌else◌}
 use Rattle.pep_version.specs.Version.{Version}
 use Rattle.specifiers.specs.Clause.{Prefix, compatible, demanded, excluding_prefix, matching_prefix, version_clause}
 use Rattle.specifiers.specs.ClauseView.{of_prefix, of_version}
-use Rattle.specifiers.specs.OperatorEnds.{begin_of, end_of, leaves_out}
+use Rattle.specifiers.specs.Way.OperatorEnds.{begin_of, end_of, leaves_out}
 use Rattle.specifiers.specs.declared.fault.ClauseFault.TheVariants as fault
 use Rattle.specifiers.specs.declared.op.Op.{Op}
 use Rattle.specifiers.specs.declared.op.Op.TheVariants as op
 use Rattle.pep_clause.proofs.EndRows.{between-ends, between-prefix}
 use Rattle.pep_clause.specs.Cut.{end, least}
 use Rattle.pep_clause.specs.OperatorTable.{before_prefix, begin_cut, between, end_cut, prefix_end, set_of}
-use Rattle.places.specs.Bounds.{HoldsPrefix, HoldsRelease, IsBetween, release_prefix}
+use Rattle.places.specs.Way.Bounds.{HoldsPrefix, HoldsRelease, IsBetween, release_prefix}
 use Rattle.places.specs.Place.{release_alone}
 use Rattle.places.specs.declared.bounds.Bounds.{Bounds}
 

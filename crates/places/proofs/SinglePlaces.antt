@@ -20,7 +20,7 @@ use Rattle.pep_clause.specs.Laws.{cut_total}
 use Rattle.pep_clause.specs.VersionSet.{IsNormal, all_versions}
 use Rattle.pep_clause.proofs.Between.{below-not_above, less_told, not_below_itself, not_turned}
 use Rattle.pep_clause.proofs.OneCut.{one-cut}
-use Rattle.places.specs.LeftOut.{AreFalling, IsFalling, IsPart, IsSingle, TakesFirst, all_parts, is_left_out, left_over, low_of, place_of, single}
+use Rattle.places.specs.Way.LeftOut.{AreFalling, IsFalling, IsPart, IsSingle, TakesFirst, all_parts, is_left_out, left_over, low_of, place_of, single}
 use Rattle.places.specs.declared.bounds.Bounds.{Bounds}
 use Rattle.places.proofs.LeftOver.{is_below, is_inside, left_normal, left_out-behind, nothing_out}
 

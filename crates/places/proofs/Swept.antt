@@ -7,7 +7,7 @@ use Rattle.std.proofs.lemmas.List.Folds.{list_any_none}
 use Rattle.std.specs.Prelude.{if◌then◌else◌}
 use Rattle.texts.proofs.Connectives.{and-false, and-true, or-false}
 use Rattle.pep_clause.specs.Cut.{Cut, IsCut, cut_cmp, end}
-use Rattle.pep_clause.specs.Joined.{joined, later}
+use Rattle.pep_clause.specs.Way.Joined.{joined, later}
 use Rattle.pep_clause.specs.Laws.{cut_total}
 use Rattle.pep_clause.specs.OperatorTable.{range}
 use Rattle.pep_clause.specs.VersionSet.{Range, is_point}
@@ -17,7 +17,7 @@ use Rattle.pep_clause.proofs.LeastCut.{end-below_none}
 use Rattle.pep_clause.proofs.NormalJoined.{Apart-range, IsNormal-joined, IsNormal-range, Spelled-range, above_by}
 use Rattle.pep_clause.proofs.NormalLists.{AllAbove-append, Apart, IsNormal-from, Spelled, Spelled-append, Under}
 use Rattle.pep_clause.proofs.OneList.{same_points}
-use Rattle.places.specs.LeftOut.{IsPart, is_left_out, left_over}
+use Rattle.places.specs.Way.LeftOut.{IsPart, is_left_out, left_over}
 use Rattle.places.specs.declared.bounds.Bounds.{Bounds}
 use Rattle.places.proofs.LeftOver.{is_below, is_inside, left_normal, left_points}
 

@@ -1,3 +1,2 @@
 pub mod Place
-pub mod Bounds
-pub mod LeftOut
+pub mod Way

@@ -5,7 +5,7 @@ ghost use Rattle.specifiers.specs.Admits.{compatible_prefix};
 ghost use Rattle.specifiers.specs.Clause.{prefix_of};
 ghost use Rattle.specifiers.specs.ClauseView.{IsStored, clause_of, operand_parts};
 ghost use Rattle.specifiers.specs.Operator.{operand, operator, version_part};
-ghost use Rattle.specifiers.specs.OperatorEnds.{begin_of, end_of};
+ghost use Rattle.specifiers.specs.Way.OperatorEnds.{begin_of, end_of};
 ghost use Rattle.pep_clause.specs.Cut.{IsCut};
 ghost use Rattle.pep_clause.specs.OperatorTable.{
   before_dev,
@@ -19,7 +19,7 @@ ghost use Rattle.pep_clause.specs.OperatorTable.{
   next,
   prefix_end,
 };
-ghost use Rattle.places.specs.Bounds.{
+ghost use Rattle.places.specs.Way.Bounds.{
   BeginsShort,
   EndsShort,
   GreaterShort,

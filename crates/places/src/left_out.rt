@@ -24,10 +24,10 @@ ghost use Rattle.std.specs.Prelude.{
 ghost use Rattle.std.specs.Ordering.{is_lt};
 ghost use Rattle.std.specs.List.Sorted.{IsPermutation};
 ghost use Rattle.pep_clause.specs.Cut.{Cut, IsCut, cut_cmp, end};
-ghost use Rattle.pep_clause.specs.Joined.{joined};
+ghost use Rattle.pep_clause.specs.Way.Joined.{joined};
 ghost use Rattle.pep_clause.specs.OperatorTable.{outside, range};
 ghost use Rattle.pep_clause.specs.VersionSet.{IsNormal, all_versions, is_point};
-ghost use Rattle.places.specs.LeftOut.{
+ghost use Rattle.places.specs.Way.LeftOut.{
   AreFalling,
   IsFalling,
   IsPart,
@@ -78,7 +78,7 @@ pub struct LeftOut {
 impl Model for LeftOut {
     ghost use Rattle.std.specs.Prelude.{All, List};
     ghost use Rattle.pep_clause.specs.VersionSet.{Range};
-    ghost use Rattle.places.specs.LeftOut.{IsPart, IsSingle, all_parts, left_over};
+    ghost use Rattle.places.specs.Way.LeftOut.{IsPart, IsSingle, all_parts, left_over};
 
     ghost Value = { List Range };
 

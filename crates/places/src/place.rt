@@ -27,7 +27,7 @@ ghost use Rattle.std.specs.Ordering.{as_partial_cmp, eq_by_cmp};
 ghost use Rattle.pep_version.specs.Order.{with_suffixes};
 ghost use Rattle.pep_version.specs.Text.{KeepsFront};
 ghost use Rattle.pep_clause.specs.Cut.{IsCut, cut_cmp, cut_text, end, least};
-ghost use Rattle.pep_clause.specs.Joined.{earlier, later};
+ghost use Rattle.pep_clause.specs.Way.Joined.{earlier, later};
 ghost use Rattle.pep_clause.specs.Laws.{cut_total};
 ghost use Rattle.pep_clause.specs.OperatorTable.{before_dev, before_place};
 ghost use Rattle.places.specs.Place.{

@@ -4,7 +4,7 @@ ghost use Rattle.std.specs.Prelude.{◌≡◌, IfErr, IfOk};
 ghost use Rattle.std.specs.declared.cmp.Ordering.TheVariants.{Less};
 ghost use Rattle.pep_clause.specs.Cut.{cut_cmp};
 ghost use Rattle.pep_clause.specs.VersionSet.{IsNormal};
-ghost use Rattle.places.specs.LeftOut.{span, spans};
+ghost use Rattle.places.specs.Way.LeftOut.{span, spans};
 
 use crate::bounds::Bounds;
 use pep_clause::{ClauseFault, Range, VersionSet};
@@ -20,7 +20,7 @@ pub struct PlaceRanges {
 impl Model for PlaceRanges {
     ghost use Rattle.std.specs.Prelude.{List};
     ghost use Rattle.pep_clause.specs.VersionSet.{IsNormal, Range};
-    ghost use Rattle.places.specs.LeftOut.{spans};
+    ghost use Rattle.places.specs.Way.LeftOut.{spans};
 
     ghost Value = { List Range };
 

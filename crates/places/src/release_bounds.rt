@@ -3,7 +3,7 @@
 ghost use Rattle.std.specs.Prelude.{◌≡◌, ◌↔◌, ◌<◌, length, IfSome, IsOk, IsSome, IsTrue};
 ghost use Rattle.specifiers.specs.Clause.{version_clause};
 ghost use Rattle.pep_clause.specs.OperatorTable.{begin_cut, end_cut};
-ghost use Rattle.places.specs.Bounds.{
+ghost use Rattle.places.specs.Way.Bounds.{
   BeginsShort,
   EndsShort,
   HoldsPrefix,

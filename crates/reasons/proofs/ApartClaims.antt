@@ -16,7 +16,7 @@ use Rattle.pep_clause.proofs.Density.{normal-has_version}
 use Rattle.pep_clause.proofs.JoinedPoints.{is_in-joined, is_point-joined}
 use Rattle.pep_clause.proofs.NormalJoined.{IsNormal-joined}
 use Rattle.pep_clause.specs.Cut.{Cut}
-use Rattle.pep_clause.specs.Joined.{joined}
+use Rattle.pep_clause.specs.Way.Joined.{joined}
 use Rattle.pep_clause.specs.OperatorTable.{set_of}
 use Rattle.pep_clause.specs.VersionSet.{In, IsNormal, IsPoint, Range, is_in, is_point}
 use Rattle.pep_require.proofs.Members.{in_either, in_none}
@@ -28,11 +28,11 @@ use Rattle.demands.specs.Table.{EntryParts}
 use Rattle.demands.specs.Verdict.{MeetsAll}
 use Rattle.reasons.proofs.FoundClashes.{some_version}
 use Rattle.reasons.proofs.PickedClaims.{claim_at}
-use Rattle.reasons.specs.Apart.{AdmitsAround, AdmitsOthers, AreApart, AreClausesApart, IsApart, IsClauseApart}
-use Rattle.reasons.specs.Apart.{HasOthers, IsEntryApart}
+use Rattle.reasons.specs.Way.Apart.{AdmitsAround, AdmitsOthers, AreApart, AreClausesApart, IsApart, IsClauseApart}
+use Rattle.reasons.specs.Way.Apart.{HasOthers, IsEntryApart}
 use Rattle.reasons.specs.Claims.{Claimed, ClaimDemands, PlacedParts, entered, required}
 use Rattle.reasons.specs.Clash.{AdmitVersion}
-use Rattle.reasons.specs.ClashSearch.{AreNeeded}
+use Rattle.reasons.specs.Way.ClashSearch.{AreNeeded}
 use Rattle.reasons.specs.View.{claims_at, nowhere}
 use Rattle.reasons.specs.declared.apart.Point.{Point}
 

@@ -13,8 +13,8 @@ use Rattle.pep_require.proofs.Members.{in_first, in_rest}
 use Rattle.pep_table.specs.OneText.{eq_false, eq_true}
 use Rattle.demands.proofs.KeptSets.{text_cmp}
 use Rattle.std.specs.declared.cmp.Ordering.TheVariants.{Less}
-use Rattle.reasons.specs.Asked.{AskedParts, Gains, asked_names, asked_parts, claim_on}
-use Rattle.reasons.specs.Asked.{names_in, with_claim, with_claims, with_found}
+use Rattle.reasons.specs.Way.Asked.{AskedParts, Gains, asked_names, asked_parts, claim_on}
+use Rattle.reasons.specs.Way.Asked.{names_in, with_claim, with_claims, with_found}
 use Rattle.reasons.specs.Claims.{PlacedParts, name_of}
 use Rattle.reasons.specs.View.{placed_parts}
 use Rattle.reasons.specs.declared.asked.Asked.{Asked}

@@ -13,7 +13,7 @@ use Rattle.pep_require.specs.Requirement.{IsAscending}
 use Rattle.pep_require.proofs.Ascending.{irreflexive}
 use Rattle.pep_require.proofs.Members.{in_either, in_none}
 use Rattle.demands.proofs.KeptSets.{above, same_text, text_cmp}
-use Rattle.reasons.specs.Asked.{names_in}
+use Rattle.reasons.specs.Way.Asked.{names_in}
 use Rattle.reasons.specs.declared.asked.Asked.{Asked}
 
 -- how a package's name stands to a name

@@ -19,8 +19,8 @@ use Rattle.reasons.proofs.ClaimOrder.{order_append}
 use Rattle.reasons.specs.Claims.{ClaimParts, PlacedParts, StandsBefore, entered, name_of, required}
 use Rattle.std.specs.List.{AllZip}
 use Rattle.reasons.proofs.AskedClaims.{gains_both, gains_nothing, gains_same}
-use Rattle.reasons.specs.Asked.{AskedParts, Gains}
-use Rattle.reasons.specs.ClaimSearch.{AreClaimsBy}
+use Rattle.reasons.specs.Way.Asked.{AskedParts, Gains}
+use Rattle.reasons.specs.Way.ClaimSearch.{AreClaimsBy}
 use Rattle.reasons.specs.Places.{AreClaims, ClaimsAt, StandsAmong, StandsIn}
 
 -- ---- numbered elements of a list with one more

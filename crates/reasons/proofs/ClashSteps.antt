@@ -14,8 +14,8 @@ use Rattle.reasons.proofs.PickedClaims.{all_at, at_among, at_in_order, claims_pi
 use Rattle.reasons.proofs.PickedClaims.{indices_within, parts_at, picked_rise, picked_there, some_within}
 use Rattle.reasons.specs.Claims.{AreAmong, AreInOrder, Claimed, PlacedParts}
 use Rattle.reasons.specs.Clash.{IsClash, IsPartThatClashes}
-use Rattle.reasons.specs.ClashSearch.{AreEnough, AreFound, AreNeeded, ArePicked, Clashing, Fitting}
-use Rattle.reasons.specs.ClashSearch.{IsLeast, IsTold, indices}
+use Rattle.reasons.specs.Way.ClashSearch.{AreEnough, AreFound, AreNeeded, ArePicked, Clashing, Fitting}
+use Rattle.reasons.specs.Way.ClashSearch.{IsLeast, IsTold, indices}
 use Rattle.reasons.specs.View.{claims_at, nowhere}
 
 -- ---- fewer claims

@@ -2,7 +2,7 @@
 use Rattle.std.proofs.Common.{◌≡◌, ℕ, ◌+◌, ◌<◌, List, [], ◌∷◌, ◌++◌, get_or, length, map, take, sym, ap, subst, ◌∙◌}
 use Rattle.std.proofs.lemmas.List.{get_or-map, length-map, map_more}
 use Rattle.reasons.proofs.PickedClaims.{claim_at}
-use Rattle.reasons.specs.ClashSearch.{AreWithin}
+use Rattle.reasons.specs.Way.ClashSearch.{AreWithin}
 use Rattle.reasons.specs.View.{claims_at, nowhere, placed_parts}
 use Rattle.reasons.specs.declared.claims.PlacedClaim.{PlacedClaim}
 

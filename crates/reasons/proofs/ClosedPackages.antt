@@ -21,8 +21,8 @@ use Rattle.demands.specs.Table.{EntryDemands, EntryParts, IsValidTable, TableDem
 use Rattle.demands.specs.Verdict.{IsVerdict}
 use Rattle.reasons.proofs.ClaimLines.{entry_behind}
 use Rattle.reasons.proofs.TableVerdicts.{absent_is_open}
-use Rattle.reasons.specs.Asked.{AskedParts, asked_names}
-use Rattle.reasons.specs.ReasonSearch.{AreClosed, FindsClosed}
+use Rattle.reasons.specs.Way.Asked.{AskedParts, asked_names}
+use Rattle.reasons.specs.Way.ReasonSearch.{AreClosed, FindsClosed}
 
 -- the packages of the entries that are done
 pub record ClosedSoFar (t done : TableParts) (qs : List AskedParts) : Type 0 where

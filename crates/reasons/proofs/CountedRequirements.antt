@@ -9,9 +9,9 @@ use Rattle.pep_require.specs.LineParts.{StartsLine}
 use Rattle.pep_require.specs.Reads.{Reads}
 use Rattle.pep_require.specs.Requirement.{Applies, MarkerSays, RequirementParts}
 use Rattle.pep_table.proofs.Taking.{marker_one}
-use Rattle.inputs.specs.LineReading.{IsTextOn}
+use Rattle.inputs.specs.Way.LineReading.{IsTextOn}
 use Rattle.inputs.specs.Lists.{content}
-use Rattle.reasons.specs.ClaimSearch.{FindsApplying, FindsCounted, FindsOnLine, IsCountedLine}
+use Rattle.reasons.specs.Way.ClaimSearch.{FindsApplying, FindsCounted, FindsOnLine, IsCountedLine}
 
 pub not_applying : (e : EnvironmentParts) (r : RequirementParts) → MarkerSays e r.marker (Some false) →
     Applies e r → ⊥

@@ -25,9 +25,9 @@ use Rattle.reasons.proofs.ClaimLines.{IsEntered, begins_there, entered_in}
 use Rattle.reasons.proofs.EntryNumbers.{number_is}
 use Rattle.reasons.proofs.FoundClaims.{no_claims, one_more, same_claims}
 use Rattle.reasons.proofs.OnePlace.{one_line_of_entry}
-use Rattle.reasons.specs.Asked.{AskedParts, Gains, claim_on, with_claim}
+use Rattle.reasons.specs.Way.Asked.{AskedParts, Gains, claim_on, with_claim}
 use Rattle.reasons.specs.Claims.{ClaimParts, PlacedParts, entered, name_of, required}
-use Rattle.reasons.specs.ClaimSearch.{AreClaimsBy, EntersAmong, entry_lines, lines_in}
+use Rattle.reasons.specs.Way.ClaimSearch.{AreClaimsBy, EntersAmong, entry_lines, lines_in}
 use Rattle.reasons.specs.Places.{BeginsOn, StandsIn}
 
 -- ---- one entry more, in front of those that are done

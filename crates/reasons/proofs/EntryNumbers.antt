@@ -14,7 +14,7 @@ use Rattle.pep_table.specs.Refused.{feeds}
 use Rattle.pep_table.specs.TableText.{AreTableLines}
 use Rattle.demands.specs.Table.{EntryParts, TableParts}
 use Rattle.inputs.specs.Lists.{lines_of}
-use Rattle.reasons.specs.ClaimSearch.{lines_in}
+use Rattle.reasons.specs.Way.ClaimSearch.{lines_in}
 use Rattle.reasons.specs.Places.{BeginsOn}
 
 -- ---- how many line feeds a text has

@@ -19,8 +19,8 @@ use Rattle.std.specs.List.{AllZip}
 use Rattle.std.proofs.lemmas.Slice.Eq.{bytes_eq-Decides}
 use Rattle.pep_table.specs.OneText.{eq_true}
 use Rattle.reasons.proofs.AskedClaims.{gains_more, gains_nothing, gains_same, names_stay}
-use Rattle.reasons.specs.Asked.{AskedParts, Gains, asked_names, claim_on, found_claims, with_found}
-use Rattle.reasons.specs.ClaimSearch.{AreClaimsBy, Counts, FindsOnLine, IsCountedLine, ListedSoFar, UpTo}
+use Rattle.reasons.specs.Way.Asked.{AskedParts, Gains, asked_names, claim_on, found_claims, with_found}
+use Rattle.reasons.specs.Way.ClaimSearch.{AreClaimsBy, Counts, FindsOnLine, IsCountedLine, ListedSoFar, UpTo}
 use Rattle.reasons.specs.Places.{IsOnLine, StandsIn}
 
 abbrev Stand : Type 1

@@ -13,14 +13,14 @@ use Rattle.inputs.specs.declared.input.Input.{Input}
 use Rattle.inputs.specs.Gathered.{Gathered, IsAccepted}
 use Rattle.reasons.proofs.ClaimedDemands.{verdict_of_claims}
 use Rattle.reasons.proofs.TableVerdicts.{table_has_verdict, verdict_of_table}
-use Rattle.reasons.specs.Asked.{AskedParts, Gains, asked_names, asked_parts, names_in}
+use Rattle.reasons.specs.Way.Asked.{AskedParts, Gains, asked_names, asked_parts, names_in}
 use Rattle.reasons.specs.View.{reason_parts}
 use Rattle.reasons.specs.declared.asked.Asked.{Asked}
 use Rattle.reasons.specs.declared.claims.Reason.{Reason}
 use Rattle.reasons.specs.Claims.{AreInOrder, Claimed, PlacedParts}
 use Rattle.reasons.specs.Clash.{AreReasons, IsPartThatClashes, IsReasonOf, ReasonParts}
 use Rattle.reasons.specs.Places.{AreClaims}
-use Rattle.reasons.specs.ReasonSearch.{AreClosed, Explains, TellsClash}
+use Rattle.reasons.specs.Way.ReasonSearch.{AreClosed, Explains, TellsClash}
 
 -- ---- from packages without claims to reasons
 

@@ -10,7 +10,7 @@ use Rattle.std.proofs.lemmas.List.Elements.{Contains-append_right}
 use Rattle.pep_require.proofs.Members.{in_either, in_first, in_none, in_rest}
 use Rattle.reasons.proofs.ClaimOrder.{first_before, rest_in_order}
 use Rattle.reasons.specs.Claims.{AreAmong, AreInOrder, PlacedParts, StandsBefore}
-use Rattle.reasons.specs.ClashSearch.{ArePicked, AreWithin, RiseFrom, indices}
+use Rattle.reasons.specs.Way.ClashSearch.{ArePicked, AreWithin, RiseFrom, indices}
 use Rattle.reasons.specs.View.{claims_at, nowhere}
 
 -- ---- claims at indices

@@ -12,7 +12,7 @@ use Rattle.std.proofs.lemmas.List.Sorted.{ranks_by, sorted_far}
 use Rattle.pep_clause.specs.Cut.{Cut, cut_cmp}
 use Rattle.pep_clause.specs.Laws.{cut_total}
 use Rattle.pep_clause.specs.VersionSet.{IsPoint, Range}
-use Rattle.reasons.specs.Apart.{AreBelow, AreRising, OwnsBelow}
+use Rattle.reasons.specs.Way.Apart.{AreBelow, AreRising, OwnsBelow}
 use Rattle.reasons.specs.declared.apart.Point.{Point}
 
 order : IsStrictWeakOrder (λ (x y : Cut). is_lt (cut_cmp x y))

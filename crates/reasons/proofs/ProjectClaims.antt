@@ -19,8 +19,8 @@ use Rattle.reasons.proofs.FoundClaims.{FindsAt, no_claims, number_more, same_cla
 use Rattle.reasons.proofs.OnePlace.{one_numbered}
 use Rattle.reasons.specs.Claims.{ClaimParts, entered, name_of, required}
 use Rattle.reasons.proofs.AskedClaims.{gains_nothing, gains_same, names_stay}
-use Rattle.reasons.specs.Asked.{AskedParts, Gains, asked_names, with_found}
-use Rattle.reasons.specs.ClaimSearch.{AreClaimsBy, Counts, FindsCounted, UpTo}
+use Rattle.reasons.specs.Way.Asked.{AskedParts, Gains, asked_names, with_found}
+use Rattle.reasons.specs.Way.ClaimSearch.{AreClaimsBy, Counts, FindsCounted, UpTo}
 use Rattle.reasons.specs.Places.{IsOfText, StandsIn}
 
 -- ---- one requirement more

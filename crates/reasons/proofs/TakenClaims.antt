@@ -16,7 +16,7 @@ use Rattle.pep_table.proofs.JoinedDemands.{joined_entry}
 use Rattle.pep_table.proofs.Taking.{bare_is_entry, taken_entry, told_sets}
 use Rattle.reasons.specs.Claims.{ClaimDemands, ClaimParts, Claimed, PlacedParts, entered, required}
 use Rattle.reasons.proofs.WeighedDemands.{weighed_entry}
-use Rattle.reasons.specs.ClashSearch.{StandsFor, TakesClaim, TakesClaims, Weighed, without_extras}
+use Rattle.reasons.specs.Way.ClashSearch.{StandsFor, TakesClaim, TakesClaims, Weighed, without_extras}
 
 -- ---- one behind the other
 

@@ -8,7 +8,7 @@ use Rattle.demands.specs.declared.verdict.Verdict.TheVariants.{Possible, Nothing
 use Rattle.demands.specs.Demand.{AdmitsBesideTexts, Demand, presence, extra, url, clause, ranges}
 use Rattle.demands.specs.Table.{EntryParts, IsEntry, IsValidEntry}
 use Rattle.demands.specs.Verdict.{HasConflict, IsEntryVerdict, IsVerdict, MeetsAll}
-use Rattle.reasons.specs.ClashSearch.{Weighed, without_extras}
+use Rattle.reasons.specs.Way.ClashSearch.{Weighed, without_extras}
 
 pub valid_without_extras : (e : EntryParts) → IsValidEntry e → IsValidEntry (without_extras e)
 valid_without_extras e v = record {

@@ -11,13 +11,13 @@ use Rattle.demands.specs.Gathering.{bare_entry}
 use Rattle.demands.specs.Table.{EntryDemands, EntryParts, TableDemands, TableParts}
 use Rattle.demands.specs.Verdict.{IsVerdict}
 use Rattle.reasons.proofs.FoundClashes.{some_version}
-use Rattle.reasons.specs.Apart.{AreApart, AreRising, HasOwn}
-use Rattle.reasons.specs.Asked.{AskedParts, with_claim, with_found}
+use Rattle.reasons.specs.Way.Apart.{AreApart, AreRising, HasOwn}
+use Rattle.reasons.specs.Way.Asked.{AskedParts, with_claim, with_found}
 use Rattle.reasons.specs.Claims.{ClaimDemands, PlacedParts, entered, name_of, required}
-use Rattle.reasons.specs.ClaimSearch.{FindsApplying, FindsCounted}
+use Rattle.reasons.specs.Way.ClaimSearch.{FindsApplying, FindsCounted}
 use Rattle.reasons.specs.Clash.{IsPartThatClashes}
-use Rattle.reasons.specs.ClashSearch.{AreEnough, IsLeast, StandsFor, without_extras}
-use Rattle.reasons.specs.ReasonSearch.{FindsClosed, TellsClash}
+use Rattle.reasons.specs.Way.ClashSearch.{AreEnough, IsLeast, StandsFor, without_extras}
+use Rattle.reasons.specs.Way.ReasonSearch.{FindsClosed, TellsClash}
 use Rattle.reasons.specs.declared.apart.Point.{Point}
 
 abbrev with_url : List ℕ → EntryParts

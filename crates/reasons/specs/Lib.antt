@@ -2,9 +2,5 @@ pub mod Claims
 pub mod Places
 pub mod Clash
 pub mod View
-pub mod Asked
-pub mod ClaimSearch
-pub mod ClashSearch
-pub mod Apart
 pub mod ReasonText
-pub mod ReasonSearch
+pub mod Way

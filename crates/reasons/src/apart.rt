@@ -1,7 +1,7 @@
 //! Whether each of some claims is needed, as points tell: one for each that it alone leaves out.
 
 ghost use Rattle.std.specs.Prelude.{◌≤◌, length, IfOk, IsTrue};
-ghost use Rattle.reasons.specs.Apart.{
+ghost use Rattle.reasons.specs.Way.Apart.{
   AdmitsOthers,
   AreBelow,
   AreClausesApart,

@@ -3,7 +3,7 @@
 ghost use Rattle.std.specs.Prelude.{◌≡◌, ◌↔◌, Contains, IfErr, IfOk, IsTrue, map};
 ghost use Rattle.pep_require.specs.Requirement.{IsAscending};
 ghost use Rattle.inputs.specs.Refusal.{no_memory};
-ghost use Rattle.reasons.specs.Asked.{IsIndexOf, asked_parts, names_in, with_claim};
+ghost use Rattle.reasons.specs.Way.Asked.{IsIndexOf, asked_parts, names_in, with_claim};
 ghost use Rattle.reasons.specs.View.{placed_parts};
 
 use crate::claims::PlacedClaim;

@@ -17,10 +17,10 @@ ghost use Rattle.demands.specs.Join.{JoinsEntries};
 ghost use Rattle.demands.specs.Table.{IsValidEntry};
 ghost use Rattle.demands.specs.Verdict.{IsVerdict};
 ghost use Rattle.faults.specs.NoMemory.{no_memory};
-ghost use Rattle.reasons.specs.Apart.{AreApart, AreRising};
+ghost use Rattle.reasons.specs.Way.Apart.{AreApart, AreRising};
 ghost use Rattle.reasons.specs.Claims.{AreAmong, AreInOrder, Claimed, PlacedParts};
 ghost use Rattle.reasons.specs.Clash.{IsPartThatClashes};
-ghost use Rattle.reasons.specs.ClashSearch.{
+ghost use Rattle.reasons.specs.Way.ClashSearch.{
   AreEnough,
   AreFound,
   AreNeeded,

@@ -6,9 +6,9 @@ ghost use Rattle.pep_table.specs.Refused.{feeds};
 ghost use Rattle.inputs.specs.Refusal.{no_memory};
 ghost use Rattle.inputs.specs.TableFiles.{IsTableFile};
 ghost use Rattle.inputs.specs.declared.input.Kind.TheVariants as kind;
-ghost use Rattle.reasons.specs.Asked.{AllGain, asked_parts, names_in, with_claim};
+ghost use Rattle.reasons.specs.Way.Asked.{AllGain, asked_parts, names_in, with_claim};
 ghost use Rattle.reasons.specs.Claims.{entered};
-ghost use Rattle.reasons.specs.ClaimSearch.{AreClaimsBy, entry_lines};
+ghost use Rattle.reasons.specs.Way.ClaimSearch.{AreClaimsBy, entry_lines};
 ghost use Rattle.reasons.specs.Places.{StandsIn};
 ghost use Rattle.texts.specs.Limits.{input_limit};
 

@@ -5,8 +5,8 @@ ghost use Rattle.pep_require.specs.Requirement.{IsAscending};
 ghost use Rattle.pep_require.specs.View.{requirement_parts};
 ghost use Rattle.inputs.specs.Refusal.{no_memory};
 ghost use Rattle.inputs.specs.declared.input.Kind.TheVariants as kind;
-ghost use Rattle.reasons.specs.Asked.{AllGain, asked_parts, names_in, with_found};
-ghost use Rattle.reasons.specs.ClaimSearch.{AreClaimsBy, FindsApplying, FindsCounted, FindsOnLine};
+ghost use Rattle.reasons.specs.Way.Asked.{AllGain, asked_parts, names_in, with_found};
+ghost use Rattle.reasons.specs.Way.ClaimSearch.{AreClaimsBy, FindsApplying, FindsCounted, FindsOnLine};
 ghost use Rattle.reasons.specs.Places.{StandsIn};
 
 use crate::asked::{Asked, is_asked, with_claim};

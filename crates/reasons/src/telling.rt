@@ -8,11 +8,11 @@ ghost use Rattle.demands.specs.Table.{EntryDemands, IsTable, TableDemands};
 ghost use Rattle.demands.specs.Verdict.{IsVerdict};
 ghost use Rattle.inputs.specs.Gathered.{Gathered, IsAccepted};
 ghost use Rattle.inputs.specs.Refusal.{RefusesInputs, no_memory};
-ghost use Rattle.reasons.specs.Asked.{AllGain, asked_parts, names_in};
+ghost use Rattle.reasons.specs.Way.Asked.{AllGain, asked_parts, names_in};
 ghost use Rattle.reasons.specs.Claims.{AreInOrder, Claimed};
-ghost use Rattle.reasons.specs.ClaimSearch.{AreClaimsBy};
+ghost use Rattle.reasons.specs.Way.ClaimSearch.{AreClaimsBy};
 ghost use Rattle.reasons.specs.Clash.{AreReasons, IsReasonOf};
-ghost use Rattle.reasons.specs.ReasonSearch.{AreClosed, Explains, FindsClosed, TellsClash};
+ghost use Rattle.reasons.specs.Way.ReasonSearch.{AreClosed, Explains, FindsClosed, TellsClash};
 ghost use Rattle.reasons.specs.Places.{AreClaims, ClaimsAt};
 ghost use Rattle.reasons.specs.View.{placed_parts, reason_parts};
 

@@ -19,7 +19,7 @@ use Rattle.specifiers.specs.Clause.{less_than, matching, matching_prefix, operat
 use Rattle.specifiers.specs.Clause.{version_answer}
 use Rattle.specifiers.specs.ClauseView.{TellsVersion}
 use Rattle.specifiers.specs.Operator.{operator}
-use Rattle.specifiers.specs.OperatorEnds.{begin_of, end_of, leaves_out}
+use Rattle.specifiers.specs.Way.OperatorEnds.{begin_of, end_of, leaves_out}
 use Rattle.specifiers.specs.declared.op.Begin.TheVariants as begin
 use Rattle.specifiers.specs.declared.op.End.TheVariants as ends
 use Rattle.specifiers.specs.declared.fault.ClauseFault.TheVariants as fault

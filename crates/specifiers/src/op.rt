@@ -41,7 +41,7 @@ pub enum End {
 impl Op {
     ghost use Rattle.std.specs.Prelude.{◌≡◌};
     ghost use Rattle.specifiers.specs.Clause.{operator_of, operator_text};
-    ghost use Rattle.specifiers.specs.OperatorEnds.{begin_of, end_of, leaves_out};
+    ghost use Rattle.specifiers.specs.Way.OperatorEnds.{begin_of, end_of, leaves_out};
 
     /// The longest operator that the text begins with (PEP 440, "Version specifiers").
     #[inline(always)]

@@ -2,7 +2,7 @@
 use Rattle.std.proofs.Common.{◌≡◌, ◌⊎◌, List, None, Some, All, Contains, inl, inr, subst, sym}
 use Rattle.std.specs.Prelude.{Option, IfSome}
 use Rattle.std.proofs.lemmas.List.Elements.{All-contains, All-weaker}
-use Rattle.text_memory.specs.Memory.{IsFrom, IsKept}
+use Rattle.text_memory.specs.Way.Memory.{IsFrom, IsKept}
 
 pub all_empty : {T : Type 0} (old slots : List (Option T)) → All (λ s. s ≡ None) slots →
     All (IsKept old) slots

@@ -1,7 +1,7 @@
 //! What was found out about texts, found again by the text.
 
 ghost use Rattle.std.specs.Prelude.{◌≡◌, [], All, Contains, IfOk, IfSome, None, OnOk, Some};
-ghost use Rattle.text_memory.specs.Memory.{IsFrom, IsKept};
+ghost use Rattle.text_memory.specs.Way.Memory.{IsFrom, IsKept};
 
 use crate::sum::sum_of;
 use std::alloc::{AllocError, Global};

@@ -18,8 +18,8 @@ use Rattle.std.proofs.lemmas.List.Elements.{All-head, All-push, All-tail}
 use Rattle.std.proofs.lemmas.List.Sorted.{ranks_by}
 use Rattle.std.proofs.lemmas.Str.{IsCharBoundary-at_seam, IsCharBoundary-end, IsUtf8-between}
 use Rattle.std.proofs.Math.Seq.{drop-append_seam}
-use Rattle.texts.specs.Arena.{IsPiece, piece_cmp, same_piece, same_text, text_at, text_cmp}
-use Rattle.texts.specs.Heads.{head_of}
+use Rattle.texts.specs.Way.Arena.{IsPiece, piece_cmp, same_piece, same_text, text_at, text_cmp}
+use Rattle.texts.specs.Way.Heads.{head_of}
 use Rattle.texts.specs.declared.arena.Piece.{Piece}
 use Rattle.texts.proofs.HeadLemmas.{Small, head_cmp, utf8_small}
 

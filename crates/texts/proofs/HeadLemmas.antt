@@ -10,8 +10,8 @@ use Rattle.std.specs.Str.{IsUtf8}
 use Rattle.std.specs.declared.cmp.Ordering.TheVariants.{Less, Equal, Greater}
 use Rattle.std.proofs.lemmas.Bool.{and_parts, cases_lt}
 use Rattle.std.proofs.Math.Nat.{pow-le-pow_right, pow-suc}
-use Rattle.texts.specs.Arena.{text_cmp}
-use Rattle.texts.specs.Heads.{behind, first, head_of, with_digits}
+use Rattle.texts.specs.Way.Arena.{text_cmp}
+use Rattle.texts.specs.Way.Heads.{behind, first, head_of, with_digits}
 use lib.Utf8.{encode, encodes, scalar, scalars, scalar_cases}
 
 -- ---- one step of the loop

@@ -4,7 +4,7 @@ use Rattle.std.specs.Prelude.{Contains}
 use Rattle.std.specs.List.{dedup, list_all, prefix_len, suffix_len}
 use Rattle.std.specs.List.Sorted.{IsSortedBy}
 use Rattle.std.specs.Ordering.{is_lt}
-use Rattle.texts.specs.Arena.{same_text, text_cmp}
+use Rattle.texts.specs.Way.Arena.{same_text, text_cmp}
 use Rattle.texts.specs.Bytes.{is_blank_byte, is_clause_byte, is_letter_or_digit, is_name_byte}
 use Rattle.texts.specs.Runs.{without_leading_blanks, without_outer_blanks}
 use Rattle.texts.specs.Space.{without_trailing_space, trimmed}

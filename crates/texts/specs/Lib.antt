@@ -1,10 +1,8 @@
 pub mod Lists
 pub mod Bytes
 pub mod Space
-pub mod Split
 pub mod Runs
 pub mod Limits
 pub mod Lines
-pub mod Heads
-pub mod Arena
 pub mod TextOut
+pub mod Way

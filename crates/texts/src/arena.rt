@@ -18,8 +18,8 @@ ghost use Rattle.std.specs.Prelude.{
 ghost use Rattle.std.specs.List.{dedup};
 ghost use Rattle.std.specs.List.Sorted.{IsPermutation, IsSortedBy};
 ghost use Rattle.std.specs.Ordering.{is_lt};
-ghost use Rattle.texts.specs.Arena.{IsPiece, piece_cmp, same_piece, same_text, text_at, text_cmp};
-ghost use Rattle.texts.specs.Heads.{head_of};
+ghost use Rattle.texts.specs.Way.Arena.{IsPiece, piece_cmp, same_piece, same_text, text_at, text_cmp};
+ghost use Rattle.texts.specs.Way.Heads.{head_of};
 
 use crate::compare::compare_texts;
 use crate::heads::head_of;
@@ -47,7 +47,7 @@ pub struct Arena {
 
 impl Model for Arena {
     ghost use Rattle.std.specs.Prelude.{All, List, ℕ, map, string_bytes};
-    ghost use Rattle.texts.specs.Arena.{IsPiece, text_at};
+    ghost use Rattle.texts.specs.Way.Arena.{IsPiece, text_at};
 
     ghost Value = { List (List ℕ) };
 

@@ -1,7 +1,7 @@
 // The order of texts by their bytes.
 
 ghost use Rattle.std.specs.Prelude.{◌≡◌};
-ghost use Rattle.texts.specs.Arena.{text_cmp};
+ghost use Rattle.texts.specs.Way.Arena.{text_cmp};
 
 use crate::heads::head_of;
 use std::cmp::Ordering;

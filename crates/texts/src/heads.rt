@@ -1,7 +1,7 @@
 // The first bytes of a text as a number.
 
 ghost use Rattle.std.specs.Prelude.{◌≡◌};
-ghost use Rattle.texts.specs.Heads.{head_of};
+ghost use Rattle.texts.specs.Way.Heads.{head_of};
 
 /// The first eight bytes as a number, with 0 for a byte that is not there. Where two such numbers differ, they are in
 /// the order of the texts.

@@ -2,7 +2,7 @@
 
 ghost use Rattle.std.specs.Prelude.{◌≡◌, ◌<◌, ◌==◌, ◌∷◌, length, IfSome};
 ghost use Rattle.std.specs.List.{slice_split};
-ghost use Rattle.texts.specs.Split.{left_parts};
+ghost use Rattle.texts.specs.Way.Split.{left_parts};
 
 /// The first part of a text that is split at each such byte, and what stands behind the first of
 /// these bytes: `None` where the text has none, and is one part. Splitting what is left again gives

@@ -1,9 +1,9 @@
 // How a marker is read.
 
 ghost use Rattle.std.specs.Prelude.{◌≡◌, ◌<◌, ◌≤◌, [], IfErr, IfOk, map};
-ghost use Rattle.pep_marker.specs.Chains.{ChainFrom, Refuses};
+ghost use Rattle.pep_marker.specs.Way.Chains.{ChainFrom, Refuses};
 ghost use Rattle.pep_marker.specs.Marker.{MarkerParts, comparisons};
-ghost use Rattle.pep_marker.specs.Token.{token_of};
+ghost use Rattle.pep_marker.specs.Way.Token.{token_of};
 ghost use Rattle.pep_marker.specs.View.{tree_parts};
 
 use crate::chains::{Link, chain};

@@ -27,9 +27,9 @@ ghost use Rattle.pep_require.specs.Reads.{is_url_byte};
 ghost use Rattle.pep_marker.specs.Name.{IsNormalName};
 ghost use Rattle.pep_require.specs.Requirement.{IsAscending};
 ghost use Rattle.demands.specs.Table.{is_url_text};
-ghost use Rattle.pep_table.specs.TableReading.{AreItems, Front, HasNoFront, kind_front};
-ghost use Rattle.pep_table.specs.Refused.{AreKindLines, HaltsAt, IsBehind};
-ghost use Rattle.pep_table.specs.TextLines.{may_stand};
+ghost use Rattle.pep_table.specs.Way.TableReading.{AreItems, Front, HasNoFront, kind_front};
+ghost use Rattle.pep_table.specs.Way.ReadText.{AreKindLines, HaltsAt, IsBehind};
+ghost use Rattle.pep_table.specs.Way.TextLines.{may_stand};
 
 use crate::read::Halt;
 use demands::{Kept, Sorted, TableFault};
@@ -147,7 +147,7 @@ impl TextLines {
 
 impl LineKind for TextLines {
     ghost use Rattle.std.specs.Prelude.{IsTrue};
-    ghost use Rattle.pep_table.specs.TextLines.{may_stand, text_word};
+    ghost use Rattle.pep_table.specs.Way.TextLines.{may_stand, text_word};
 
     type Item = String;
 

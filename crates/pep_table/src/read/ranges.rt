@@ -4,8 +4,8 @@ ghost use Rattle.std.specs.Prelude.{◌≡◌, ◌⊎◌, ◌↔◌, ◌++◌, �
 ghost use Rattle.std.specs.Prelude.{IfErr, IfOk, IfSome, IsTrue, None, OnOk, Some, codes, map};
 ghost use Rattle.pep_clause.specs.Cut.{Cut, IsCut, cut_text};
 ghost use Rattle.pep_clause.specs.VersionSet.{IsNormal, Range};
-ghost use Rattle.pep_table.specs.TableReading.{AreRanges, Front, HasNoFront, IsRange};
-ghost use Rattle.pep_table.specs.Refused.{AreKindLines, HaltsAt, IsBehind};
+ghost use Rattle.pep_table.specs.Way.TableReading.{AreRanges, Front, HasNoFront, IsRange};
+ghost use Rattle.pep_table.specs.Way.ReadText.{AreKindLines, HaltsAt, IsBehind};
 ghost use Rattle.pep_table.specs.TableText.{range_text};
 
 use crate::read::Halt;

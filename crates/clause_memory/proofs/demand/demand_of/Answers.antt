@@ -1,5 +1,5 @@
 use Rattle.std.proofs.Common.{◌∙◌, ap, rules}
-use Rattle.specifiers.specs.OperatorEnds.{leaves_out}
+use Rattle.specifiers.specs.Way.OperatorEnds.{leaves_out}
 use Rattle.pep_clause.specs.OperatorTable.{between}
 use Rattle.clause_memory.proofs.demand.demand_of.Goals as goal
 

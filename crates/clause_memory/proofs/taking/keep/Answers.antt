@@ -1,5 +1,5 @@
 use Rattle.std.proofs.Common.{subst}
-use Rattle.demands.specs.LineDemands.{DemandsRanges}
+use Rattle.demands.specs.Way.LineDemands.{DemandsRanges}
 use Rattle.clause_memory.proofs.Demands.{inside_ranges, outside_normal, outside_ranges}
 use Rattle.clause_memory.proofs.taking.keep.Goals as goal
 

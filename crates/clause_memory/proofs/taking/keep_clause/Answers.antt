@@ -1,7 +1,7 @@
 use Rattle.std.proofs.Common.{◌≡◌, ◌∙◌, None, Some, ap, option_map, subst, sym}
 use Rattle.std.proofs.lemmas.Result.{on_ok_weaker}
 use Rattle.specifiers.specs.Clause.{demanded_text}
-use Rattle.demands.specs.LineDemands.{AddsClause}
+use Rattle.demands.specs.Way.LineDemands.{AddsClause}
 use Rattle.clause_memory.proofs.FrontClauses.{demanded_is}
 use Rattle.clause_memory.proofs.taking.keep_clause.Goals as goal
 

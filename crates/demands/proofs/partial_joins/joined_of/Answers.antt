@@ -1,5 +1,5 @@
 use Rattle.std.proofs.Common.{◌≡◌, length, rules}
-use Rattle.demands.specs.PartialJoins.{joined_sets}
+use Rattle.demands.specs.Way.PartialJoins.{joined_sets}
 use Rattle.demands.proofs.PartialJoins.{joined_whole, joins_last, joins_next, normal_sets}
 use Rattle.demands.proofs.partial_joins.joined_of.Goals as goal
 

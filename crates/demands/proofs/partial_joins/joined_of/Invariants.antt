@@ -1,5 +1,5 @@
 use Rattle.std.proofs.Common.{length}
-use Rattle.demands.specs.PartialJoins.{joined_sets}
+use Rattle.demands.specs.Way.PartialJoins.{joined_sets}
 use Rattle.demands.proofs.PartialJoins.{JoinsTo}
 use Rattle.demands.proofs.partial_joins.joined_of.Given as goal
 

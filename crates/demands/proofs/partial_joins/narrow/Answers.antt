@@ -1,6 +1,6 @@
 use Rattle.std.proofs.Common.{[], ◌∷◌, ◌++◌, ◌∙◌, ap}
-use Rattle.pep_clause.specs.Joined.{joined}
-use Rattle.demands.specs.PartialJoins.{joined_sets}
+use Rattle.pep_clause.specs.Way.Joined.{joined}
+use Rattle.demands.specs.Way.PartialJoins.{joined_sets}
 use Rattle.demands.proofs.PartialJoins.{joined_behind, joins_more, joins_next}
 use Rattle.demands.proofs.partial_joins.narrow.Goals as goal
 

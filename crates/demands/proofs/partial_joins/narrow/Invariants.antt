@@ -1,6 +1,6 @@
 use Rattle.std.proofs.Common.{length}
-use Rattle.pep_clause.specs.Joined.{joined}
-use Rattle.demands.specs.PartialJoins.{joined_sets}
+use Rattle.pep_clause.specs.Way.Joined.{joined}
+use Rattle.demands.specs.Way.PartialJoins.{joined_sets}
 use Rattle.demands.proofs.PartialJoins.{JoinsTo}
 use Rattle.demands.proofs.partial_joins.narrow.Given as goal
 

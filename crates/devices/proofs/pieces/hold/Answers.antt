@@ -1,5 +1,5 @@
 use Rattle.std.proofs.Common.{◌≡◌, ◌++◌, rules, subst, sym}
-use Rattle.devices.specs.Pieces.{TellsTaken}
+use Rattle.devices.specs.Way.Pieces.{TellsTaken}
 use Rattle.devices.proofs.TakenLemmas.{TellsTaken-held}
 use Rattle.devices.proofs.pieces.hold.Goals as goal
 

@@ -1,6 +1,6 @@
 use Rattle.std.proofs.Common.{◌≡◌, ◌++◌, [], rules, subst, sym}
 use Rattle.std.specs.Io.KnownBytes.{Appends}
-use Rattle.devices.specs.Pieces.{TellsTaken}
+use Rattle.devices.specs.Way.Pieces.{TellsTaken}
 use Rattle.devices.proofs.TakenLemmas.{TellsTaken-held, TellsTaken-passed, TellsTaken-written}
 use Rattle.devices.proofs.pieces.make_room.Goals as goal
 

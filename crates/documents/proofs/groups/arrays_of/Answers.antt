@@ -4,7 +4,7 @@ use Rattle.std.proofs.lemmas.List.{nil_from_length}
 use Rattle.std.specs.Vec.Iter.{into_iter_items}
 use Rattle.documents.specs.declared.groups.Group.{Group}
 use Rattle.documents.specs.Groups.{all_different, group_at}
-use Rattle.documents.specs.GroupViews.{arrays_at, group_view}
+use Rattle.documents.specs.Way.GroupViews.{arrays_at, group_view}
 use Rattle.documents.proofs.GroupTables.{ArraysSoFar, all_arrays, array_more, no_arrays, two_of_one}
 use Rattle.documents.proofs.GroupTables.{was_none, was_some}
 use Rattle.documents.proofs.groups.arrays_of.Goals as goal

@@ -1,6 +1,6 @@
 use Rattle.std.proofs.Common.{◌≡◌, length, map}
 use Rattle.std.specs.Vec.Iter.{into_iter_items, into_iter_len}
-use Rattle.documents.specs.GroupViews.{group_view}
+use Rattle.documents.specs.Way.GroupViews.{group_view}
 use Rattle.documents.proofs.GroupTables.{ArraysSoFar}
 use Rattle.documents.proofs.groups.arrays_of.Given as goal
 

@@ -6,7 +6,7 @@ use Rattle.pep_require.proofs.Exits.{further}
 use Rattle.documents.specs.declared.groups.GroupWalk.{GroupWalk}
 use Rattle.faults.specs.declared.fault.Cause.{Cause}
 use Rattle.documents.specs.Groups.{groups_in}
-use Rattle.documents.specs.GroupViews.{walk_view}
+use Rattle.documents.specs.Way.GroupViews.{walk_view}
 use Rattle.documents.specs.GroupWalk.{ComesTo, by_fault, by_step, group_step, open_group}
 use Rattle.documents.proofs.Documents.{at_key, at_no_key}
 use Rattle.documents.proofs.GroupViews.{bad_groups, equal_groups, first_walk, groups_walked, no_groups}

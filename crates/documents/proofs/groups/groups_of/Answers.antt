@@ -8,7 +8,7 @@ use Rattle.toml.specs.View.{items_view, members_view, table_view, view}
 use Rattle.pep_marker.specs.Name.{name_of}
 use Rattle.pep_require.proofs.Exits.{further}
 use Rattle.documents.specs.Groups.{groups_of}
-use Rattle.documents.specs.GroupViews.{group_view}
+use Rattle.documents.specs.Way.GroupViews.{group_view}
 use Rattle.documents.proofs.GroupTables.{all_done, and_then, group_more, no_array, no_name, nothing_done}
 use Rattle.documents.proofs.groups.groups_of.Goals as goal
 use Rattle.documents.proofs.groups.groups_of.Goals.{In-Some}

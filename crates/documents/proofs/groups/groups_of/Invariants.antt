@@ -1,7 +1,7 @@
 use Rattle.std.proofs.Common.{◌≡◌, map}
 use Rattle.toml.specs.View.{members_view, table_view}
 use Rattle.documents.specs.Groups.{groups_of}
-use Rattle.documents.specs.GroupViews.{group_view}
+use Rattle.documents.specs.Way.GroupViews.{group_view}
 use Rattle.documents.proofs.GroupTables.{and_then}
 use Rattle.documents.proofs.groups.groups_of.Given as goal
 

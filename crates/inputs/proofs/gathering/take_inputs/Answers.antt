@@ -1,6 +1,6 @@
 use Rattle.std.proofs.Common.{◌∙◌, [], ap, arith, subst}
-use Rattle.inputs.specs.GatheredLines.{GathersBytes, RefusesAsInput}
-use Rattle.inputs.specs.Wanted.{wanted_name}
+use Rattle.inputs.specs.Way.GatheredLines.{GathersBytes, RefusesAsInput}
+use Rattle.inputs.specs.Way.Wanted.{wanted_name}
 use Rattle.inputs.proofs.GatheredLists.{input_blamed_in, input_taken}
 use Rattle.inputs.proofs.gathering.take_inputs.Goals as goal
 

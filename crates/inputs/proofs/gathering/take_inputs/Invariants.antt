@@ -1,6 +1,6 @@
 use Rattle.std.proofs.Common.{◌≡◌, [], take}
-use Rattle.inputs.specs.GatheredLines.{GathersInputs}
-use Rattle.inputs.specs.Wanted.{wanted_name}
+use Rattle.inputs.specs.Way.GatheredLines.{GathersInputs}
+use Rattle.inputs.specs.Way.Wanted.{wanted_name}
 use Rattle.inputs.proofs.gathering.take_inputs.Given as goal
 
 abbrev pub invariant-loop-input : goal.invariant-loop-input

@@ -1,5 +1,5 @@
 use Rattle.std.proofs.Common.{◌≡◌, ◌&&◌, false, true, inr, refl, rules}
-use Rattle.inputs.specs.Wanted.{wanted_name, wants}
+use Rattle.inputs.specs.Way.Wanted.{wanted_name, wants}
 use Rattle.inputs.proofs.WalkedLines.{walked_passed, walked_taken, walked_undefined}
 use Rattle.inputs.proofs.gathering.take_walked.Goals as goal
 

@@ -1,5 +1,5 @@
 use Rattle.std.proofs.Common.{◌+◌, append-nil, subst}
-use Rattle.inputs.specs.LineReading.{TakesLine}
+use Rattle.inputs.specs.Way.LineReading.{TakesLine}
 use Rattle.inputs.proofs.Pieces.{last_whole}
 use Rattle.inputs.proofs.lines.take_last.Goals as goal
 

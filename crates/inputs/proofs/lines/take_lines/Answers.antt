@@ -3,7 +3,7 @@ use Rattle.std.proofs.lemmas.List.{take-append-drop}
 use Rattle.std.proofs.lemmas.Result.{IfErr-weaker, IfOk-weaker, err_from_is_err_and}
 use Rattle.inputs.proofs.Pieces.{last_refuses, over_refuses, whole_refuses}
 use Rattle.inputs.proofs.TakenLines.{ended_count, first_piece, last_taken}
-use Rattle.inputs.specs.LineReading.{HasTaken, RefusesEnded, TakesLine}
+use Rattle.inputs.specs.Way.LineReading.{HasTaken, RefusesEnded, TakesLine}
 use Rattle.inputs.proofs.lines.take_lines.Given as given
 use Rattle.inputs.proofs.lines.take_lines.Goals as goal
 use Rattle.inputs.proofs.lines.take_lines.Goals.{In_ok-lines}

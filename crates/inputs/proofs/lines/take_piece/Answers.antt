@@ -1,7 +1,7 @@
 use Rattle.std.proofs.Common.{◌+◌, ◌++◌, ◌∷◌, ◌∙◌, ap, arith, subst}
 use Rattle.std.proofs.lemmas.Result.{err_from_is_err_and}
-use Rattle.texts.specs.Split.{left_parts}
-use Rattle.inputs.specs.LineReading.{RefusesEnded, TakesLine}
+use Rattle.texts.specs.Way.Split.{left_parts}
+use Rattle.inputs.specs.Way.LineReading.{RefusesEnded, TakesLine}
 use Rattle.inputs.proofs.Pieces.{ended_refuses, held_refuses, nothing_held, part_held, room_left}
 use Rattle.inputs.proofs.TakenLines.{ended_taken, next_line, part_taken}
 use Rattle.inputs.proofs.lines.take_piece.Goals as goal

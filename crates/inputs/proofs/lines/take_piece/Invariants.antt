@@ -1,5 +1,5 @@
 use Rattle.std.proofs.Common.{◌+◌, ◌++◌, ◌≡◌, ◌≤◌, length}
-use Rattle.inputs.specs.LineReading.{IsHeld, SoFar}
+use Rattle.inputs.specs.Way.LineReading.{IsHeld, SoFar}
 use Rattle.inputs.proofs.Pieces.{left_len, left_lines}
 use Rattle.inputs.proofs.lines.take_piece.Given as goal
 

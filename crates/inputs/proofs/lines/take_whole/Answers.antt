@@ -1,7 +1,7 @@
 use Rattle.std.proofs.Common.{◌≡◌, ◌==◌, ◌∙◌, [], ap, inr, subst, sym}
 use Rattle.std.proofs.lemmas.Result.{IfErr-weaker}
 use Rattle.texts.proofs.ListLemmas.{nothing_in}
-use Rattle.inputs.specs.LineReading.{RefusesLineBytes}
+use Rattle.inputs.specs.Way.LineReading.{RefusesLineBytes}
 use Rattle.inputs.proofs.lines.take_whole.Goals as goal
 
 pub returns-then-is_empty-clause-refused : goal.returns-then-is_empty-clause-refused

@@ -5,7 +5,7 @@ use Rattle.pep_table.proofs.NameDemands.{answer_too}
 use Rattle.pep_table.proofs.TableAnswers.{answer_by_table}
 use Rattle.demands.specs.Table.{TableDemands}
 use Rattle.inputs.specs.Gathered.{Gathered}
-use Rattle.inputs.specs.Wanted.{Wanted}
+use Rattle.inputs.specs.Way.Wanted.{Wanted}
 use Rattle.inputs.proofs.merge.check_bytes.Goals as goal
 
 pub returns-in-Ok-clause-answer : goal.returns-in-Ok-clause-answer

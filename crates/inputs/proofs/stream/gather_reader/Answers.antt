@@ -1,7 +1,7 @@
 use Rattle.std.proofs.Common.{subst}
-use Rattle.inputs.specs.LineReading.{RefusesSource, TakesSource}
-use Rattle.inputs.specs.TakenTexts.{GathersText, RefusesTextIn}
-use Rattle.inputs.specs.Wanted.{wanted_name}
+use Rattle.inputs.specs.Way.LineReading.{RefusesSource, TakesSource}
+use Rattle.inputs.specs.Way.TakenTexts.{GathersText, RefusesTextIn}
+use Rattle.inputs.specs.Way.Wanted.{wanted_name}
 use Rattle.inputs.proofs.GatheredSource.{reading_refused, reads_table}
 use Rattle.inputs.proofs.stream.gather_reader.Goals as goal
 

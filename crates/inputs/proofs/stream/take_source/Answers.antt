@@ -1,7 +1,7 @@
 use Rattle.std.proofs.Common.{[], ◌++◌, ◌+◌, ◌≡◌, ◌∙◌, arith, rules, subst, sym}
 use Rattle.std.proofs.Common.{◌-◌, ◌⊎◌, take}
 use Rattle.faults.specs.declared.fault.Cause.TheVariants.{TooLarge}
-use Rattle.inputs.specs.LineReading.{HasTaken, RefusesEnded, RefusesPiece, TakesLine}
+use Rattle.inputs.specs.Way.LineReading.{HasTaken, RefusesEnded, RefusesPiece, TakesLine}
 use Rattle.std.specs.Io.KnownBytes.{Consumes, IsAtEnd}
 use Rattle.std.proofs.lemmas.Result.{IfErr-weaker, IfOk-weaker, err_from_is_err_and}
 use Rattle.inputs.proofs.StreamLemmas.{all_but_last, all_read, ended_lines, last_refused, over_refused}

@@ -1,6 +1,6 @@
 use Rattle.std.proofs.Common.{◌==◌}
 use Rattle.std.specs.List.{slice_split}
-use Rattle.texts.specs.Split.{left_parts}
+use Rattle.texts.specs.Way.Split.{left_parts}
 use Rattle.pep_c.specs.ClauseLists.{AnswersText}
 use Rattle.pep_c.proofs.EachText.{Answered, left_len}
 use Rattle.pep_c.proofs.clause_lists.answers_of.Given as goal

@@ -1,6 +1,6 @@
 use Rattle.std.proofs.Common.{◌==◌}
 use Rattle.std.specs.List.{slice_split}
-use Rattle.texts.specs.Split.{left_parts}
+use Rattle.texts.specs.Way.Split.{left_parts}
 use Rattle.pep_c.proofs.ClauseListLemmas.{Written}
 use Rattle.pep_c.proofs.EachText.{left_len}
 use Rattle.pep_c.proofs.clause_lists.clauses_of.Given as goal

@@ -1,7 +1,7 @@
 use Rattle.std.proofs.Common.{◌==◌}
 use Rattle.std.specs.List.{slice_split}
 use Rattle.demands.specs.Table.{TableDemands}
-use Rattle.texts.specs.Split.{left_parts}
+use Rattle.texts.specs.Way.Split.{left_parts}
 use Rattle.pep_c.specs.Questions.{AnswersQuestion}
 use Rattle.pep_c.proofs.EachText.{Answered, left_len}
 use Rattle.pep_c.proofs.questions.answers_on.Given as goal

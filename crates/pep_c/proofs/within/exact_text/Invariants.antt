@@ -1,5 +1,5 @@
 use Rattle.std.proofs.Common.{◌≡◌, drop}
-use Rattle.pep_c.specs.Within.{first_demanded}
+use Rattle.pep_c.specs.Way.Within.{first_demanded}
 use Rattle.pep_c.proofs.within.exact_text.Given as goal
 
 -- what is left to ask decides

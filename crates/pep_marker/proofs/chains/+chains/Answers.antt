@@ -2,9 +2,9 @@
 use Rattle.std.proofs.Common.{◌≡◌, ◌<◌, true, inl, inr, sym, subst, ◌∙◌, map, length, refl, arith}
 use Rattle.std.proofs.lemmas.Result.{err_from_is_err_and}
 use Rattle.std.specs.Prelude.{IfOk}
-use Rattle.pep_marker.specs.Chains.{ItemFrom, chain_part, item_part, link_word, part_ends}
+use Rattle.pep_marker.specs.Way.Chains.{ItemFrom, chain_part, item_part, link_word, part_ends}
 use Rattle.pep_marker.specs.declared.chains.Link.TheVariants.{And, Or}
-use Rattle.pep_marker.specs.Token.{token_of}
+use Rattle.pep_marker.specs.Way.Token.{token_of}
 use Rattle.pep_marker.specs.View.{tree_parts}
 use Rattle.pep_marker.proofs.ChainLaws.{shorter_part}
 use Rattle.pep_marker.proofs.ChainLoops.{SoFar, first_so, whole, refuses_by, no_first}

@@ -1,9 +1,9 @@
 -- What the loop over a chain keeps, and why the calls of one another end: each parenthesis that is
 -- opened leaves one less.
 use Rattle.std.proofs.Common.{◌≡◌, ℕ, ◌+◌, ◌*◌, ◌≤◌, length, map, true}
-use Rattle.pep_marker.specs.Chains.{part_ends}
+use Rattle.pep_marker.specs.Way.Chains.{part_ends}
 use Rattle.pep_marker.specs.Marker.{comparisons}
-use Rattle.pep_marker.specs.Token.{token_of}
+use Rattle.pep_marker.specs.Way.Token.{token_of}
 use Rattle.pep_marker.specs.View.{tree_parts}
 use Rattle.pep_marker.specs.declared.chains.Link.{Link}
 use Rattle.pep_marker.specs.declared.chains.Link.TheVariants.{And, Or}

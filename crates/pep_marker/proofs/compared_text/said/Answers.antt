@@ -1,6 +1,6 @@
 use Rattle.std.proofs.Common.{subst}
 use Rattle.std.specs.Option.{option_copied}
-use Rattle.pep_marker.specs.Value.{IsVersionOf}
+use Rattle.pep_marker.specs.Way.Value.{IsVersionOf}
 use Rattle.pep_marker.proofs.MarkerTruth.{operand_says, spells_none}
 use Rattle.pep_marker.proofs.compared_text.said.Goals as goal
 

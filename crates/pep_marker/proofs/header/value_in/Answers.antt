@@ -2,7 +2,8 @@ use Rattle.std.proofs.Common.{◌≡◌, ◌++◌, ◌∷◌, List, None, Some, 
 use Rattle.std.proofs.lemmas.Str.Pattern.{split_parts}
 use Rattle.texts.specs.Lines.{HasNoFeed}
 use Rattle.texts.proofs.LineLemmas.{feed_free}
-use Rattle.pep_marker.specs.Header.{IsHeaderValue, named_line}
+use Rattle.pep_marker.specs.Header.{named_line}
+use Rattle.pep_marker.specs.Way.HeaderLines.{IsHeaderValue}
 use Rattle.pep_marker.proofs.HeaderLines.{bad_value, no_value_line, other_line}
 use Rattle.pep_marker.proofs.header.value_in.Goals as goal
 use Rattle.pep_marker.proofs.header.value_in.Goals.{In-Some}

@@ -2,7 +2,7 @@ use Rattle.std.proofs.Common.{rules}
 use Rattle.std.specs.Prelude.{Ok}
 use Rattle.specifiers.specs.Clause.{Clause, ClauseOf}
 use Rattle.specifiers.specs.declared.op.Op.TheVariants.{Equal}
-use Rattle.pep_marker.specs.ComparedView.{compared_bytes}
+use Rattle.pep_marker.specs.Way.ComparedView.{compared_bytes}
 use Rattle.pep_marker.proofs.MarkerTruth.{handed, makes_none}
 use Rattle.pep_marker.proofs.holds.known_truth.Goals as goal
 

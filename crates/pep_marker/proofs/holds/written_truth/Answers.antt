@@ -1,7 +1,7 @@
 use Rattle.std.proofs.Common.{rules}
 use Rattle.std.specs.Prelude.{Ok}
 use Rattle.specifiers.specs.Clause.{ClauseOf}
-use Rattle.pep_marker.specs.ComparedView.{compared_bytes}
+use Rattle.pep_marker.specs.Way.ComparedView.{compared_bytes}
 use Rattle.pep_marker.proofs.MarkerTruth.{clause_says}
 use Rattle.pep_marker.proofs.holds.written_truth.Goals as goal
 

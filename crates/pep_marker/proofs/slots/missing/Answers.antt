@@ -4,7 +4,7 @@ use Rattle.std.specs.Option.{option_map}
 use Rattle.std.proofs.lemmas.Iterator.{YieldsList-from_slice}
 use Rattle.std.proofs.lemmas.Iterator.Search.{find_from_yields_List}
 use Rattle.pep_marker.specs.Environment.{is_required}
-use Rattle.pep_marker.specs.Slots.{slot}
+use Rattle.pep_marker.specs.Way.Slots.{slot}
 use Rattle.pep_marker.specs.declared.environment.Variable.{Variable}
 use Rattle.pep_marker.proofs.SlotLemmas.{first_row}
 use Rattle.pep_marker.proofs.slots.missing.Goals as goal

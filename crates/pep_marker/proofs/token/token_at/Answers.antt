@@ -1,8 +1,8 @@
 use Rattle.std.proofs.Common.{◌∙◌, ap, refl, subst, sym, take}
 use Rattle.std.proofs.lemmas.Str.{IsUtf8-drop}
 use Rattle.std.specs.Str.{IsUtf8}
-use Rattle.pep_marker.specs.Token.{lexeme_of}
-use Rattle.pep_marker.specs.TokenReading.{next_token}
+use Rattle.pep_marker.specs.Way.Token.{lexeme_of}
+use Rattle.pep_marker.specs.Way.TokenReading.{next_token}
 use Rattle.pep_marker.proofs.FoundTokens.{boundary-token, token-stands}
 use Rattle.pep_marker.proofs.TokenLoop.{token_here}
 use Rattle.pep_marker.proofs.token.token_at.Goals as goal

@@ -1,7 +1,7 @@
 use Rattle.std.proofs.Common.{◌∙◌, ◌++◌, ◌∷◌, [], refl, sym, subst}
 use Rattle.std.proofs.lemmas.Result.{err_from_is_err_and}
 use Rattle.pep_require.proofs.BoundLoops.{ends_at_comma, ends_here, less_left, none_yet, one_more, refused_here}
-use Rattle.pep_require.specs.Sink.{AddsClauses}
+use Rattle.pep_require.specs.Way.Sink.{AddsClauses}
 use Rattle.pep_require.proofs.SinkLemmas.{and_more, no_more}
 use Rattle.pep_require.proofs.clauses.walk_clauses.Given as given
 use Rattle.pep_require.proofs.clauses.walk_clauses.Goals as goal

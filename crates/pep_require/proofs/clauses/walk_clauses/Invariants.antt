@@ -3,7 +3,7 @@ use denote.Text.{Utf8}
 use denote.Shadow.{shadow}
 use Rattle.specifiers.specs.Clause.{Clause}
 use Rattle.pep_require.proofs.BoundLoops.{SoFar}
-use Rattle.pep_require.specs.Sink.{AddsClauses}
+use Rattle.pep_require.specs.Way.Sink.{AddsClauses}
 use Rattle.pep_require.proofs.clauses.walk_clauses.Given as goal
 
 -- the clauses that are done stand in front, and the sink took them

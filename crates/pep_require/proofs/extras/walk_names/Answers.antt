@@ -4,7 +4,7 @@ use Rattle.pep_require.proofs.ExtrasCuts.{CutAt, all_done, boundary-byte, cut_at
 use Rattle.std.specs.List.{prefix_len}
 use Rattle.pep_require.proofs.ExtrasLoops.{nothing_within}
 use Rattle.pep_require.proofs.FrontLemmas.{fault_by}
-use Rattle.pep_require.specs.Sink.{Adds, with_extra, with_named}
+use Rattle.pep_require.specs.Way.Sink.{Adds, with_extra, with_named}
 use Rattle.pep_require.proofs.SinkLemmas.{name_more, no_names}
 use Rattle.pep_require.proofs.extras.walk_names.Given as given
 use Rattle.pep_require.proofs.extras.walk_names.Goals as goal

@@ -1,7 +1,7 @@
 use Rattle.std.proofs.Common.{◌≡◌, ℕ, List, length}
 use denote.Text.{Utf8}
 use denote.Shadow.{shadow}
-use Rattle.pep_require.specs.Sink.{Adds, with_named}
+use Rattle.pep_require.specs.Way.Sink.{Adds, with_named}
 use Rattle.pep_require.proofs.ExtrasCuts.{NamesSoFar}
 use Rattle.pep_require.proofs.extras.walk_names.Given as goal
 

@@ -4,7 +4,7 @@ use Rattle.std.specs.Cmp.Lexicographic.{slice_cmp}
 use Rattle.std.specs.Ordering.{is_lt, nat_cmp}
 use Rattle.pep_require.specs.Requirement.{IsAscending}
 use Rattle.pep_table.proofs.AscendingItems.{behind_last}
-use Rattle.pep_table.specs.EntryReading.{last_name}
+use Rattle.pep_table.specs.Way.EntryReading.{last_name}
 use Rattle.pep_table.proofs.read.is_behind.Goals as goal
 
 pub returns-in-Some : goal.returns-in-Some

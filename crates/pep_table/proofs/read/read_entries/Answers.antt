@@ -2,7 +2,7 @@ use Rattle.std.proofs.Common.{◌≡◌, [], length, rules, subst, sym}
 use Rattle.pep_require.proofs.Exits.{further, handed_on}
 use Rattle.pep_table.proofs.ReadTables.{EntriesSoFar, all_read, entry_more, next_alike, no_next}
 use Rattle.pep_table.proofs.ReadTables.{none_alike, stops_next}
-use Rattle.pep_table.specs.EntryReading.{FollowsAlike, last_name}
+use Rattle.pep_table.specs.Way.EntryReading.{FollowsAlike, last_name}
 use Rattle.demands.specs.Table.{names}
 use Rattle.pep_table.proofs.read.read_entries.Goals as goal
 

@@ -1,7 +1,7 @@
 use Rattle.std.proofs.Common.{◌++◌, ◌∷◌, [], inr, refl, rules}
 use Rattle.pep_require.specs.Requirement.{IsAscending}
 use Rattle.pep_require.proofs.Exits.{further, handed_on}
-use Rattle.pep_table.specs.EntryReading.{head_line, last_name}
+use Rattle.pep_table.specs.Way.EntryReading.{head_line, last_name}
 use Rattle.pep_table.proofs.TableLines.{header_feed}
 use Rattle.pep_table.proofs.ToldLines.{entry_stops, halts_so, here_stops}
 use Rattle.pep_table.proofs.ReadTables.{entry_read, not_behind, not_read}

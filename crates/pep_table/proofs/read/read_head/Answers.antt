@@ -4,7 +4,7 @@ use Rattle.pep_marker.specs.Name.{IsNormalName}
 use Rattle.pep_require.proofs.ExtrasLoops.{all_but_at}
 use Rattle.demands.specs.declared.verdict.Verdict.{Verdict}
 use Rattle.demands.specs.Verdict.{verdict_word}
-use Rattle.pep_table.specs.TableReading.{HasNoFeed}
+use Rattle.pep_table.specs.Way.TableReading.{HasNoFeed}
 use Rattle.pep_table.proofs.RangeWords.{IsCutAtSpace}
 use Rattle.pep_table.proofs.ReadParts.{no_line, no_name, no_space, no_verdict}
 use Rattle.pep_table.proofs.read.read_head.Goals as goal

@@ -4,7 +4,7 @@ use Rattle.pep_marker.specs.Name.{IsNormalName}
 use Rattle.pep_table.proofs.ReadParts.{IsDemanded, IsUrl, no_extras, no_ranges, no_texts, no_urls}
 use Rattle.pep_table.proofs.ReadParts.{parts_read}
 use Rattle.pep_table.proofs.ToldLines.{front_more, halts_so, kind_front_in}
-use Rattle.pep_table.specs.EntryReading.{HasParts}
+use Rattle.pep_table.specs.Way.EntryReading.{HasParts}
 use Rattle.pep_table.proofs.read.read_parts.Goals as goal
 
 pub returns-in_err-extras-clause-refused : goal.returns-in_err-extras-clause-refused

@@ -4,7 +4,7 @@ use Rattle.pep_require.proofs.Exits.{further, handed_on}
 use Rattle.pep_table.proofs.ReadTables.{NamedSoFar, named_more, named_read, no_named}
 use Rattle.pep_table.proofs.ReadTables.{none_alike, none_named, stops_next}
 use Rattle.demands.specs.Table.{names}
-use Rattle.pep_table.specs.EntryReading.{HasNext, HasNoNext}
+use Rattle.pep_table.specs.Way.EntryReading.{HasNext, HasNoNext}
 use Rattle.pep_table.proofs.read.read_wanted.Goals as goal
 
 pub returns-in_err-name-clause-refused : goal.returns-in_err-name-clause-refused

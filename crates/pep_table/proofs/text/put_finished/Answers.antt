@@ -1,6 +1,6 @@
 use Rattle.std.proofs.Common.{◌∙◌, ◌++◌, ap, codes, map, option_map}
 use Rattle.std.proofs.lemmas.Result.{on_ok_weaker}
-use Rattle.demands.specs.Others.{kept_others}
+use Rattle.demands.specs.Way.Others.{kept_others}
 use Rattle.pep_table.proofs.EntryLines.{entry_lines, head_line}
 use Rattle.pep_table.specs.TableText.{kind_lines, range_text}
 use Rattle.pep_table.proofs.text.put_finished.Goals as goal

@@ -1,6 +1,6 @@
 use Rattle.std.proofs.Common.{◌∙◌, ◌++◌, ap, codes, map, refl}
 use Rattle.std.proofs.lemmas.Result.{on_ok_weaker}
-use Rattle.demands.specs.Finished.{other_parts}
+use Rattle.demands.specs.Way.Finished.{other_parts}
 use Rattle.pep_table.proofs.EntryLines.{entry_lines, head_line}
 use Rattle.pep_table.specs.TableText.{kind_lines, range_text}
 use Rattle.pep_table.proofs.text.put_lines.Goals as goal

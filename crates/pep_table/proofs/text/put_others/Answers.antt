@@ -1,6 +1,6 @@
 use Rattle.std.proofs.Common.{◌∙◌, ◌++◌, ap, codes, option_map, sym}
 use Rattle.std.proofs.lemmas.Result.{on_ok_weaker}
-use Rattle.demands.specs.Others.{kept_others}
+use Rattle.demands.specs.Way.Others.{kept_others}
 use Rattle.pep_table.specs.TableText.{kind_lines, other_lines}
 use Rattle.pep_table.proofs.EntryLines.{three_kinds}
 use Rattle.pep_table.proofs.text.put_others.Goals as goal

@@ -1,6 +1,6 @@
 use Rattle.std.proofs.Common.{map}
 use Rattle.std.specs.Str.Parse.{digits_value}
-use Rattle.texts.specs.Split.{left_parts}
+use Rattle.texts.specs.Way.Split.{left_parts}
 use Rattle.pep_version.proofs.NumberLemmas.{too-large}
 use Rattle.pep_version.proofs.release.release_numbers.Goals as goal
 

@@ -2,7 +2,7 @@ use Rattle.std.proofs.Common.{◌≡◌, ◌++◌, map, true, length, Option, So
 use Rattle.std.specs.List.{AllByRecursion, list_all}
 use Rattle.std.specs.Str.Parse.{digits_value}
 use Rattle.pep_version.specs.Spelling.{dotted_parts, is_number}
-use Rattle.texts.specs.Split.{left_parts}
+use Rattle.texts.specs.Way.Split.{left_parts}
 use Rattle.pep_version.specs.Version.{Fits}
 use Rattle.pep_version.proofs.release.release_numbers.Given as goal
 

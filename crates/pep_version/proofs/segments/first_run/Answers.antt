@@ -1,7 +1,7 @@
 use Rattle.std.proofs.Common.{◌≡◌, ◌∙◌, ◌+◌, ◌∷◌, ◌≤◌, ap, arith, false, get_or, length, sym, take}
 use Rattle.std.proofs.lemmas.List.{take_all}
 use Rattle.std.proofs.lemmas.List.Elements.{All-more}
-use Rattle.pep_version.specs.Slices.{lower}
+use Rattle.pep_version.specs.Way.Slices.{lower}
 use Rattle.pep_version.specs.Spelling.{separated_parts}
 use Rattle.texts.specs.Bytes.{is_separator}
 use Rattle.texts.proofs.ListLemmas.{to-end}

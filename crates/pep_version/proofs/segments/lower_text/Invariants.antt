@@ -1,5 +1,5 @@
 use Rattle.std.proofs.Common.{◌≡◌, string_bytes, take}
-use Rattle.pep_version.specs.Slices.{lower}
+use Rattle.pep_version.specs.Way.Slices.{lower}
 use Rattle.pep_version.proofs.segments.lower_text.Given as goal
 
 abbrev pub invariant-loop-b : goal.invariant-loop-b

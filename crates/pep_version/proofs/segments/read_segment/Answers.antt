@@ -2,7 +2,7 @@ use Rattle.std.proofs.Common.{◌≡◌, ◌∙◌, ap, false, subst, sym, true}
 use Rattle.std.specs.Char.{is_ascii_digit}
 use Rattle.std.specs.List.{list_all}
 use Rattle.std.proofs.lemmas.Result.{err_from_is_err_and}
-use Rattle.pep_version.specs.Slices.{lower}
+use Rattle.pep_version.specs.Way.Slices.{lower}
 use Rattle.pep_version.specs.Spelling.{segment_of_run}
 use Rattle.pep_version.specs.Version.{Fits, SegmentFits, number, word}
 use Rattle.pep_version.specs.View.{segment_of}

@@ -1,7 +1,7 @@
 use Rattle.std.proofs.Common.{Global, Vec, ◌≡◌, map}
 use Rattle.std.proofs.lemmas.Result.{err_from_is_err_and}
 use Rattle.std.specs.List.{AllByRecursion}
-use Rattle.pep_version.specs.Slices.{label_of, lower}
+use Rattle.pep_version.specs.Way.Slices.{label_of, lower}
 use Rattle.pep_version.specs.Spelling.{segment_of_run}
 use Rattle.pep_version.specs.declared.parts.Label.{Label}
 use Rattle.pep_version.specs.Version.{SegmentFits}

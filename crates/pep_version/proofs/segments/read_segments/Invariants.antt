@@ -1,6 +1,6 @@
 use Rattle.std.proofs.Common.{◌≡◌, ◌++◌, Bor, List, None, Option, Some, length, map, suc, true, ℕ}
 use Rattle.std.specs.List.{AllByRecursion, list_all}
-use Rattle.pep_version.specs.Slices.{label_of, left_runs}
+use Rattle.pep_version.specs.Way.Slices.{label_of, left_runs}
 use Rattle.pep_version.specs.Spelling.{is_run}
 use Rattle.pep_version.specs.Version.{SegmentFits}
 use Rattle.pep_version.specs.View.{segment_of}

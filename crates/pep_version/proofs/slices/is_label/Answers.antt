@@ -1,7 +1,7 @@
 use Rattle.std.proofs.Common.{◌∙◌, rules, sym, tests}
 use Rattle.std.proofs.lemmas.Iterator.Search.{all_from_yields_List}
 use Rattle.std.proofs.lemmas.Iterator.Splits.{YieldsList-from_slice_split}
-use Rattle.pep_version.specs.Slices.{lower}
+use Rattle.pep_version.specs.Way.Slices.{lower}
 use Rattle.pep_version.specs.Spelling.{is_run}
 use Rattle.pep_version.proofs.SliceLemmas.{label-lower}
 use Rattle.pep_version.proofs.slices.is_label.Goals as goal

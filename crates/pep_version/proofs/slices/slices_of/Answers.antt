@@ -1,7 +1,7 @@
 use Rattle.std.proofs.Common.{◌≡◌, ◌∙◌, ap, sym, true}
 use Rattle.std.specs.List.{list_all}
-use Rattle.pep_version.specs.Slices.{lower}
-use Rattle.pep_version.specs.Reading.{starts_digit}
+use Rattle.pep_version.specs.Way.Slices.{lower}
+use Rattle.pep_version.specs.Way.Reading.{starts_digit}
 use Rattle.pep_version.specs.Spelling.{dotted_parts, is_number}
 use Rattle.pep_version.proofs.Sound.{release-numbers}
 use Rattle.pep_version.proofs.slices.slices_of.Goals as goal

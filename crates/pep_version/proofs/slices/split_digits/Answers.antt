@@ -1,6 +1,6 @@
 use Rattle.std.proofs.Common.{◌∙◌, ap, arith, length, sym}
 use Rattle.texts.proofs.ListLemmas.{to-end}
-use Rattle.pep_version.specs.Slices.{lower}
+use Rattle.pep_version.specs.Way.Slices.{lower}
 use Rattle.pep_version.proofs.SliceLemmas.{digits-until, digits-whole, no-digit-at}
 use Rattle.pep_version.proofs.slices.split_digits.Goals as goal
 

@@ -1,7 +1,7 @@
 use Rattle.std.proofs.Common.{◌∙◌, ap, sym}
 use Rattle.texts.proofs.ListLemmas.{to-end}
-use Rattle.pep_version.specs.Slices.{lower}
-use Rattle.pep_version.specs.Reading.{goes_on}
+use Rattle.pep_version.specs.Way.Slices.{lower}
+use Rattle.pep_version.specs.Way.Reading.{goes_on}
 use Rattle.pep_version.proofs.SliceLemmas.{release-more}
 use Rattle.pep_version.proofs.slices.split_release.Goals as goal
 

@@ -1,6 +1,6 @@
 use Rattle.std.proofs.Common.{◌≡◌, drop}
-use Rattle.pep_version.specs.Slices.{lower}
-use Rattle.pep_version.specs.Reading.{stripped}
+use Rattle.pep_version.specs.Way.Slices.{lower}
+use Rattle.pep_version.specs.Way.Reading.{stripped}
 use Rattle.pep_version.proofs.slices.strip_word.Given as goal
 
 abbrev pub invariant-letters : goal.invariant-letters

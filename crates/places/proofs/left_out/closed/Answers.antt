@@ -3,7 +3,7 @@ use Rattle.std.specs.Prelude.{◌≢◌}
 use Rattle.std.specs.declared.cmp.Ordering.TheVariants.{Less}
 use Rattle.std.proofs.lemmas.List.Elements.{All-push}
 use Rattle.pep_clause.specs.Cut.{cut_cmp, end}
-use Rattle.places.specs.LeftOut.{IsPart, is_left_out}
+use Rattle.places.specs.Way.LeftOut.{IsPart, is_left_out}
 use Rattle.places.proofs.LeftOver.{left_out-behind, not_below}
 use Rattle.places.proofs.Swept.{closed-none, closed-part}
 use Rattle.places.proofs.left_out.closed.Goals as goal

@@ -4,7 +4,7 @@ use Rattle.std.proofs.lemmas.List.Sorted.{All-permutation, IsStrictWeakOrder-fli
 use Rattle.texts.proofs.ListLemmas.{lent_whole}
 use Rattle.pep_clause.specs.Cut.{Cut, cut_cmp}
 use Rattle.pep_clause.specs.Laws.{cut_total}
-use Rattle.places.specs.LeftOut.{IsSingle, place_of}
+use Rattle.places.specs.Way.LeftOut.{IsSingle, place_of}
 use Rattle.places.proofs.SinglePlaces.{one_each, singles_permuted}
 use Rattle.places.proofs.left_out.order_singles.Goals as goal
 

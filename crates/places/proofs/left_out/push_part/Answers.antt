@@ -1,6 +1,6 @@
 use Rattle.std.proofs.Common.{◌≡◌, ◌∙◌, [], ◌∷◌, ◌++◌, ap, rules, true}
 use Rattle.std.proofs.lemmas.List.Elements.{All-push}
-use Rattle.places.specs.LeftOut.{IsPart, is_left_out, meets}
+use Rattle.places.specs.Way.LeftOut.{IsPart, is_left_out, meets}
 use Rattle.places.proofs.LeftOver.{joined_part, left_out-behind, put_joined, put_joined_are}
 use Rattle.places.proofs.left_out.push_part.Goals as goal
 

@@ -1,7 +1,7 @@
 use Rattle.std.proofs.Common.{◌≡◌, ◌∙◌, rules, ap}
 use Rattle.std.specs.declared.cmp.Ordering.TheVariants.{Less}
 use Rattle.pep_clause.specs.Cut.{cut_cmp}
-use Rattle.places.specs.LeftOut.{spans}
+use Rattle.places.specs.Way.LeftOut.{spans}
 use Rattle.places.proofs.LeftOver.{one_span}
 use Rattle.places.proofs.left_out.push_range.Goals as goal
 

@@ -1,6 +1,6 @@
 use Rattle.std.proofs.Common.{◌++◌, ◌∙◌, rules, subst, sym}
 use Rattle.pep_clause.specs.OperatorTable.{range}
-use Rattle.places.specs.LeftOut.{TakesFirst, all_parts, spans}
+use Rattle.places.specs.Way.LeftOut.{TakesFirst, all_parts, spans}
 use Rattle.places.proofs.SinglePlaces.{all_are}
 use Rattle.places.proofs.Swept.{swept-first, swept-next, swept-whole}
 use Rattle.places.proofs.left_out.swept.Goals as goal

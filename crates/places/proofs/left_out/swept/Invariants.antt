@@ -1,5 +1,5 @@
 use Rattle.std.proofs.Common.{◌+◌, length}
-use Rattle.places.specs.LeftOut.{AreFalling, all_parts, spans}
+use Rattle.places.specs.Way.LeftOut.{AreFalling, all_parts, spans}
 use Rattle.places.proofs.Swept.{SweptTo}
 use Rattle.places.proofs.left_out.swept.Given as goal
 

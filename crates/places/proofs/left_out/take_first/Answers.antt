@@ -2,7 +2,7 @@ use Rattle.std.proofs.Common.{◌≡◌, false, rules, subst}
 use Rattle.std.specs.Prelude.{All}
 use Rattle.std.specs.Ordering.{is_lt}
 use Rattle.pep_clause.specs.Cut.{cut_cmp}
-use Rattle.places.specs.LeftOut.{TakesFirst}
+use Rattle.places.specs.Way.LeftOut.{TakesFirst}
 use Rattle.places.proofs.SinglePlaces.{popped_is_single, take-single, taken-part}
 use Rattle.places.proofs.left_out.take_first.Goals as goal
 

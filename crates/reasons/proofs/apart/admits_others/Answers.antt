@@ -2,7 +2,7 @@ use Rattle.std.proofs.Common.{◌∙◌, List, ap, subst, sym}
 use Rattle.std.proofs.lemmas.Result.{IfOk-weaker}
 use Rattle.specifiers.specs.Clause.{Clause}
 use Rattle.pep_require.specs.View.{requirement_parts, target_parts}
-use Rattle.reasons.specs.Apart.{AdmitsOthers, AreClausesApart}
+use Rattle.reasons.specs.Way.Apart.{AdmitsOthers, AreClausesApart}
 use Rattle.reasons.specs.View.{claim_parts}
 use Rattle.reasons.specs.declared.claims.Claim.{Claim}
 use Rattle.reasons.proofs.ApartClaims.{required_admits}

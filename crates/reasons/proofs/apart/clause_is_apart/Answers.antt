@@ -1,6 +1,6 @@
 use Rattle.std.proofs.Common.{List, rules, subst}
 use Rattle.pep_clause.specs.VersionSet.{Range}
-use Rattle.reasons.specs.Apart.{HasOthers}
+use Rattle.reasons.specs.Way.Apart.{HasOthers}
 use Rattle.reasons.proofs.ApartClaims.{clause_apart, no_text}
 use Rattle.reasons.proofs.apart.clause_is_apart.Goals as goal
 

@@ -1,5 +1,5 @@
 use Rattle.std.proofs.Common.{rules, subst}
-use Rattle.reasons.specs.Apart.{AreBelow, OwnsBelow}
+use Rattle.reasons.specs.Way.Apart.{AreBelow, OwnsBelow}
 use Rattle.pep_clause.specs.Cut.{Cut}
 use Rattle.reasons.proofs.PointOrder.{others_more}
 use Rattle.reasons.proofs.apart.has_others.Goals as goal

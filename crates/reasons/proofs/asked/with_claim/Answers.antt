@@ -1,6 +1,6 @@
 use Rattle.std.proofs.Common.{List, ℕ, map, refl, subst, sym}
 use Rattle.std.specs.Prelude.{Contains}
-use Rattle.reasons.specs.Asked.{IsIndexOf, asked_parts, names_in}
+use Rattle.reasons.specs.Way.Asked.{IsIndexOf, asked_parts, names_in}
 use Rattle.std.proofs.Common.{Some}
 use Rattle.reasons.specs.Claims.{name_of}
 use Rattle.reasons.specs.View.{placed_parts}

@@ -1,6 +1,6 @@
 use Rattle.std.proofs.Common.{List, map, subst, sym, take}
 use Rattle.reasons.specs.Claims.{PlacedParts}
-use Rattle.reasons.specs.ClashSearch.{TakesClaim, TakesClaims}
+use Rattle.reasons.specs.Way.ClashSearch.{TakesClaim, TakesClaims}
 use Rattle.reasons.specs.View.{claim_parts, claims_at, placed_parts}
 use Rattle.reasons.specs.declared.claims.PlacedClaim.{PlacedClaim}
 use Rattle.reasons.proofs.ClashViews.{next_found}

@@ -1,5 +1,5 @@
 use Rattle.std.proofs.Common.{map, take}
-use Rattle.reasons.specs.ClashSearch.{TakesClaims}
+use Rattle.reasons.specs.Way.ClashSearch.{TakesClaims}
 use Rattle.reasons.specs.View.{claims_at, placed_parts}
 use Rattle.reasons.proofs.clash.take_found.Given as goal
 

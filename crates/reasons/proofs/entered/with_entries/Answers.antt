@@ -1,6 +1,6 @@
 use Rattle.std.proofs.Common.{◌≡◌, ℕ, arith, drop, map, subst}
-use Rattle.reasons.specs.Asked.{AllGain, asked_parts}
-use Rattle.reasons.specs.ClaimSearch.{AreClaimsBy, EntersAmong}
+use Rattle.reasons.specs.Way.Asked.{AllGain, asked_parts}
+use Rattle.reasons.specs.Way.ClaimSearch.{AreClaimsBy, EntersAmong}
 use Rattle.reasons.proofs.AskedClaims.{order_stays}
 use Rattle.reasons.proofs.EnteredClaims.{all_entered, entries_next, entry_fits, none_entered}
 use Rattle.reasons.proofs.entered.with_entries.Goals as goal

@@ -1,7 +1,7 @@
 use Rattle.std.proofs.Common.{◌≡◌, ◌+◌, ◌≤◌, drop, length}
 use Rattle.pep_table.specs.Refused.{feeds}
-use Rattle.reasons.specs.Asked.{AllGain}
-use Rattle.reasons.specs.ClaimSearch.{AreClaimsBy, EntersAmong, lines_in}
+use Rattle.reasons.specs.Way.Asked.{AllGain}
+use Rattle.reasons.specs.Way.ClaimSearch.{AreClaimsBy, EntersAmong, lines_in}
 use Rattle.reasons.proofs.entered.with_entries.Given as goal
 
 -- the claims of the entries behind those that are left were added

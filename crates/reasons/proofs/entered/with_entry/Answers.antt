@@ -1,6 +1,6 @@
 use Rattle.std.proofs.Common.{List, map, subst, sym}
 use Rattle.std.specs.Prelude.{Contains}
-use Rattle.reasons.specs.Asked.{asked_parts, names_in}
+use Rattle.reasons.specs.Way.Asked.{asked_parts, names_in}
 use Rattle.reasons.specs.Claims.{entered}
 use Rattle.reasons.specs.declared.asked.Asked.{Asked}
 use Rattle.reasons.proofs.AskedClaims.{not_asked}

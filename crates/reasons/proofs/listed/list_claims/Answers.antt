@@ -1,10 +1,10 @@
 use Rattle.std.proofs.Common.{◌+◌, ◌∙◌, List, ℕ, ap, arith, length, map, option_map, subst, sym}
 use Rattle.pep_require.specs.Requirement.{IsAscending}
 use Rattle.pep_require.specs.View.{requirement_parts}
-use Rattle.texts.specs.Split.{left_parts}
+use Rattle.texts.specs.Way.Split.{left_parts}
 use Rattle.inputs.proofs.Pieces.{room_left}
-use Rattle.reasons.specs.Asked.{asked_parts, names_in}
-use Rattle.reasons.specs.ClaimSearch.{AreClaimsBy, FindsOnLine, ListedSoFar, UpTo}
+use Rattle.reasons.specs.Way.Asked.{asked_parts, names_in}
+use Rattle.reasons.specs.Way.ClaimSearch.{AreClaimsBy, FindsOnLine, ListedSoFar, UpTo}
 use Rattle.reasons.specs.Places.{IsOnLine}
 use Rattle.reasons.specs.declared.asked.Asked.{Asked}
 use Rattle.reasons.proofs.AskedClaims.{order_stays}

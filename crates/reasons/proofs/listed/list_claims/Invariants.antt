@@ -1,8 +1,8 @@
 use Rattle.std.proofs.Common.{◌+◌, ◌≤◌, length, map}
-use Rattle.texts.specs.Split.{left_parts}
+use Rattle.texts.specs.Way.Split.{left_parts}
 use Rattle.inputs.proofs.Pieces.{left_len}
-use Rattle.reasons.specs.Asked.{asked_parts}
-use Rattle.reasons.specs.ClaimSearch.{ListedSoFar}
+use Rattle.reasons.specs.Way.Asked.{asked_parts}
+use Rattle.reasons.specs.Way.ClaimSearch.{ListedSoFar}
 use Rattle.reasons.proofs.listed.list_claims.Given as goal
 
 -- the claims of the lines up to what is left were added

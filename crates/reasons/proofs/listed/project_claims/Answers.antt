@@ -9,8 +9,8 @@ use Rattle.pep_require.specs.Requirement.{IsAscending}
 use Rattle.pep_require.specs.View.{requirement_parts}
 use Rattle.pep_require.specs.declared.requirement.Requirement.{Requirement}
 use Rattle.inputs.proofs.GatheredLists.{extra_of}
-use Rattle.reasons.specs.Asked.{asked_parts, names_in}
-use Rattle.reasons.specs.ClaimSearch.{AreClaimsBy, FindsCounted, UpTo}
+use Rattle.reasons.specs.Way.Asked.{asked_parts, names_in}
+use Rattle.reasons.specs.Way.ClaimSearch.{AreClaimsBy, FindsCounted, UpTo}
 use Rattle.reasons.specs.declared.asked.Asked.{Asked}
 use Rattle.reasons.proofs.AskedClaims.{order_stays}
 use Rattle.reasons.proofs.ProjectClaims.{all_of_project, none_of_project, project_more}

@@ -2,8 +2,8 @@ use Rattle.std.proofs.Common.{◌≡◌, ◌+◌, ◌<◌, ◌^◌, ◌++◌, le
 use Rattle.std.specs.Vec.Iter.{into_iter_items, into_iter_len}
 use Rattle.documents.specs.RefusedProject.{IsNumbered}
 use Rattle.pep_require.specs.View.{requirement_parts}
-use Rattle.reasons.specs.Asked.{AllGain}
-use Rattle.reasons.specs.ClaimSearch.{AreClaimsBy, UpTo}
+use Rattle.reasons.specs.Way.Asked.{AllGain}
+use Rattle.reasons.specs.Way.ClaimSearch.{AreClaimsBy, UpTo}
 use Rattle.reasons.proofs.listed.project_claims.Given as goal
 
 -- the claims of the requirements before those that are left were added

@@ -1,7 +1,7 @@
 use Rattle.std.proofs.Common.{option_map}
 use Rattle.std.proofs.lemmas.Result.{IfOk-weaker}
 use Rattle.pep_require.specs.View.{requirement_parts}
-use Rattle.reasons.specs.Asked.{names_in}
+use Rattle.reasons.specs.Way.Asked.{names_in}
 use Rattle.reasons.proofs.CountedRequirements.{line_found, line_other}
 use Rattle.reasons.proofs.listed.requirement_on.Goals as goal
 

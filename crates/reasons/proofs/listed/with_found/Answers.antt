@@ -1,7 +1,7 @@
 use Rattle.std.proofs.Common.{◌≡◌, Option, map, option_map, subst, sym}
 use Rattle.pep_require.specs.View.{requirement_parts}
 use Rattle.pep_require.specs.declared.requirement.Requirement.{Requirement}
-use Rattle.reasons.specs.Asked.{asked_parts, with_found}
+use Rattle.reasons.specs.Way.Asked.{asked_parts, with_found}
 use Rattle.reasons.proofs.AskedClaims.{none_found}
 use Rattle.reasons.proofs.listed.with_found.Goals as goal
 

@@ -1,7 +1,7 @@
 use Rattle.std.proofs.Common.{map, option_copied, refl, rules}
 use Rattle.std.proofs.lemmas.Result.{IfOk-weaker}
 use Rattle.inputs.specs.declared.input.Kind.TheVariants as kind
-use Rattle.reasons.specs.Asked.{asked_parts}
+use Rattle.reasons.specs.Way.Asked.{asked_parts}
 use Rattle.reasons.proofs.ClaimsOfInputs.{list_group, of_kind, table_group}
 use Rattle.reasons.proofs.telling.claims_in.Goals as goal
 

@@ -1,5 +1,5 @@
 use Rattle.std.proofs.Common.{arith, map, refl, take}
-use Rattle.reasons.specs.Asked.{asked_parts}
+use Rattle.reasons.specs.Way.Asked.{asked_parts}
 use Rattle.reasons.specs.Places.{AreClaims}
 use Rattle.reasons.proofs.AskedClaims.{order_stays}
 use Rattle.reasons.proofs.ClaimsOfInputs.{inputs_next, none_of_inputs}

@@ -1,5 +1,5 @@
 use Rattle.std.proofs.Common.{◌≡◌, take}
-use Rattle.reasons.specs.Asked.{AllGain}
+use Rattle.reasons.specs.Way.Asked.{AllGain}
 use Rattle.reasons.specs.Places.{AreClaims}
 use Rattle.reasons.proofs.telling.claims_on.Given as goal
 

@@ -1,7 +1,7 @@
 use Rattle.std.proofs.Common.{◌∙◌, map, option_map, subst}
 use Rattle.std.proofs.lemmas.List.{take_all}
 use Rattle.demands.specs.Table.{TableParts}
-use Rattle.reasons.specs.Asked.{asked_parts}
+use Rattle.reasons.specs.Way.Asked.{asked_parts}
 use Rattle.reasons.proofs.ClosedPackages.{ClosedSoFar, all_closed, closed_next, none_closed}
 use Rattle.reasons.proofs.telling.closed_packages.Goals as goal
 

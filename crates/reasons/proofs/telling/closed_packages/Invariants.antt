@@ -1,5 +1,5 @@
 use Rattle.std.proofs.Common.{map, take}
-use Rattle.reasons.specs.Asked.{asked_parts}
+use Rattle.reasons.specs.Way.Asked.{asked_parts}
 use Rattle.reasons.proofs.ClosedPackages.{ClosedSoFar}
 use Rattle.reasons.proofs.telling.closed_packages.Given as goal
 

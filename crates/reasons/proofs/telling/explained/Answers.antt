@@ -1,6 +1,6 @@
 use Rattle.std.proofs.Common.{map}
 use Rattle.std.proofs.lemmas.Result.{IfOk-weaker}
-use Rattle.reasons.specs.Asked.{asked_parts}
+use Rattle.reasons.specs.Way.Asked.{asked_parts}
 use Rattle.reasons.specs.View.{reason_parts}
 use Rattle.reasons.proofs.FoundReasons.{all_explained, orders_gained, verdicts_gained}
 use Rattle.reasons.proofs.telling.explained.Goals as goal

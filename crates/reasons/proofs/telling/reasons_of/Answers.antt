@@ -4,9 +4,9 @@ use Rattle.std.specs.List.{AllZip}
 use Rattle.std.proofs.lemmas.List.{nil_from_length}
 use Rattle.std.specs.Vec.Iter.{into_iter_items}
 use Rattle.demands.specs.Verdict.{IsVerdict}
-use Rattle.reasons.specs.Asked.{asked_parts}
+use Rattle.reasons.specs.Way.Asked.{asked_parts}
 use Rattle.reasons.specs.Claims.{AreInOrder, Claimed}
-use Rattle.reasons.specs.ReasonSearch.{TellsClash}
+use Rattle.reasons.specs.Way.ReasonSearch.{TellsClash}
 use Rattle.reasons.specs.View.{reason_parts}
 use Rattle.reasons.specs.declared.asked.Asked.{Asked}
 use Rattle.reasons.proofs.FoundReasons.{of_each, tells_more}

@@ -1,8 +1,8 @@
 use Rattle.std.proofs.Common.{◌≡◌, ◌++◌, length, map}
 use Rattle.std.specs.List.{AllZip}
 use Rattle.std.specs.Vec.Iter.{into_iter_items, into_iter_len}
-use Rattle.reasons.specs.Asked.{asked_parts}
-use Rattle.reasons.specs.ReasonSearch.{TellsClash}
+use Rattle.reasons.specs.Way.Asked.{asked_parts}
+use Rattle.reasons.specs.Way.ReasonSearch.{TellsClash}
 use Rattle.reasons.specs.View.{reason_parts}
 use Rattle.reasons.proofs.telling.reasons_of.Given as goal
 

@@ -1,5 +1,5 @@
 use Rattle.std.proofs.Common.{◌+◌, arith, length}
-use Rattle.texts.specs.Split.{left_parts}
+use Rattle.texts.specs.Way.Split.{left_parts}
 use Rattle.inputs.proofs.Pieces.{room_left}
 use Rattle.inputs.specs.Lists.{lines_of}
 use Rattle.shards.proofs.SplitLines.{all_split, refused_or_none, split_more}

@@ -1,5 +1,5 @@
 use Rattle.std.proofs.Common.{◌+◌, ◌≤◌, length}
-use Rattle.texts.specs.Split.{left_parts}
+use Rattle.texts.specs.Way.Split.{left_parts}
 use Rattle.inputs.proofs.Pieces.{left_len}
 use Rattle.inputs.specs.Lists.{lines_of}
 use Rattle.shards.proofs.SplitLines.{SplitSoFar}

@@ -1,6 +1,6 @@
 use Rattle.std.proofs.Common.{rules}
 use Rattle.std.proofs.lemmas.Fn.{dedup_same}
-use Rattle.texts.specs.Arena.{same_piece}
+use Rattle.texts.specs.Way.Arena.{same_piece}
 use Rattle.texts.proofs.arena.dedup_pieces.Goals as goal
 
 pub returns : goal.returns

@@ -4,7 +4,7 @@ use Rattle.std.proofs.lemmas.Fn.{always_returns_same}
 use Rattle.std.proofs.lemmas.Result.{on_ok_weaker}
 use Rattle.texts.proofs.ArenaLemmas.{piece_order}
 use Rattle.texts.proofs.ListLemmas.{lent_whole}
-use Rattle.texts.specs.Arena.{piece_cmp}
+use Rattle.texts.specs.Way.Arena.{piece_cmp}
 use Rattle.texts.proofs.arena.sort_pieces.Goals as goal
 
 pub returns-clause-permutation : goal.returns-clause-permutation

@@ -1,7 +1,7 @@
 use Rattle.std.proofs.Common.{◌≢◌, ◌∙◌, rules}
 use Rattle.std.specs.Ordering.{nat_cmp}
 use Rattle.texts.proofs.HeadLemmas.{head_cmp}
-use Rattle.texts.specs.Heads.{head_of}
+use Rattle.texts.specs.Way.Heads.{head_of}
 use Rattle.texts.proofs.compare.compare_texts.Goals as goal
 
 pub returns-then-head-other : goal.returns-then-head-other

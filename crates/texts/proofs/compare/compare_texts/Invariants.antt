@@ -1,5 +1,5 @@
 use Rattle.std.proofs.Common.{◌≡◌, length}
-use Rattle.texts.specs.Arena.{text_cmp}
+use Rattle.texts.specs.Way.Arena.{text_cmp}
 use Rattle.texts.proofs.HeadLemmas.{Small}
 use Rattle.texts.proofs.compare.compare_texts.Given as goal
 

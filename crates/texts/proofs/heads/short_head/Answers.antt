@@ -1,5 +1,5 @@
 use Rattle.std.proofs.Common.{◌≡◌, ◌∙◌, ◌<◌, ◌+◌, ◌-◌, ◌*◌, arith, rules, ap, get_or, drop}
-use Rattle.texts.specs.Heads.{with_digits}
+use Rattle.texts.specs.Way.Heads.{with_digits}
 use Rattle.texts.proofs.HeadLemmas.{head-below, head-room, head-step}
 use Rattle.texts.proofs.heads.short_head.Goals as goal
 

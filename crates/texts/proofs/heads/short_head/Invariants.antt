@@ -1,5 +1,5 @@
 use Rattle.std.proofs.Common.{◌≡◌, ◌<◌, ◌-◌, ◌^◌, drop}
-use Rattle.texts.specs.Heads.{head_of, with_digits}
+use Rattle.texts.specs.Way.Heads.{head_of, with_digits}
 use Rattle.texts.proofs.heads.short_head.Given as goal
 
 abbrev pub invariant-loop-i : goal.invariant-loop-i

@@ -1,7 +1,7 @@
 use Rattle.std.proofs.Common.{subst}
 use Rattle.std.specs.Prelude.{IfSome}
-use Rattle.clause_memory.specs.Demand.{demanded_ranges}
-use Rattle.clause_memory.specs.Taken.{DemandsFront}
+use Rattle.clause_memory.specs.Way.Demand.{demanded_ranges}
+use Rattle.clause_memory.specs.Way.Taken.{DemandsFront}
 use Rattle.clause_memory.proofs.FrontClauses.{front_taken}
 use Rattle.clause_memory.proofs.memory.ClauseMemory.take.Goals as goal
 

@@ -1,8 +1,8 @@
 use Rattle.std.proofs.Common.{subst}
-use Rattle.pep_clause.specs.Joined.{joined}
+use Rattle.pep_clause.specs.Way.Joined.{joined}
 use Rattle.pep_clause.specs.OperatorTable.{outside}
 use Rattle.demands.specs.Join.{IsIntersection}
-use Rattle.demands.specs.PartialJoins.{joined_sets}
+use Rattle.demands.specs.Way.PartialJoins.{joined_sets}
 use Rattle.demands.proofs.KeptVersions.{beside-normal, left-more}
 use Rattle.demands.proofs.beside.Beside.leave_out.Goals as goal
 

@@ -1,6 +1,6 @@
 use Rattle.std.proofs.Common.{◌∙◌, sym}
 use Rattle.std.specs.Prelude.{option_map}
-use Rattle.demands.specs.PartialJoins.{beside_versions, kept_versions}
+use Rattle.demands.specs.Way.PartialJoins.{beside_versions, kept_versions}
 use Rattle.demands.proofs.KeptVersions.{kept-bare}
 use Rattle.demands.proofs.kept_versions.KeptVersions.finish.Goals as goal
 

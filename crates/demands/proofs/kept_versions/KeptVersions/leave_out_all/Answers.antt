@@ -2,8 +2,8 @@ use Rattle.std.proofs.Common.{◌+◌, ◌∙◌, ap, map, rules, subst, take}
 use Rattle.std.specs.Prelude.{option_map}
 use Rattle.std.proofs.lemmas.List.{map_push}
 use Rattle.pep_clause.specs.VersionSet.{IsNormal}
-use Rattle.demands.specs.LineSets.{left_by}
-use Rattle.demands.specs.PartialJoins.{beside_versions}
+use Rattle.demands.specs.Way.LineSets.{left_by}
+use Rattle.demands.specs.Way.PartialJoins.{beside_versions}
 use Rattle.demands.proofs.KeptSets.{next_taken}
 use Rattle.demands.proofs.KeptVersions.{kept-normal}
 use Rattle.demands.proofs.LineSets.{meets_no_set, meets_one_set}

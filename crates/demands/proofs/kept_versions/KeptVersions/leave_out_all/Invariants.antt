@@ -1,7 +1,7 @@
 use Rattle.std.proofs.Common.{map, take}
 use Rattle.demands.specs.Join.{IsIntersection}
-use Rattle.demands.specs.LineSets.{left_by}
-use Rattle.demands.specs.PartialJoins.{joined_sets}
+use Rattle.demands.specs.Way.LineSets.{left_by}
+use Rattle.demands.specs.Way.PartialJoins.{joined_sets}
 use Rattle.demands.proofs.kept_versions.KeptVersions.leave_out_all.Given as goal
 
 abbrev pub invariant-loop-bounds : goal.invariant-loop-bounds

@@ -1,7 +1,7 @@
 use Rattle.std.proofs.Common.{◌≡◌, ◌∙◌, ap, subst}
 use Rattle.std.specs.Prelude.{option_map}
 use Rattle.demands.specs.Join.{IsIntersection}
-use Rattle.demands.specs.PartialJoins.{beside_versions, kept_versions}
+use Rattle.demands.specs.Way.PartialJoins.{beside_versions, kept_versions}
 use Rattle.demands.proofs.KeptVersions.{met-versions}
 use Rattle.demands.proofs.kept_versions.KeptVersions.meet.Goals as goal
 

@@ -2,7 +2,7 @@ use Rattle.std.proofs.Common.{◌≡◌, [], append-nil, append_assoc, ap, rules
 use Rattle.std.specs.Prelude.{option_map}
 use Rattle.pep_clause.specs.VersionSet.{IsNormal}
 use Rattle.demands.specs.Join.{IsIntersection}
-use Rattle.demands.specs.PartialJoins.{beside_versions, joined_sets}
+use Rattle.demands.specs.Way.PartialJoins.{beside_versions, joined_sets}
 use Rattle.demands.proofs.KeptVersions.{kept-normal}
 use Rattle.demands.proofs.LineSets.{meets_last_set, meets_no_set}
 use Rattle.demands.proofs.kept_versions.KeptVersions.meet_all.Goals as goal

@@ -1,7 +1,7 @@
 use Rattle.std.proofs.Common.{◌≡◌, ◌++◌, List}
 use Rattle.pep_clause.specs.VersionSet.{IsNormal, Range}
 use Rattle.demands.specs.Join.{IsIntersection}
-use Rattle.demands.specs.PartialJoins.{joined_sets}
+use Rattle.demands.specs.Way.PartialJoins.{joined_sets}
 use Rattle.demands.proofs.kept_versions.KeptVersions.meet_all.Given as goal
 
 -- what comes of the sets that are left, comes of all of them

@@ -2,7 +2,7 @@ use Rattle.std.proofs.Common.{◌+◌, rules, take, arith, subst}
 use Rattle.std.specs.Prelude.{option_map}
 use Rattle.specifiers.specs.Valid.{IsValidClause}
 use Rattle.pep_clause.specs.VersionSet.{IsNormal}
-use Rattle.demands.specs.PartialJoins.{beside_versions}
+use Rattle.demands.specs.Way.PartialJoins.{beside_versions}
 use Rattle.demands.proofs.KeptSets.{next_taken, one_holds}
 use Rattle.demands.proofs.KeptVersions.{kept-normal}
 use Rattle.demands.proofs.TakenClauses.{meets_more, meets_none}

@@ -2,8 +2,8 @@ use Rattle.std.proofs.Common.{map, subst}
 use Rattle.std.proofs.lemmas.Result.{on_ok_weaker}
 use Rattle.pep_clause.specs.OperatorTable.{range}
 use Rattle.demands.specs.Join.{IsIntersection}
-use Rattle.demands.specs.LineSets.{left_by}
-use Rattle.demands.specs.PartialJoins.{joined_sets}
+use Rattle.demands.specs.Way.LineSets.{left_by}
+use Rattle.demands.specs.Way.PartialJoins.{joined_sets}
 use Rattle.demands.specs.Table.{EntryParts}
 use Rattle.demands.proofs.LineSets.{fewer_sets, meets_line}
 use Rattle.demands.proofs.kept_versions.KeptVersions.meet_line.Goals as goal

@@ -1,7 +1,7 @@
 use Rattle.std.proofs.Common.{subst}
 use Rattle.std.specs.Prelude.{option_map}
 use Rattle.pep_clause.specs.VersionSet.{IsNormal}
-use Rattle.demands.specs.PartialJoins.{beside_versions}
+use Rattle.demands.specs.Way.PartialJoins.{beside_versions}
 use Rattle.demands.proofs.KeptVersions.{kept-normal}
 use Rattle.demands.proofs.TakenClauses.{meets_none}
 use Rattle.demands.proofs.kept_versions.KeptVersions.meet_target.Goals as goal

@@ -2,7 +2,7 @@ use Rattle.std.proofs.Common.{subst}
 use Rattle.std.specs.Prelude.{option_map}
 use Rattle.pep_clause.specs.OperatorTable.{range}
 use Rattle.demands.specs.Join.{IsIntersection}
-use Rattle.demands.specs.PartialJoins.{beside_versions, kept_versions}
+use Rattle.demands.specs.Way.PartialJoins.{beside_versions, kept_versions}
 use Rattle.demands.proofs.KeptVersions.{narrowed-versions}
 use Rattle.demands.proofs.kept_versions.KeptVersions.narrow_to.Goals as goal
 

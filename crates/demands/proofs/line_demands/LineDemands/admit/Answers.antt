@@ -1,8 +1,8 @@
 use Rattle.std.proofs.Common.{refl, subst}
-use Rattle.demands.specs.LineDemands.{AddsClause}
-use Rattle.demands.specs.LineSets.{line_sets, line_versions}
-use Rattle.demands.specs.Others.{entry_with}
-use Rattle.demands.specs.PartialJoins.{joined_sets}
+use Rattle.demands.specs.Way.LineDemands.{AddsClause}
+use Rattle.demands.specs.Way.LineSets.{line_sets, line_versions}
+use Rattle.demands.specs.Way.Others.{entry_with}
+use Rattle.demands.specs.Way.PartialJoins.{joined_sets}
 use Rattle.demands.proofs.KeptVersions.{met-versions}
 use Rattle.demands.proofs.LineParts.{clause_added}
 use Rattle.demands.proofs.LineSets.{other_sets, set-met, set-normal}

@@ -1,9 +1,9 @@
 use Rattle.std.proofs.Common.{refl, subst}
 use Rattle.pep_clause.specs.OperatorTable.{range}
-use Rattle.demands.specs.LineDemands.{AddsClause}
-use Rattle.demands.specs.LineSets.{line_sets}
-use Rattle.demands.specs.Others.{entry_with}
-use Rattle.demands.specs.PartialJoins.{joined_sets, kept_versions}
+use Rattle.demands.specs.Way.LineDemands.{AddsClause}
+use Rattle.demands.specs.Way.LineSets.{line_sets}
+use Rattle.demands.specs.Way.Others.{entry_with}
+use Rattle.demands.specs.Way.PartialJoins.{joined_sets, kept_versions}
 use Rattle.demands.proofs.KeptVersions.{narrowed-versions}
 use Rattle.demands.proofs.LineParts.{clause_added}
 use Rattle.demands.proofs.line_demands.LineDemands.meet.Goals as goal

@@ -4,10 +4,10 @@ use Rattle.std.specs.List.{All}
 use Rattle.std.proofs.lemmas.Result.{on_ok_weaker}
 use Rattle.specifiers.specs.Clause.{demanded, is_demanded_text}
 use Rattle.pep_marker.specs.Name.{IsNormalName}
-use Rattle.demands.specs.LineDemands.{AddsClause}
-use Rattle.demands.specs.LineSets.{line_sets, line_versions}
-use Rattle.demands.specs.Others.{entry_with}
-use Rattle.demands.specs.PartialJoins.{joined_sets}
+use Rattle.demands.specs.Way.LineDemands.{AddsClause}
+use Rattle.demands.specs.Way.LineSets.{line_sets, line_versions}
+use Rattle.demands.specs.Way.Others.{entry_with}
+use Rattle.demands.specs.Way.PartialJoins.{joined_sets}
 use Rattle.demands.specs.Table.{is_url_text}
 use Rattle.demands.proofs.KeptVersions.{kept-normal}
 use Rattle.demands.proofs.LineParts.{text_added}

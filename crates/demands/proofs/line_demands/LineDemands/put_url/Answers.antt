@@ -4,9 +4,9 @@ use Rattle.std.specs.List.{All}
 use Rattle.std.proofs.lemmas.Result.{on_ok_weaker}
 use Rattle.specifiers.specs.Clause.{is_demanded_text}
 use Rattle.pep_marker.specs.Name.{IsNormalName}
-use Rattle.demands.specs.LineDemands.{AddsUrl}
-use Rattle.demands.specs.LineSets.{line_versions}
-use Rattle.demands.specs.Others.{entry_with}
+use Rattle.demands.specs.Way.LineDemands.{AddsUrl}
+use Rattle.demands.specs.Way.LineSets.{line_versions}
+use Rattle.demands.specs.Way.Others.{entry_with}
 use Rattle.demands.specs.Table.{is_url_text}
 use Rattle.demands.proofs.LineParts.{url_added}
 use Rattle.demands.proofs.LineSets.{put_holds}

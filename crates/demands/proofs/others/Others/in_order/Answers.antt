@@ -1,6 +1,6 @@
 use Rattle.std.proofs.Common.{subst}
 use Rattle.demands.specs.Gathering.{bare_entry}
-use Rattle.demands.specs.Others.{JoinsOthers, OtherParts}
+use Rattle.demands.specs.Way.Others.{JoinsOthers, OtherParts}
 use Rattle.demands.proofs.KeptSets.{union_none}
 use Rattle.demands.proofs.others.Others.in_order.Goals as goal
 

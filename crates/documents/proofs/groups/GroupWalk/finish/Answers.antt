@@ -2,7 +2,7 @@ use Rattle.std.proofs.Common.{◌≡◌, ◌∙◌, [], arith, ap, refl, rules}
 use Rattle.std.proofs.lemmas.Result.{err_from_is_err_and}
 use Rattle.pep_require.proofs.Exits.{further}
 use Rattle.documents.specs.declared.groups.GroupWalk.{GroupWalk}
-use Rattle.documents.specs.GroupViews.{group_view, walk_view, walk_with}
+use Rattle.documents.specs.Way.GroupViews.{group_view, walk_view, walk_with}
 use Rattle.documents.specs.GroupWalk.{by_fault, by_step, step}
 use Rattle.documents.proofs.GroupViews.{taken_left, taken_out, walk_ended}
 use Rattle.documents.proofs.groups.GroupWalk.finish.Goals as goal

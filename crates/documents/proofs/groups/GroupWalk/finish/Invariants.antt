@@ -1,6 +1,6 @@
 use Rattle.std.proofs.Common.{List, ℕ, Result}
 use Rattle.faults.specs.declared.fault.Cause.{Cause}
-use Rattle.documents.specs.GroupViews.{left_of, walk_view}
+use Rattle.documents.specs.Way.GroupViews.{left_of, walk_view}
 use Rattle.documents.specs.GroupWalk.{ComesTo, step}
 use Rattle.documents.proofs.groups.GroupWalk.finish.Given as goal
 

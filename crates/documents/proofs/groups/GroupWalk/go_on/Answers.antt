@@ -3,7 +3,7 @@ use Rattle.toml.specs.View.{view}
 use Rattle.faults.specs.declared.fault.Cause.TheVariants as cause
 use Rattle.documents.specs.declared.groups.GroupWalk.{GroupWalk}
 use Rattle.documents.specs.Groups.{group_member}
-use Rattle.documents.specs.GroupViews.{group_view, walk_view, walk_with}
+use Rattle.documents.specs.Way.GroupViews.{group_view, walk_view, walk_with}
 use Rattle.documents.specs.GroupWalk.{going, refused, step, take_member}
 use Rattle.documents.proofs.GroupViews.{ended_group, ended_less, next_less, next_value, on_ok}
 use Rattle.documents.proofs.groups.GroupWalk.go_on.Goals as goal

@@ -1,6 +1,6 @@
 use Rattle.std.proofs.Common.{◌≡◌, ◌+◌, take}
 use Rattle.documents.specs.Texts.{lent_texts}
-use Rattle.inputs.specs.GatheredLines.{AreRead}
+use Rattle.inputs.specs.Way.GatheredLines.{AreRead}
 use Rattle.inputs.proofs.gathering.DemandTaker.read_behind.Given as goal
 
 -- the texts before this one are read

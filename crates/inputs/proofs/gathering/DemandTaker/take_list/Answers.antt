@@ -1,5 +1,5 @@
 use Rattle.std.proofs.lemmas.Result.{IfErr-weaker, IfOk-weaker}
-use Rattle.inputs.specs.Wanted.{wanted_name}
+use Rattle.inputs.specs.Way.Wanted.{wanted_name}
 use Rattle.inputs.proofs.TakenTexts.{list_gathered, list_refused_in}
 use Rattle.inputs.proofs.gathering.DemandTaker.take_list.Goals as goal
 

@@ -1,7 +1,7 @@
 use Rattle.std.proofs.Common.{◌≡◌, ◌∙◌, Ok, ap, option_copied}
 use Rattle.std.proofs.lemmas.Result.{IfErr-weaker, IfOk-weaker, err_from_is_err_and}
 use Rattle.pep_marker.specs.Environment.{extra_in}
-use Rattle.inputs.specs.Wanted.{wanted_name}
+use Rattle.inputs.specs.Way.Wanted.{wanted_name}
 use Rattle.documents.specs.Texts.{lent_texts}
 use Rattle.documents.proofs.ProjectTexts.{asked_of, asked_refused, document_refused}
 use Rattle.inputs.proofs.GatheredLists.{extra_of, project_at_fault, project_refuses_in, project_taken}

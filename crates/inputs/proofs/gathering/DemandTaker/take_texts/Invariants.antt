@@ -1,8 +1,8 @@
 use Rattle.std.proofs.Common.{◌≡◌, take}
 use Rattle.documents.specs.Texts.{lent_texts}
-use Rattle.inputs.specs.LineReading.{TakesInTurn}
-use Rattle.inputs.specs.TakenTexts.{GathersText}
-use Rattle.inputs.specs.Wanted.{wanted_name}
+use Rattle.inputs.specs.Way.LineReading.{TakesInTurn}
+use Rattle.inputs.specs.Way.TakenTexts.{GathersText}
+use Rattle.inputs.specs.Way.Wanted.{wanted_name}
 use Rattle.inputs.proofs.gathering.DemandTaker.take_texts.Given as goal
 
 -- the texts before this one are taken

@@ -1,7 +1,7 @@
 use Rattle.std.proofs.Common.{ap, inl, inr, refl, subst}
 use Rattle.std.proofs.lemmas.Result.{IfErr-weaker, IfOk-weaker, err_from_is_err_and}
-use Rattle.inputs.specs.TakenTexts.{GathersText, RefusesTextIn}
-use Rattle.inputs.specs.Wanted.{wanted_name}
+use Rattle.inputs.specs.Way.TakenTexts.{GathersText, RefusesTextIn}
+use Rattle.inputs.specs.Way.Wanted.{wanted_name}
 use Rattle.inputs.specs.declared.gathering.DemandTaker.{DemandTaker}
 use Rattle.inputs.proofs.gathering.DemandTakerTaker.take.Goals as goal
 

@@ -1,6 +1,6 @@
 use Rattle.std.proofs.Common.{◌≡◌, rules, subst, true}
 use Rattle.pep_clause.proofs.Density.{normal-has_version}
-use Rattle.pep_clause.specs.Joined.{are_within}
+use Rattle.pep_clause.specs.Way.Joined.{are_within}
 use Rattle.pep_clause.specs.VersionSet.{IsNormal}
 use Rattle.pep_clause.proofs.JoinedPoints.{is_in-within, is_point-within, joined_points}
 use Rattle.pep_clause.proofs.JoinedPoints.{joined_versions}

@@ -1,6 +1,6 @@
 use Rattle.std.proofs.Common.{◌≡◌, true, subst, rules}
 use Rattle.pep_clause.proofs.Density.{normal-has_version}
-use Rattle.pep_clause.specs.Joined.{are_within}
+use Rattle.pep_clause.specs.Way.Joined.{are_within}
 use Rattle.pep_clause.specs.VersionSet.{IsNormal}
 use Rattle.pep_clause.proofs.JoinedPoints.{is_in-within, is_point-within}
 use Rattle.pep_clause.proofs.set.VersionSet.join.Goals as goal

@@ -1,7 +1,7 @@
 use Rattle.std.proofs.Common.{◌∙◌, ap, subst, sym}
 use Rattle.std.specs.Prelude.{IsTrue}
 use Rattle.std.specs.declared.cmp.Ordering.TheVariants.{Less}
-use Rattle.specifiers.specs.OperatorEnds.{leaves_out}
+use Rattle.specifiers.specs.Way.OperatorEnds.{leaves_out}
 use Rattle.pep_clause.specs.Cut.{cut_cmp}
 use Rattle.pep_clause.specs.OperatorTable.{begin_cut, end_cut}
 use Rattle.pep_clause.specs.VersionSet.{Range}

@@ -1,7 +1,7 @@
 use Rattle.std.proofs.Common.{rules, subst, sym}
 use Rattle.std.specs.Option.{option_copied}
-use Rattle.pep_marker.specs.ComparedView.{compared_bytes}
-use Rattle.pep_marker.specs.Value.{IsVersionOf}
+use Rattle.pep_marker.specs.Way.ComparedView.{compared_bytes}
+use Rattle.pep_marker.specs.Way.Value.{IsVersionOf}
 use Rattle.pep_marker.proofs.MarkerTruth.{version_kept, version_lent}
 use Rattle.pep_marker.proofs.compared_text.ComparedText.admitted_as.Goals as goal
 

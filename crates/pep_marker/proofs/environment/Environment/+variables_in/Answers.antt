@@ -1,7 +1,8 @@
 use Rattle.std.proofs.Common.{◌≡◌, ◌++◌, ◌∙◌, ap, get_or, rules}
 use Rattle.std.specs.Prelude.{bytes_eq}
 use Rattle.texts.specs.Lines.{line}
-use Rattle.pep_marker.specs.Header.{IsHeaderValue, named_line}
+use Rattle.pep_marker.specs.Header.{named_line}
+use Rattle.pep_marker.specs.Way.HeaderLines.{IsHeaderValue}
 use Rattle.pep_marker.proofs.HeaderLines.{finds_rows}
 use Rattle.pep_marker.proofs.environment.Environment.+variables_in.Goals as goal
 

@@ -6,7 +6,7 @@ use Rattle.std.specs.Option.{option_map, option_or}
 use Rattle.pep_marker.specs.declared.fault.MarkerFault.TheVariants.{MissingVariable}
 use Rattle.pep_marker.specs.Environment.{EnvironmentParts, pairs_fault}
 use Rattle.pep_marker.specs.Pairs.{pair_texts}
-use Rattle.pep_marker.specs.Slots.{HoldsPairs}
+use Rattle.pep_marker.specs.Way.Slots.{HoldsPairs}
 use Rattle.pep_marker.proofs.SlotLemmas.{HoldsPairs-put, HoldsValues-put, no_pair}
 use Rattle.pep_marker.proofs.SlotLemmas.{environment_of-slots, pair_text, take-pair}
 use Rattle.pep_marker.proofs.SlotLemmas.{fault_from, fault_from-end, fault_from-step}

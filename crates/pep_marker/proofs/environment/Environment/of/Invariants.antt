@@ -1,7 +1,7 @@
 use Rattle.std.proofs.Common.{◌≡◌, take, drop, length}
 use Rattle.pep_marker.specs.Environment.{fault_after, pairs_fault}
 use Rattle.pep_marker.specs.Pairs.{pair_texts}
-use Rattle.pep_marker.specs.Slots.{HoldsPairs, HoldsValues}
+use Rattle.pep_marker.specs.Way.Slots.{HoldsPairs, HoldsValues}
 use Rattle.pep_marker.proofs.environment.Environment.of.Given as goal
 
 -- the slots hold what the pairs so far give, and these are right

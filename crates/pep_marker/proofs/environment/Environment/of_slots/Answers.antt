@@ -1,6 +1,6 @@
 use Rattle.std.proofs.Common.{◌≡◌, ◌∙◌, ap, length}
 use Rattle.std.proofs.lemmas.List.{length-map, take_all}
-use Rattle.pep_marker.specs.Slots.{slot_texts}
+use Rattle.pep_marker.specs.Way.Slots.{slot_texts}
 use Rattle.pep_marker.proofs.SlotLemmas.{IsEnvironment-slots}
 use Rattle.pep_marker.proofs.environment.Environment.of_slots.Goals as goal
 

@@ -1,5 +1,5 @@
 use Rattle.std.proofs.Common.{◌≡◌, take}
-use Rattle.pep_marker.specs.Slots.{slot_texts}
+use Rattle.pep_marker.specs.Way.Slots.{slot_texts}
 use Rattle.pep_marker.proofs.environment.Environment.of_slots.Given as goal
 
 -- the texts of the slots so far

@@ -1,6 +1,6 @@
 use Rattle.std.proofs.Common.{map, ap}
 use Rattle.std.proofs.lemmas.Result.{err_from_is_err_and}
-use Rattle.pep_marker.specs.Token.{token_of}
+use Rattle.pep_marker.specs.Way.Token.{token_of}
 use Rattle.pep_marker.proofs.MarkerLaws.{no_chain_of, no_marker_of, read_marker}
 use Rattle.pep_marker.proofs.marker.Marker.read.Goals as goal
 

@@ -1,8 +1,8 @@
 use Rattle.std.proofs.Common.{map, inl, inr, sym, subst, ◌∙◌, refl}
 use Rattle.std.proofs.lemmas.Result.{err_from_is_err_and}
-use Rattle.pep_marker.specs.Chains.{ChainFrom}
+use Rattle.pep_marker.specs.Way.Chains.{ChainFrom}
 use Rattle.pep_marker.specs.declared.chains.Link.TheVariants.{Or}
-use Rattle.pep_marker.specs.Token.{token_of}
+use Rattle.pep_marker.specs.Way.Token.{token_of}
 use Rattle.pep_marker.specs.View.{tree_parts}
 use Rattle.pep_marker.proofs.ChainLoops.{refuses_by}
 use Rattle.pep_marker.proofs.MarkerLaws.{few_enough, left_behind, none_left, none_whole, some_left}

@@ -1,5 +1,5 @@
 use Rattle.std.proofs.Common.{◌∙◌, ◌++◌, ap, take}
-use Rattle.pep_table.specs.Printout.{in_blocks, rows_text}
+use Rattle.pep_table.specs.Way.Printout.{in_blocks, rows_text}
 use Rattle.pep_table.proofs.WrittenParts.{block_lines, one_more}
 use Rattle.pep_table.proofs.printout.Rows.put_blocks.Goals as goal
 

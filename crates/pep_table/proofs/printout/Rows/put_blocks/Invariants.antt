@@ -1,5 +1,5 @@
 use Rattle.std.proofs.Common.{◌≡◌, ◌++◌, take}
-use Rattle.pep_table.specs.Printout.{in_blocks, rows_text}
+use Rattle.pep_table.specs.Way.Printout.{in_blocks, rows_text}
 use Rattle.pep_table.proofs.printout.Rows.put_blocks.Given as goal
 
 abbrev pub invariant-loop-block : goal.invariant-loop-block

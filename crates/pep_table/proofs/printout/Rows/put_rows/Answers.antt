@@ -1,5 +1,5 @@
 use Rattle.std.proofs.Common.{◌∙◌, ◌++◌, ap, take}
-use Rattle.pep_table.specs.Printout.{row_text, rows_text}
+use Rattle.pep_table.specs.Way.Printout.{row_text, rows_text}
 use Rattle.pep_table.proofs.WrittenParts.{one_more, parts_push}
 use Rattle.pep_table.proofs.printout.Rows.put_rows.Goals as goal
 

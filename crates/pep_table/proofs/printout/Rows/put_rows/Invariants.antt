@@ -1,5 +1,5 @@
 use Rattle.std.proofs.Common.{◌≡◌, ◌++◌, take}
-use Rattle.pep_table.specs.Printout.{rows_text}
+use Rattle.pep_table.specs.Way.Printout.{rows_text}
 use Rattle.pep_table.proofs.printout.Rows.put_rows.Given as goal
 
 abbrev pub invariant-loop-row : goal.invariant-loop-row

@@ -1,6 +1,6 @@
 use Rattle.std.proofs.Common.{◌∙◌, ◌++◌, ap, sym}
 use Rattle.std.proofs.lemmas.Result.{on_ok_weaker}
-use Rattle.pep_table.specs.Printout.{in_blocks, rows_text}
+use Rattle.pep_table.specs.Way.Printout.{in_blocks, rows_text}
 use Rattle.pep_table.proofs.WrittenParts.{one_more, rows_text-append}
 use Rattle.pep_table.proofs.printout.Rows.put_text.Goals as goal
 

@@ -5,7 +5,7 @@ use Rattle.std.proofs.lemmas.List.Elements.{All-push}
 use Rattle.std.proofs.lemmas.Str.Pattern.{split_parts}
 use Rattle.pep_require.proofs.ExtrasLoops.{all_but_at}
 use Rattle.pep_require.specs.Requirement.{IsAscending}
-use Rattle.pep_table.specs.TableReading.{AreItems, BeginsKind, Front, HasNoFeed, kind_front}
+use Rattle.pep_table.specs.Way.TableReading.{AreItems, BeginsKind, Front, HasNoFeed, kind_front}
 use Rattle.pep_table.proofs.ReadItems.{LinesSoFar, all_read, bad_item, item_more, items_fit}
 use Rattle.pep_table.proofs.ReadItems.{last_item, no_end, stops_here}
 use Rattle.pep_table.proofs.read.items.read_items.Given as given

@@ -2,7 +2,7 @@ use Rattle.std.proofs.Common.{length, map}
 use denote.Text.{Utf8}
 use denote.Shadow.{shadow}
 use Rattle.pep_table.proofs.ReadItems.{LinesSoFar}
-use Rattle.pep_table.specs.TableReading.{AreItems}
+use Rattle.pep_table.specs.Way.TableReading.{AreItems}
 use Rattle.pep_table.proofs.read.items.read_items.Given as goal
 
 -- these lines are read, and all that a table may have in front begins with them

@@ -4,7 +4,7 @@ use Rattle.std.proofs.lemmas.List.{map-append}
 use Rattle.std.proofs.lemmas.Str.Pattern.{split_parts}
 use Rattle.pep_clause.specs.VersionSet.{IsNormal, Range}
 use Rattle.pep_require.proofs.ExtrasLoops.{all_but_at}
-use Rattle.pep_table.specs.TableReading.{AreRanges, HasNoFeed, IsRange, kind_front}
+use Rattle.pep_table.specs.Way.TableReading.{AreRanges, HasNoFeed, IsRange, kind_front}
 use Rattle.pep_table.specs.TableText.{range_text}
 use Rattle.pep_table.proofs.ReadItems.{LinesSoFar, bad_item, item_more, no_end, stops_here}
 use Rattle.pep_table.proofs.ReadRanges.{bad_range, falls_behind, ranges_fit}

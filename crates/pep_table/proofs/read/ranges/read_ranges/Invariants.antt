@@ -3,7 +3,7 @@ use denote.Text.{Utf8}
 use denote.Shadow.{shadow}
 use Rattle.pep_clause.specs.VersionSet.{IsNormal}
 use Rattle.pep_table.proofs.ReadItems.{LinesSoFar}
-use Rattle.pep_table.specs.TableReading.{AreRanges}
+use Rattle.pep_table.specs.Way.TableReading.{AreRanges}
 use Rattle.pep_table.specs.TableText.{range_text}
 use Rattle.pep_table.proofs.read.ranges.read_ranges.Given as goal
 

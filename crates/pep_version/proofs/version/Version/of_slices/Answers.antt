@@ -1,4 +1,4 @@
-use Rattle.pep_version.specs.Slices.{version_of_slices}
+use Rattle.pep_version.specs.Way.Slices.{version_of_slices}
 use Rattle.pep_version.specs.Version.{NumbersFit}
 use Rattle.pep_version.proofs.ReadingLemmas.{slices-version}
 use Rattle.pep_version.proofs.version.Version.of_slices.Goals as goal

@@ -1,7 +1,7 @@
 use Rattle.std.proofs.Common.{◌≡◌, ◌∙◌, ap, subst, sym}
-use Rattle.pep_version.specs.Slices.{lower, version_of_slices}
-use Rattle.pep_version.specs.Reading.{passes, read_version}
-use Rattle.pep_version.specs.Segments.{VersionOf}
+use Rattle.pep_version.specs.Way.Slices.{lower, version_of_slices}
+use Rattle.pep_version.specs.Way.Reading.{passes, read_version}
+use Rattle.pep_version.specs.Way.Segments.{VersionOf}
 use Rattle.texts.specs.Space.{trimmed}
 use Rattle.pep_version.proofs.ReadingLemmas.{reads-passed, reads-refused}
 use Rattle.pep_version.proofs.version.Version.read.Goals as goal

@@ -1,10 +1,10 @@
 use Rattle.std.proofs.Common.{◌∙◌, ap}
 use Rattle.std.proofs.lemmas.List.Sorted.{All-permutation}
 use Rattle.pep_clause.specs.Cut.{end}
-use Rattle.pep_clause.specs.Joined.{joined}
+use Rattle.pep_clause.specs.Way.Joined.{joined}
 use Rattle.pep_clause.specs.OperatorTable.{range}
 use Rattle.pep_clause.proofs.NormalJoined.{IsNormal-joined, IsNormal-range}
-use Rattle.places.specs.LeftOut.{IsPart, all_parts, left_over, lies_between, spans}
+use Rattle.places.specs.Way.LeftOut.{IsPart, all_parts, left_over, lies_between, spans}
 use Rattle.places.proofs.LeftOver.{permuted}
 use Rattle.places.proofs.SinglePlaces.{all_are, all_normal, more-rest}
 use Rattle.places.proofs.Swept.{between-high}

@@ -1,5 +1,5 @@
 use Rattle.std.proofs.Common.{◌≡◌, ◌∙◌, length, rules, sym}
-use Rattle.places.specs.LeftOut.{all_parts}
+use Rattle.places.specs.Way.LeftOut.{all_parts}
 use Rattle.places.proofs.LeftOver.{nothing_left}
 use Rattle.places.proofs.SinglePlaces.{none-left, none_of}
 use Rattle.places.proofs.left_out.LeftOut.is_none.Goals as goal

@@ -2,7 +2,7 @@ use Rattle.std.proofs.Common.{◌&&◌, ◌∙◌}
 use Rattle.std.proofs.lemmas.List.Elements.{All-push}
 use Rattle.pep_clause.specs.OperatorTable.{outside}
 use Rattle.pep_clause.specs.VersionSet.{is_point}
-use Rattle.places.specs.LeftOut.{IsPart, all_parts}
+use Rattle.places.specs.Way.LeftOut.{IsPart, all_parts}
 use Rattle.places.proofs.LeftOver.{points-behind}
 use Rattle.places.proofs.SinglePlaces.{all_normal, left-part}
 use Rattle.places.proofs.left_out.LeftOut.leave_part.Goals as goal

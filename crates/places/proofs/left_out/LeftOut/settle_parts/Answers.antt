@@ -1,7 +1,7 @@
 use Rattle.std.proofs.Common.{◌≡◌, [], ◌∙◌, rules, subst}
 use Rattle.std.proofs.lemmas.List.Elements.{All-nil}
 use Rattle.pep_clause.specs.VersionSet.{IsNormal, is_point}
-use Rattle.places.specs.LeftOut.{IsPart, all_parts, left_over}
+use Rattle.places.specs.Way.LeftOut.{IsPart, all_parts, left_over}
 use Rattle.places.proofs.LeftOver.{same_left}
 use Rattle.places.proofs.SinglePlaces.{all_normal, same-rest}
 use Rattle.places.proofs.left_out.LeftOut.settle_parts.Goals as goal

@@ -1,6 +1,6 @@
 use Rattle.std.proofs.Common.{◌∙◌, subst}
 use Rattle.pep_clause.specs.VersionSet.{IsNormal, is_point}
-use Rattle.places.specs.LeftOut.{all_parts}
+use Rattle.places.specs.Way.LeftOut.{all_parts}
 use Rattle.places.proofs.LeftOver.{same_left}
 use Rattle.places.proofs.SinglePlaces.{all_normal, same-singles}
 use Rattle.places.proofs.left_out.LeftOut.settle_singles.Goals as goal

@@ -3,7 +3,7 @@ use Rattle.std.specs.declared.cmp.Ordering.TheVariants.{Less}
 use Rattle.pep_clause.specs.Cut.{cut_cmp}
 use Rattle.pep_clause.specs.VersionSet.{IsNormal}
 use Rattle.pep_clause.proofs.NormalLists.{IsNormal-apart}
-use Rattle.places.specs.LeftOut.{spans}
+use Rattle.places.specs.Way.LeftOut.{spans}
 use Rattle.places.proofs.LeftOver.{spans_in_order}
 use Rattle.places.proofs.place_ranges.PlaceRanges.to_set.Goals as goal
 

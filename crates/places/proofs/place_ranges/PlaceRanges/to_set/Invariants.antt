@@ -1,5 +1,5 @@
 use Rattle.std.proofs.Common.{◌≡◌, take}
-use Rattle.places.specs.LeftOut.{spans}
+use Rattle.places.specs.Way.LeftOut.{spans}
 use Rattle.places.proofs.place_ranges.PlaceRanges.to_set.Given as goal
 
 abbrev pub invariant-loop-bounds : goal.invariant-loop-bounds

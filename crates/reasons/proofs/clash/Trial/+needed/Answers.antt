@@ -1,6 +1,6 @@
 use Rattle.std.proofs.Common.{◌++◌, ◌∙◌, List, ℕ, ap, map, rules, subst, sym}
 use Rattle.std.proofs.lemmas.List.{nil_from_length}
-use Rattle.reasons.specs.ClashSearch.{ArePicked, AreWithin, IsLeast, StandsFor}
+use Rattle.reasons.specs.Way.ClashSearch.{ArePicked, AreWithin, IsLeast, StandsFor}
 use Rattle.reasons.specs.View.{claims_at, placed_parts}
 use Rattle.reasons.proofs.ClashSteps.{both_among, least_of_both, lone_least, none_least, none_left}
 use Rattle.reasons.proofs.ClashSteps.{told_enough, told_few}

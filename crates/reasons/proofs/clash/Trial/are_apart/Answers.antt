@@ -1,6 +1,6 @@
 use Rattle.std.proofs.Common.{◌<◌, arith, get_or, length, map, refl, rules, subst, sym}
 use Rattle.std.proofs.lemmas.List.{length-map}
-use Rattle.reasons.specs.Apart.{IsApart}
+use Rattle.reasons.specs.Way.Apart.{IsApart}
 use Rattle.reasons.specs.Claims.{PlacedParts}
 use Rattle.reasons.specs.View.{claim_parts, placed_parts}
 use Rattle.reasons.specs.declared.claims.PlacedClaim.{PlacedClaim}

@@ -1,5 +1,5 @@
 use Rattle.std.proofs.Common.{map}
-use Rattle.reasons.specs.Apart.{AreApart}
+use Rattle.reasons.specs.Way.Apart.{AreApart}
 use Rattle.reasons.specs.View.{claims_at, placed_parts}
 use Rattle.reasons.proofs.clash.Trial.are_apart.Given as goal
 

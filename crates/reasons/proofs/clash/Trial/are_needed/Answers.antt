@@ -1,7 +1,7 @@
 use Rattle.std.proofs.Common.{◌≡◌, [], map, rules, subst, sym}
 use Rattle.demands.specs.declared.verdict.Verdict.{Verdict}
 use Rattle.demands.specs.declared.verdict.Verdict.TheVariants.{Nothing}
-use Rattle.reasons.specs.ClashSearch.{AreNeeded}
+use Rattle.reasons.specs.Way.ClashSearch.{AreNeeded}
 use Rattle.reasons.specs.View.{claims_at, placed_parts}
 use Rattle.reasons.proofs.ApartClaims.{needed_at}
 use Rattle.reasons.proofs.clash.Trial.are_needed.Goals as goal

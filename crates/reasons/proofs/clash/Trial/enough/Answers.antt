@@ -1,7 +1,7 @@
 use Rattle.std.proofs.Common.{◌∙◌, [], List, ℕ, ap, map, subst, sym}
 use Rattle.std.proofs.lemmas.List.{length-map}
 use Rattle.std.proofs.lemmas.Result.{IfOk-weaker}
-use Rattle.reasons.specs.ClashSearch.{AreEnough, StandsFor, indices}
+use Rattle.reasons.specs.Way.ClashSearch.{AreEnough, StandsFor, indices}
 use Rattle.reasons.specs.View.{claims_at, placed_parts}
 use Rattle.reasons.proofs.ClashSteps.{all_enough, told_enough}
 use Rattle.reasons.proofs.PickedClaims.{at_among}

@@ -1,5 +1,5 @@
 use Rattle.std.proofs.Common.{◌∙◌, [], List, ℕ, map, subst, sym}
-use Rattle.reasons.specs.ClashSearch.{AreNeeded, ArePicked, AreWithin, Clashing, StandsFor}
+use Rattle.reasons.specs.Way.ClashSearch.{AreNeeded, ArePicked, AreWithin, Clashing, StandsFor}
 use Rattle.reasons.specs.View.{claims_at, placed_parts}
 use Rattle.reasons.proofs.ClashSteps.{found_among, none_among}
 use Rattle.reasons.proofs.TakenClaims.{nothing_stands}

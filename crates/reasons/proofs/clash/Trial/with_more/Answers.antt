@@ -1,7 +1,7 @@
 use Rattle.std.proofs.Common.{◌++◌, map, subst, sym}
 use Rattle.std.proofs.lemmas.Result.{IfOk-weaker}
 use Rattle.demands.specs.Table.{EntryParts}
-use Rattle.reasons.specs.ClashSearch.{StandsFor, without_extras}
+use Rattle.reasons.specs.Way.ClashSearch.{StandsFor, without_extras}
 use Rattle.reasons.specs.View.{claims_at, placed_parts}
 use Rattle.reasons.proofs.TakenClaims.{stands_with, valid_with}
 use Rattle.reasons.proofs.clash.Trial.with_more.Goals as goal

@@ -1,5 +1,5 @@
 use Rattle.std.proofs.Common.{All, Contains, length}
-use Rattle.text_memory.specs.Memory.{IsKept}
+use Rattle.text_memory.specs.Way.Memory.{IsKept}
 use Rattle.text_memory.proofs.memory.TextMemory.grow.Given as goal
 
 -- what the new slots have was kept, and so was what is left of the old ones

@@ -4,7 +4,7 @@ use Rattle.std.specs.List.{All, dedup}
 use Rattle.std.proofs.lemmas.List.Filters.{All-dedup}
 use Rattle.std.proofs.lemmas.Str.{IsUtf8-string_bytes}
 use Rattle.texts.proofs.ArenaLemmas.{texts_deduped}
-use Rattle.texts.specs.Arena.{IsPiece, same_piece, same_text, text_at}
+use Rattle.texts.specs.Way.Arena.{IsPiece, same_piece, same_text, text_at}
 use Rattle.texts.proofs.arena.Arena.drop_repeats.Goals as goal
 
 pub invariant_of-self : goal.invariant_of-self

@@ -4,7 +4,7 @@ use Rattle.std.specs.List.{All}
 use Rattle.std.proofs.lemmas.List.{take_all}
 use Rattle.std.proofs.lemmas.List.Elements.{All-more}
 use Rattle.texts.proofs.ArenaLemmas.{not_among}
-use Rattle.texts.specs.Arena.{text_at}
+use Rattle.texts.specs.Way.Arena.{text_at}
 use Rattle.texts.specs.declared.arena.Piece.{Piece}
 use Rattle.texts.proofs.arena.Arena.has.Goals as goal
 

@@ -1,7 +1,7 @@
 use Rattle.std.proofs.Common.{take}
 use Rattle.std.specs.Prelude.{◌≢◌, string_bytes}
 use Rattle.std.specs.List.{All}
-use Rattle.texts.specs.Arena.{text_at}
+use Rattle.texts.specs.Way.Arena.{text_at}
 use Rattle.texts.proofs.arena.Arena.has.Given as goal
 
 abbrev pub invariant-loop-piece : goal.invariant-loop-piece

@@ -1,6 +1,6 @@
 use Rattle.std.proofs.Common.{◌≡◌, map, take}
 use Rattle.std.specs.Prelude.{string_bytes}
-use Rattle.texts.specs.Arena.{text_at}
+use Rattle.texts.specs.Way.Arena.{text_at}
 use Rattle.texts.proofs.arena.Arena.packed.Given as goal
 
 abbrev pub invariant-loop-piece : goal.invariant-loop-piece

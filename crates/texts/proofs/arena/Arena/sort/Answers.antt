@@ -5,7 +5,7 @@ use Rattle.std.specs.Ordering.{is_lt}
 use Rattle.std.proofs.lemmas.List.Sorted.{All-permutation, IsPermutation-map}
 use Rattle.std.proofs.lemmas.Str.{IsUtf8-string_bytes}
 use Rattle.texts.proofs.ArenaLemmas.{sorted_texts}
-use Rattle.texts.specs.Arena.{IsPiece, piece_cmp, text_at}
+use Rattle.texts.specs.Way.Arena.{IsPiece, piece_cmp, text_at}
 use Rattle.texts.proofs.arena.Arena.sort.Goals as goal
 
 pub invariant_of-self : goal.invariant_of-self

@@ -4,7 +4,7 @@ use Rattle.specifiers.specs.Clause.{Clause}
 use Rattle.pep_clause.specs.OperatorTable.{between}
 use Rattle.pep_clause.specs.VersionSet.{Range}
 use Rattle.pep_require.specs.Reads.{IsBound}
-use Rattle.demands.specs.LineDemands.{DemandsRanges}
+use Rattle.demands.specs.Way.LineDemands.{DemandsRanges}
 use Rattle.clause_memory.specs.declared.demand.Demand.{Demand}
 use Rattle.clause_memory.specs.declared.memory.Remembered.{Remembered}
 

@@ -4,7 +4,7 @@ use Rattle.std.specs.Cmp.Lexicographic.{slice_cmp}
 use Rattle.std.specs.Ordering.{eq_by_cmp, nat_cmp, ordering_then}
 use Rattle.std.specs.Str.{IsCharBoundary}
 use Rattle.std.specs.declared.cmp.Ordering.{Ordering}
-use Rattle.texts.specs.Heads.{head_of}
+use Rattle.texts.specs.Way.Heads.{head_of}
 use Rattle.texts.specs.declared.arena.Piece.{Piece}
 
 -- the order of texts: by their bytes

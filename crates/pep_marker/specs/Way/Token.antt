@@ -3,7 +3,7 @@ use Rattle.std.specs.Prelude.{◌≡◌, ℕ, ◌-◌, ◌<◌, ◌≤◌, List,
 use Rattle.std.specs.Prelude.{Option, Some, option_map}
 use Rattle.std.specs.Str.{IsCharBoundary}
 use Rattle.pep_marker.specs.Marker as syntax
-use Rattle.pep_marker.specs.TokenReading.{next_token}
+use Rattle.pep_marker.specs.Way.TokenReading.{next_token}
 use Rattle.pep_marker.specs.View.{operator_parts}
 use Rattle.pep_marker.specs.declared.token.Lexeme.{Lexeme}
 use Rattle.pep_marker.specs.declared.token.Lexeme.TheVariants as lexeme

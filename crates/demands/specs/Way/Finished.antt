@@ -2,7 +2,7 @@
 use Rattle.std.specs.Prelude.{List, []}
 use Rattle.pep_clause.specs.OperatorTable.{range}
 use Rattle.pep_clause.specs.VersionSet.{Range}
-use Rattle.demands.specs.Others.{OtherParts}
+use Rattle.demands.specs.Way.Others.{OtherParts}
 use Rattle.demands.specs.Table.{EntryParts}
 use Rattle.demands.specs.declared.kept_ranges.KeptRanges.{KeptRanges}
 use Rattle.demands.specs.declared.kept_ranges.KeptRanges.TheVariants.{Bounded, Placed, Set}

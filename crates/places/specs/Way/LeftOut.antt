@@ -5,7 +5,7 @@ use Rattle.std.specs.List.{list_any}
 use Rattle.std.specs.Ordering.{is_lt}
 use Rattle.std.specs.declared.cmp.Ordering.TheVariants.{Less}
 use Rattle.pep_clause.specs.Cut.{Cut, IsCut, cut_cmp}
-use Rattle.pep_clause.specs.Joined.{joined}
+use Rattle.pep_clause.specs.Way.Joined.{joined}
 use Rattle.pep_clause.specs.OperatorTable.{outside}
 use Rattle.pep_clause.specs.VersionSet.{Range, all_versions}
 use Rattle.places.specs.Place.{IsPlace, place_word, right_behind}

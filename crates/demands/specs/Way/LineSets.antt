@@ -5,8 +5,8 @@ use Rattle.pep_clause.specs.OperatorTable.{outside}
 use Rattle.pep_clause.specs.VersionSet.{Range}
 use Rattle.pep_marker.specs.Name.{IsNormalName}
 use Rattle.places.specs.declared.bounds.Bounds.{Bounds}
-use Rattle.demands.specs.Others.{OtherParts}
-use Rattle.demands.specs.PartialJoins.{AreKept, AreNormal, joined_sets, kept_versions}
+use Rattle.demands.specs.Way.Others.{OtherParts}
+use Rattle.demands.specs.Way.PartialJoins.{AreKept, AreNormal, joined_sets, kept_versions}
 use Rattle.demands.specs.Table.{is_url_text}
 
 -- the versions that two places leave, which lie outside of them

@@ -8,7 +8,7 @@ use Rattle.pep_version.specs.declared.parts.Phase.{Phase}
 use Rattle.specifiers.specs.Admits.{compatible_prefix}
 use Rattle.specifiers.specs.Clause.{Clause, Prefix, prefix_clause, version_clause}
 use Rattle.specifiers.specs.Operator.{OperandParts, prefix_part, text_part, version_part}
-use Rattle.specifiers.specs.OperatorEnds.{begin_of, end_of, leaves_out}
+use Rattle.specifiers.specs.Way.OperatorEnds.{begin_of, end_of, leaves_out}
 use Rattle.specifiers.specs.declared.op.Begin.{Begin}
 use Rattle.specifiers.specs.declared.op.Begin.TheVariants as begin
 use Rattle.specifiers.specs.declared.op.End.{End}

@@ -9,7 +9,7 @@ use Rattle.pep_require.specs.declared.fault.RequireFault.TheVariants as require
 use Rattle.demands.specs.Table.{TableParts}
 use Rattle.faults.specs.declared.fault.LineFault.{LineFault}
 use Rattle.faults.specs.declared.fault.LineFault.TheVariants as line_fault
-use Rattle.inputs.specs.Wanted.{TakesWanted}
+use Rattle.inputs.specs.Way.Wanted.{TakesWanted}
 
 -- the text's requirement stands behind the others
 abbrev pub AddsText : List ℕ → List RequirementParts → List RequirementParts → Type 0

@@ -3,7 +3,7 @@
 use Rattle.std.specs.Prelude.{List, [], ◌∷◌, Option, Some, None}
 use Rattle.std.specs.List.{AllByRecursion}
 use Rattle.pep_clause.specs.Cut.{Cut, IsCut}
-use Rattle.pep_clause.specs.Joined.{joined}
+use Rattle.pep_clause.specs.Way.Joined.{joined}
 use Rattle.pep_clause.specs.OperatorTable.{range}
 use Rattle.pep_clause.specs.VersionSet.{IsNormal, Range, all_versions}
 

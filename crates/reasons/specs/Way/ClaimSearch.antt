@@ -9,7 +9,7 @@ use Rattle.pep_require.specs.Reads.{Reads}
 use Rattle.pep_require.specs.Requirement.{Applies, RequirementParts}
 use Rattle.inputs.specs.declared.input.Kind.TheVariants as kind
 use Rattle.inputs.specs.Lists.{content, is_skipped, lines_of}
-use Rattle.reasons.specs.Asked.{AskedParts, Gains}
+use Rattle.reasons.specs.Way.Asked.{AskedParts, Gains}
 use Rattle.reasons.specs.Claims.{AreInOrder, ClaimParts, PlacedParts, entered, name_of, required}
 use Rattle.reasons.specs.Places.{IsOnLine, StandsIn}
 

@@ -6,7 +6,7 @@ use Rattle.pep_clause.specs.OperatorTable.{set_of}
 use Rattle.pep_clause.specs.VersionSet.{Range}
 use Rattle.pep_marker.specs.Name.{IsNormalName}
 use Rattle.pep_require.specs.Requirement.{RequirementParts, UrlParts, direct}
-use Rattle.pep_require.specs.Sink.{Adds, AddsClauses, AddsTarget, with_extra}
+use Rattle.pep_require.specs.Way.Sink.{Adds, AddsClauses, AddsTarget, with_extra}
 use Rattle.demands.specs.Gathering.{TakesEntry, bare_entry, target_clauses, target_urls}
 use Rattle.demands.specs.Table.{EntryParts, is_url_text}
 

@@ -6,7 +6,7 @@ use Rattle.pep_marker.specs.Environment.{EnvironmentParts}
 use Rattle.pep_require.specs.LineParts.{BoundFrom}
 use Rattle.pep_require.specs.Reads.{ReadsUrl}
 use Rattle.pep_require.specs.Requirement.{MarkerSays, RequirementParts, UrlParts}
-use Rattle.demands.specs.LineDemands.{AddsClause, AddsUrl, DemandsEntry, DemandsRanges}
+use Rattle.demands.specs.Way.LineDemands.{AddsClause, AddsUrl, DemandsEntry, DemandsRanges}
 use Rattle.demands.specs.Table.{EntryParts}
 use Rattle.clause_memory.specs.declared.sink.LineSoFar.{LineSoFar}
 

@@ -7,9 +7,9 @@ use Rattle.pep_version.specs.Version.{Fits}
 use Rattle.specifiers.specs.Clause.{Clause, prefix_clause, version_clause}
 use Rattle.specifiers.specs.declared.op.Op.{Op}
 use Rattle.pep_clause.specs.OperatorTable.{set_of}
-use Rattle.places.specs.Bounds.{release_prefix}
+use Rattle.places.specs.Way.Bounds.{release_prefix}
 use Rattle.places.specs.Place.{release_alone}
-use Rattle.clause_memory.specs.Demand.{demanded_ranges}
+use Rattle.clause_memory.specs.Way.Demand.{demanded_ranges}
 use Rattle.clause_memory.specs.declared.demand.Demand.{Demand}
 use Rattle.clause_memory.specs.declared.plain.Operand.{Operand}
 use Rattle.clause_memory.specs.declared.plain.Operand.TheVariants as operand

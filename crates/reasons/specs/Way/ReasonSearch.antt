@@ -8,7 +8,7 @@ use Rattle.demands.specs.Demand.{Demand}
 use Rattle.demands.specs.Table.{TableDemands, TableParts}
 use Rattle.demands.specs.Verdict.{IsVerdict}
 use Rattle.inputs.specs.declared.input.Input.{Input}
-use Rattle.reasons.specs.Asked.{AskedParts, asked_names}
+use Rattle.reasons.specs.Way.Asked.{AskedParts, asked_names}
 use Rattle.reasons.specs.Clash.{IsPartThatClashes, IsReasonOf, ReasonParts}
 
 -- a package on which this is demanded is found, without claims, exactly if its verdict isn't open

@@ -1,0 +1,7 @@
+-- Definitions that say how the code goes. No promise rests on them.
+pub mod Collected
+pub mod Finished
+pub mod LineDemands
+pub mod LineSets
+pub mod Others
+pub mod PartialJoins

@@ -1,0 +1,5 @@
+-- Definitions that say how the code goes. No promise rests on them.
+pub mod GatheredLines
+pub mod LineReading
+pub mod TakenTexts
+pub mod Wanted

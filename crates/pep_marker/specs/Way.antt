@@ -1,0 +1,9 @@
+-- Definitions that say how the code goes. No promise rests on them.
+pub mod Chains
+pub mod ComparedView
+pub mod HeaderLines
+pub mod MarkerTokens
+pub mod Slots
+pub mod Token
+pub mod TokenReading
+pub mod Value

@@ -1,0 +1,6 @@
+-- Definitions that say how the code goes. No promise rests on them.
+pub mod EntryReading
+pub mod Printout
+pub mod ReadText
+pub mod TableReading
+pub mod TextLines

@@ -1,0 +1,4 @@
+-- Definitions that say how the code goes. No promise rests on them.
+pub mod Arena
+pub mod Heads
+pub mod Split
