@@ -41,8 +41,8 @@ abbrev pub HasVersionOfText : List Range → List ℕ → Type 0
 HasVersionOfText ranges text =
     (v : Version) × IsVersion v × (normal_text v ≡ text) × In ranges v
 
--- The verdict by the parts of an entry, the code's way: a conflict of URLs; else nothing, where there is no range, or
--- texts are demanded and no version fits; else possible.
+-- The verdict by the parts of an entry: a conflict of URLs; else nothing, where there is no range, or texts are demanded
+-- and no version fits; else possible.
 abbrev pub IsEntryVerdict : EntryParts → Verdict → Type 0
 IsEntryVerdict e Conflict = 2 ≤ length e.urls
 IsEntryVerdict e Nothing = (length e.urls < 2)

@@ -9,7 +9,8 @@ use Rattle.specifiers.specs.Admits.{admits, has_prefix, says}
 use Rattle.specifiers.specs.Clause.{Clause, Prefix, at_least, at_most, compatible, greater_than, is_final, less_than}
 use Rattle.specifiers.specs.Clause.{prefix_of}
 use Rattle.specifiers.specs.Clause.{version_clause}
-use Rattle.specifiers.specs.ClauseView.{IsStored, TellsVersion, clause_of, compatible_fault, label_fault, of_version}
+use Rattle.specifiers.specs.ClauseView.{IsStored, clause_of, of_version}
+use Rattle.specifiers.specs.Way.VersionFaults.{TellsVersion, compatible_fault, label_fault}
 use Rattle.specifiers.specs.ClauseView.{of_prefix, operand_parts}
 use Rattle.specifiers.specs.Operator.{operand, operator, prefix_part, version_part}
 use Rattle.specifiers.specs.Valid.{IsValidClause}

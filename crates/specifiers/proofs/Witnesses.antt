@@ -17,7 +17,7 @@ use Rattle.specifiers.specs.Clause.{Clause, ClauseOf, ReadsClause, at_least, at_
 use Rattle.specifiers.specs.Clause.{compatible, demanded, demanded_text, greater_than, is_final}
 use Rattle.specifiers.specs.Clause.{less_than, matching, matching_prefix, operator_of, prefix_of}
 use Rattle.specifiers.specs.Clause.{version_answer}
-use Rattle.specifiers.specs.ClauseView.{TellsVersion}
+use Rattle.specifiers.specs.Way.VersionFaults.{TellsVersion}
 use Rattle.specifiers.specs.Operator.{operator}
 use Rattle.specifiers.specs.Way.OperatorEnds.{begin_of, end_of, leaves_out}
 use Rattle.specifiers.specs.declared.op.Begin.TheVariants as begin

@@ -1,13 +1,10 @@
 -- What a contract sees of a stored clause: an operator and what stands behind it. A prefix is kept as the version that is its epoch
 -- and release.
-use Rattle.std.specs.Prelude.{◌≡◌, [], IsTrue, MatchOption, Option, Some, None, Ok, Err, length, nat_lt, string_bytes, if◌then◌else◌}
+use Rattle.std.specs.Prelude.{◌≡◌, [], IsTrue, string_bytes}
 use Rattle.pep_version.specs.Version.{Version}
 use Rattle.specifiers.specs.Clause.{Clause, Prefix, compatible, matching, matching_prefix, excluding}
 use Rattle.specifiers.specs.Clause.{excluding_prefix, at_most, at_least, less_than, greater_than}
-use Rattle.specifiers.specs.Clause.{demanded, is_final, prefix_of, version_clause}
-use Rattle.texts.specs.Lists.{is_empty}
-use Rattle.specifiers.specs.declared.fault.ClauseFault.{ClauseFault}
-use Rattle.specifiers.specs.declared.fault.ClauseFault.TheVariants as fault
+use Rattle.specifiers.specs.Clause.{demanded, is_final, prefix_of}
 use Rattle.specifiers.specs.Operator.{OperandParts, operator, prefix_part, text_part, version_part}
 use Rattle.specifiers.specs.Valid.{IsValidClause}
 use Rattle.specifiers.specs.declared.clause.Operand.{Operand}
@@ -59,18 +56,3 @@ pub record IsStored (o : Op) (x : Operand) : Type 0 where
   pub operator : operator (clause_of o x) ≡ o
   pub valid : IsValidClause (clause_of o x)
   pub operand : IsOperand x
-
--- ---- why an operator and a version make no clause
-
-abbrev pub label_fault : Version → Option ClauseFault
-label_fault v = if is_empty v.label then None else Some fault.LocalNotAllowed
-
-abbrev pub compatible_fault : Version → Option ClauseFault
-compatible_fault v = if is_empty v.label
-    then (if nat_lt 1 (length v.release) then None else Some fault.OneNumber)
-    else Some fault.LocalNotAllowed
-
--- they make their clause, or are refused so
-abbrev pub TellsVersion : Op → Version → Option ClauseFault → Type 0
-TellsVersion o v found = MatchOption found (version_clause o v ≡ Ok (of_version o v))
-    (λ e. version_clause o v ≡ Err e)

@@ -15,7 +15,11 @@ ghost use Rattle.specifiers.specs.Clause.{
   prefix_answer,
   version_answer,
 };
-ghost use Rattle.specifiers.specs.ClauseView.{TellsVersion, compatible_fault, label_fault};
+ghost use Rattle.specifiers.specs.Way.VersionFaults.{
+  TellsVersion,
+  compatible_fault,
+  label_fault,
+};
 ghost use Rattle.texts.specs.Bytes.{is_clause_byte};
 
 use crate::clause::{Clause, Operand};

@@ -1,5 +1,5 @@
 use Rattle.std.proofs.Common.{sym, subst}
-use Rattle.specifiers.specs.ClauseView.{TellsVersion, compatible_fault, label_fault}
+use Rattle.specifiers.specs.Way.VersionFaults.{TellsVersion, compatible_fault, label_fault}
 use Rattle.specifiers.specs.declared.op.Op.TheVariants as op
 use Rattle.specifiers.proofs.MadeClauses.{tells-compatible, tells-label}
 use Rattle.specifiers.proofs.clause.read.version_fault.Goals as goal
