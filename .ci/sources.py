@@ -93,3 +93,15 @@ def public_calls(path):
             if (is_law or (call.owner or call.name) in offered) and not is_left_out:
                 found.append((call, file, is_law))
     return found
+
+
+def public_members(path):
+    """Returns what the traits, and the impls of traits, of a path say in ghost members: the owner, its file and their text. `Model` has views."""
+    offered, found = handed_on(path), []
+    for file in (file for crate in PATHS[path] for file in files(crate)):
+        for block in re.findall(r"^(?:impl|pub trait)\b.*?^\}", source(file), re.M | re.S):
+            trait, owner = OWNER.match(block).groups()
+            members = re.findall(r"^    ghost (?!use\b)\w+.*?\};?$", block, re.M | re.S)
+            if owner in offered and trait != "Model" and members:
+                found.append((f"{trait} for {owner}" if trait else owner, file, "\n".join(members)))
+    return found

@@ -38,7 +38,7 @@ use Rattle.pep_clause.specs.OperatorTable.{set_of}
 use Rattle.pep_require.specs.LineParts.{after_operator}
 use Rattle.pep_require.specs.Reads.{IsBound}
 use Rattle.pep_require.proofs.BlankLemmas.{leading, leading_blank, leading_whole}
-use Rattle.places.specs.Way.Bounds.{HoldsPrefix, HoldsRelease, IsBetween}
+use Rattle.places.specs.Way.Bounds.{HoldsPrefix, HoldsRelease}
 use Rattle.places.specs.Place.{release_alone}
 use Rattle.places.specs.declared.bounds.Bounds.{Bounds}
 use Rattle.clause_memory.specs.Way.Taken.{DemandsFront, goes_on}

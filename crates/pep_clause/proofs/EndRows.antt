@@ -11,7 +11,8 @@ use Rattle.specifiers.specs.declared.op.Op.{Op}
 use Rattle.specifiers.specs.declared.op.Op.TheVariants as op
 use Rattle.pep_clause.proofs.ClauseRows.{matching-in_order}
 use Rattle.pep_clause.specs.Cut.{Cut, cut_cmp}
-use Rattle.pep_clause.specs.OperatorTable.{before_prefix, begin_cut, between, end_cut, prefix_end, set_of}
+use Rattle.pep_clause.specs.OperatorTable.{before_prefix, prefix_end, set_of}
+use Rattle.pep_clause.specs.Way.Ends.{begin_cut, between, end_cut}
 use Rattle.pep_clause.specs.VersionSet.{Range}
 
 -- the versions between the ends of an operator, or outside of them, are the set of its clause

@@ -1,7 +1,8 @@
--- THE CODE'S WAY, and no definition of a clause's meaning: the ranges that the code makes of each
--- clause. They hold exactly the versions that the clause admits (`VersionSet::of`). `last` is the
+-- The ranges that `VersionSet::of` promises for each clause, and no definition of a clause's meaning. They hold exactly the versions
+-- that the clause admits, and all versions for `===`. `last` is the largest number.
+use admits (`VersionSet::of`). `last` is the
 -- largest number.
-use Rattle.std.specs.Prelude.{ℕ, ◌+◌, ◌-◌, ◌^◌, Bool, List, [], ◌∷◌, ◌++◌, Option, Some, None, nat_lt}
+use Rattle.std.specs.Prelude.{ℕ, ◌+◌, ◌-◌, ◌^◌, List, [], ◌∷◌, ◌++◌, Option, Some, None, nat_lt}
 use Rattle.std.specs.Prelude.{if◌then◌else◌}
 use Rattle.std.specs.Ordering.{is_lt}
 use Rattle.pep_version.specs.declared.parts.Phase.{Phase}
@@ -13,10 +14,6 @@ use Rattle.specifiers.specs.Admits.{compatible_prefix}
 use Rattle.specifiers.specs.Clause.{Clause, Prefix, compatible, matching, matching_prefix}
 use Rattle.specifiers.specs.Clause.{excluding, excluding_prefix, at_most, at_least, less_than}
 use Rattle.specifiers.specs.Clause.{greater_than, demanded}
-use Rattle.specifiers.specs.declared.op.Begin.{Begin}
-use Rattle.specifiers.specs.declared.op.Begin.TheVariants as begin
-use Rattle.specifiers.specs.declared.op.End.{End}
-use Rattle.specifiers.specs.declared.op.End.TheVariants as ends
 use Rattle.pep_clause.specs.Cut.{Cut, before, after, past, end, cut_cmp, final_version, least}
 use Rattle.pep_clause.specs.VersionSet.{Range}
 
@@ -125,23 +122,6 @@ matching_to v = if is_empty v.label then next v else after (place_of v)
 
 abbrev pub before_prefix : Prefix → Cut
 before_prefix p = before_dev p.epoch p.release
-
--- the cut where the versions begin that an operator and a version speak of, and the one where they end
-abbrev pub begin_cut : Begin → Version → Cut
-begin_cut begin.Least v = least
-begin_cut begin.Version v = before_place v
-begin_cut begin.Greater v = greater_from v
-
-abbrev pub end_cut : End → Version → Cut
-end_cut ends.Version v = next v
-end_cut ends.Matching v = matching_to v
-end_cut ends.Less v = less_to v
-end_cut ends.Prefix v = prefix_end (compatible_prefix v)
-end_cut ends.All v = end
-
--- the versions between two cuts, or where these are left out the others
-abbrev pub between : Bool → Cut → Cut → List Range
-between left_out low high = if left_out then outside low high else range low high
 
 -- the set of a clause, as a list of ranges; `===` has all versions, since its text stands beside
 -- the ranges

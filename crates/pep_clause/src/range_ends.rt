@@ -17,20 +17,8 @@ ghost use Rattle.std.specs.Prelude.{
 ghost use Rattle.pep_version.specs.Order.{without_dev, without_post};
 ghost use Rattle.pep_clause.specs.Cut.{IsCut};
 ghost use Rattle.specifiers.specs.Admits.{compatible_prefix};
-ghost use Rattle.pep_clause.specs.OperatorTable.{
-  after_last_dev,
-  begin_cut,
-  done,
-  end_cut,
-  greater_from,
-  last,
-  less_to,
-  matching_to,
-  next,
-  next_phase,
-  prefix_end,
-  raised,
-};
+ghost use Rattle.pep_clause.specs.OperatorTable.{after_last_dev, done, greater_from, last, less_to, matching_to, next, next_phase, prefix_end, raised};
+ghost use Rattle.pep_clause.specs.Way.Ends.{begin_cut, end_cut};
 
 use crate::cut::Cut;
 use pep_version::{Phase, Version};

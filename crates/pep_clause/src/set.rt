@@ -32,7 +32,8 @@ ghost use Rattle.specifiers.specs.ClauseView.{IsStored, clause_of, of_prefix, of
 ghost use Rattle.pep_clause.specs.Cut.{Cut, IsCut, cut_cmp};
 ghost use Rattle.pep_clause.specs.Inhabited.{HasVersionUnlessEmpty};
 ghost use Rattle.pep_clause.specs.Way.Joined.{all_within, are_within, joined};
-ghost use Rattle.pep_clause.specs.OperatorTable.{between, outside, range, set_of};
+ghost use Rattle.pep_clause.specs.OperatorTable.{outside, range, set_of};
+ghost use Rattle.pep_clause.specs.Way.Ends.{between};
 ghost use Rattle.pep_clause.specs.SetEquality.{SameVersions, same_ranges, same_ranges-equiv};
 ghost use Rattle.pep_clause.specs.VersionSet.{In, IsIncreasing, IsNormal, all_versions, cuts, is_in};
 ghost use Rattle.pep_clause.specs.VersionSet.{HasFewRanges, is_point};
@@ -236,7 +237,7 @@ impl VersionSet {
         }
     }
 
-    // The versions that the clause of this operator and version admits; all where it demands a text.
+    // The versions that the clause of this operator and version admits.
     fn of_version(alloc: Global, op: Op, version: &Version) -> Result<VersionSet, ClauseFault>
         requires { IsVersion version.now }
         ensures list { IfOk result (λ s. s ≡ set_of (of_version op version.now)) }

@@ -1,5 +1,5 @@
 -- Clauses between the places of their ends.
-use Rattle.std.proofs.Common.{◌≡◌, ◌<◌, ◌⊎◌, ◌∙◌, Bool, ℕ, List, Option, Some, None, Ok, Err, IfSome, true, false, length, nat_lt, refl, inl, inr, subst, sym}
+use Rattle.std.proofs.Common.{◌≡◌, ◌⊎◌, ◌∙◌, Bool, ℕ, List, Option, Some, None, Ok, Err, IfSome, true, false, length, nat_lt, refl, inl, inr, subst, sym}
 use Rattle.std.specs.Prelude.{IsOk, if◌then◌else◌}
 use Rattle.pep_version.specs.Version.{Version}
 use Rattle.specifiers.specs.Clause.{Prefix, compatible, demanded, excluding_prefix, matching_prefix, version_clause}
@@ -10,7 +10,8 @@ use Rattle.specifiers.specs.declared.op.Op.{Op}
 use Rattle.specifiers.specs.declared.op.Op.TheVariants as op
 use Rattle.pep_clause.proofs.EndRows.{between-ends, between-prefix}
 use Rattle.pep_clause.specs.Cut.{end, least}
-use Rattle.pep_clause.specs.OperatorTable.{before_prefix, begin_cut, between, end_cut, prefix_end, set_of}
+use Rattle.pep_clause.specs.OperatorTable.{before_prefix, prefix_end, set_of}
+use Rattle.pep_clause.specs.Way.Ends.{begin_cut, between, end_cut}
 use Rattle.places.specs.Way.Bounds.{HoldsPrefix, HoldsRelease, IsBetween, release_prefix}
 use Rattle.places.specs.Place.{release_alone}
 use Rattle.places.specs.declared.bounds.Bounds.{Bounds}

@@ -1,4 +1,4 @@
-//! What a clause admits, as the versions between two places.
+//! What a clause admits, or leaves out, as the versions between two places.
 
 ghost use Rattle.std.specs.Prelude.{◌≡◌, ◌+◌, ◌<◌, ◌≤◌, ◌↔◌, length, IfSome, IsSome};
 ghost use Rattle.specifiers.specs.Admits.{compatible_prefix};
@@ -7,18 +7,8 @@ ghost use Rattle.specifiers.specs.ClauseView.{IsStored, clause_of, operand_parts
 ghost use Rattle.specifiers.specs.Operator.{operand, operator, version_part};
 ghost use Rattle.specifiers.specs.Way.OperatorEnds.{begin_of, end_of};
 ghost use Rattle.pep_clause.specs.Cut.{IsCut};
-ghost use Rattle.pep_clause.specs.OperatorTable.{
-  before_dev,
-  before_place,
-  before_prefix,
-  begin_cut,
-  end_cut,
-  greater_from,
-  less_to,
-  matching_to,
-  next,
-  prefix_end,
-};
+ghost use Rattle.pep_clause.specs.OperatorTable.{before_dev, before_place, before_prefix, greater_from, less_to, matching_to, next, prefix_end};
+ghost use Rattle.pep_clause.specs.Way.Ends.{begin_cut, end_cut};
 ghost use Rattle.places.specs.Way.Bounds.{
   BeginsShort,
   EndsShort,

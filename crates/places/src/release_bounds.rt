@@ -1,8 +1,8 @@
-//! What clauses admit whose version is a release of epoch 0 alone, as that of most clauses is.
+//! What clauses admit, or leave out, whose version is a release of epoch 0 alone, as that of most clauses is.
 
 ghost use Rattle.std.specs.Prelude.{◌≡◌, ◌↔◌, ◌<◌, length, IfSome, IsOk, IsSome, IsTrue};
 ghost use Rattle.specifiers.specs.Clause.{version_clause};
-ghost use Rattle.pep_clause.specs.OperatorTable.{begin_cut, end_cut};
+ghost use Rattle.pep_clause.specs.Way.Ends.{begin_cut, end_cut};
 ghost use Rattle.places.specs.Way.Bounds.{
   BeginsShort,
   EndsShort,

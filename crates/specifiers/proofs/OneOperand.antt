@@ -1,5 +1,5 @@
 -- One text behind many operators: what the clause of `==` has tells what each operator makes of the text.
-use Rattle.std.proofs.Common.{◌≡◌, ◌≢◌, ℕ, Bool, true, false, List, None, Result, Ok, Err}
+use Rattle.std.proofs.Common.{◌≡◌, ◌≢◌, ℕ, Bool, true, false, List, Result, Ok, Err}
 use Rattle.std.proofs.Common.{ap, refl, sym, subst, take, length, ◌-◌}
 use Rattle.std.specs.List.{ends_with}
 use Rattle.std.specs.Prelude.{MatchBool, codes, if◌then◌else◌, nat_eq, nat_lt}

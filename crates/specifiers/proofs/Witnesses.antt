@@ -85,8 +85,8 @@ Clause_admits_by-prefix_by_another_operator h =
     refl differ)) said.2
 
 -- `>=1`
-pub Clause_copied-another_form : ¬ (less_than (release (1 ∷ [])) ≡ at_least (release (1 ∷ [])))
-Clause_copied-another_form e = cc e
+pub Clause_copied-another_operator : ¬ (less_than (release (1 ∷ [])) ≡ at_least (release (1 ∷ [])))
+Clause_copied-another_operator e = cc e
 
 -- `===1`
 pub Clause_exact_text-none : ¬ (None ≡ demanded_text (demanded (codes "1")))

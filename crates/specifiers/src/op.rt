@@ -12,7 +12,8 @@ pub enum Op {
     Exact,
 }
 
-/// Where the versions begin that a clause of an operator and a version speaks of.
+/// Where the versions begin that a clause of an operator and a version speaks of. Public for the crates of sets and
+/// places, as [`Op::begin`] is.
 #[derive(Clone, Copy, Debug, PartialEq, Eq)]
 pub enum Begin {
     /// Under all versions.
@@ -23,7 +24,7 @@ pub enum Begin {
     Greater,
 }
 
-/// Where the versions end that a clause of an operator and a version speaks of.
+/// Where the versions end that a clause of an operator and a version speaks of. Public for the same crates.
 #[derive(Clone, Copy, Debug, PartialEq, Eq)]
 pub enum End {
     /// Directly behind the version and all its labels.
@@ -105,7 +106,7 @@ impl Op {
     }
 
     /// Whether a clause with this operator leaves out the versions between these ends, and admits the others: that of
-    /// `!=` does (PEP 440, "Version exclusion"). Public for the crates of sets, places and lines.
+    /// `!=` does (PEP 440, "Version exclusion"). Public for the crates above.
     #[inline(always)]
     pub fn leaves_out(self) -> bool
         ensures { result ≡ leaves_out self }

@@ -1,7 +1,7 @@
 -- What a clause demands of versions, and texts that are such clauses.
 use Rattle.std.specs.Prelude.{ℕ, List, Option, Some, None, IfSome, if◌then◌else◌, take, ⊤}
 use Rattle.specifiers.specs.Clause.{Clause}
-use Rattle.pep_clause.specs.OperatorTable.{between}
+use Rattle.pep_clause.specs.Way.Ends.{between}
 use Rattle.pep_clause.specs.VersionSet.{Range}
 use Rattle.pep_require.specs.Reads.{IsBound}
 use Rattle.demands.specs.Way.LineDemands.{DemandsRanges}

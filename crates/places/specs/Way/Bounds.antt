@@ -14,7 +14,8 @@ use Rattle.specifiers.specs.declared.op.Begin.TheVariants as begin
 use Rattle.specifiers.specs.declared.op.End.{End}
 use Rattle.specifiers.specs.declared.op.End.TheVariants as ends
 use Rattle.specifiers.specs.declared.op.Op.{Op}
-use Rattle.pep_clause.specs.OperatorTable.{between, set_of, with_dev, with_post}
+use Rattle.pep_clause.specs.OperatorTable.{set_of, with_dev, with_post}
+use Rattle.pep_clause.specs.Way.Ends.{between}
 use Rattle.places.specs.Place.{AreShortNumbers, IsShortRelease, IsShortVersion, release_alone}
 use Rattle.places.specs.declared.bounds.Bounds.{Bounds}
 
@@ -73,11 +74,11 @@ HasEnds o (version_part v) = BeginsShort (begin_of o) v × EndsShort (end_of o) 
 HasEnds o (prefix_part p) = HasPrefixEnds p
 HasEnds o (text_part t) = Unit {0}
 
--- ---- clauses whose version is a release alone
-
 -- what lies between the places, or with `!=` what lies outside of them, is what the clause admits
 abbrev pub IsBetween : Op → Bounds → Clause → Type 0
 IsBetween o b c = between (leaves_out o) b.low b.high ≡ set_of c
+
+-- ---- clauses whose version is a release alone
 
 -- the operator and this version make such a clause
 pub record HoldsRelease (o : Op) (r : List ℕ) (b : Bounds) : Type 0 where

@@ -97,7 +97,7 @@ fn prefix_clause(operator: Op, version: Version) -> Result<Clause, ClauseFault>
     }
 }
 
-// Why a version stands behind no operator that takes none with a label, if it doesn't.
+// Why an operator that takes no label refuses the version, if it does.
 fn label_fault(version: &Version) -> Option<ClauseFault>
     ensures { result ≡ label_fault version.now }
 {
@@ -108,7 +108,7 @@ fn label_fault(version: &Version) -> Option<ClauseFault>
     }
 }
 
-// Why a version doesn't stand behind `~=`, if it doesn't.
+// Why `~=` refuses the version, if it does.
 fn compatible_fault(version: &Version) -> Option<ClauseFault>
     ensures { result ≡ compatible_fault version.now }
 {

@@ -42,12 +42,20 @@ fn left_out_text(alloc: Global, bounds: Bounds) -> Result<String, ClauseFault> {
     Ok(format!(in alloc; "not {text}")?)
 }
 
-// The cuts between which the clause of this text admits versions, or leaves them out, where both have a place.
-fn bounds_line(alloc: Global, text: &str) -> Result<String, ClauseFault> {
+// The bounds of the clause of a text, and whether it leaves out what lies between them.
+fn bounds_of(alloc: Global, text: &str) -> Result<Option<(Bounds, bool)>, ClauseFault> {
     let clause = Clause::read(alloc, text)?;
     match Bounds::of(&clause) {
-        Some(bounds) if clause.op().leaves_out() => left_out_text(alloc, bounds),
-        Some(bounds) => bounds_text(alloc, bounds),
+        Some(bounds) => Ok(Some((bounds, clause.op().leaves_out()))),
+        None => Ok(None),
+    }
+}
+
+// The cuts between which the clause of this text admits versions, or leaves them out, where both have a place.
+fn bounds_line(alloc: Global, text: &str) -> Result<String, ClauseFault> {
+    match bounds_of(alloc, text)? {
+        Some((bounds, true)) => left_out_text(alloc, bounds),
+        Some((bounds, false)) => bounds_text(alloc, bounds),
         None => Ok(String::from_str(alloc, "none")?),
     }
 }
@@ -122,7 +130,7 @@ fn bounds(rt: HostRuntime) -> Result<(), ClauseFault> {
 fn left_over_by(alloc: Global, clauses: &[&str]) -> Result<LeftOut, ClauseFault> {
     let mut left_out = LeftOut::none(alloc);
     for text in clauses {
-        if let (_, Some(bounds)) = both_bounds(alloc, text)? {
+        if let Some((bounds, true)) = bounds_of(alloc, text)? {
             left_out.leave_out(alloc, bounds)?;
         }
     }
@@ -171,9 +179,9 @@ fn ranges_line(alloc: Global, ranges: PlaceRanges) -> Result<String, ClauseFault
 
 // The ranges of what is left over between the bounds of a clause.
 fn left_line(alloc: Global, within: &str, clauses: &[&str]) -> Result<String, ClauseFault> {
-    match both_bounds(alloc, within)? {
-        (Some(bounds), _) => ranges_line(alloc, ranges_between(alloc, clauses, bounds)?),
-        (None, _) => Ok(String::from_str(alloc, "none")?),
+    match bounds_of(alloc, within)? {
+        Some((bounds, false)) => ranges_line(alloc, ranges_between(alloc, clauses, bounds)?),
+        _ => Ok(String::from_str(alloc, "none")?),
     }
 }
 

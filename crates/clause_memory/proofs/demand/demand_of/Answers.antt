@@ -1,6 +1,6 @@
 use Rattle.std.proofs.Common.{◌∙◌, ap, rules}
 use Rattle.specifiers.specs.Way.OperatorEnds.{leaves_out}
-use Rattle.pep_clause.specs.OperatorTable.{between}
+use Rattle.pep_clause.specs.Way.Ends.{between}
 use Rattle.clause_memory.proofs.demand.demand_of.Goals as goal
 
 pub returns : goal.returns

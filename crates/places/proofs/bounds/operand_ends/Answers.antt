@@ -2,7 +2,7 @@ use Rattle.std.proofs.Common.{IfSome, ◌∙◌, string_bytes, subst, sym}
 use Rattle.specifiers.specs.Clause.{prefix_of}
 use Rattle.specifiers.specs.ClauseView.{IsStored, clause_of}
 use Rattle.specifiers.specs.Way.OperatorEnds.{leaves_out}
-use Rattle.pep_clause.specs.OperatorTable.{between}
+use Rattle.pep_clause.specs.Way.Ends.{between}
 use Rattle.places.specs.Way.Bounds.{IsBetween}
 use Rattle.places.proofs.ReleaseBounds.{holds_prefix, holds_text, holds_version}
 use Rattle.places.proofs.bounds.operand_ends.Goals as goal

@@ -1,7 +1,6 @@
 use Rattle.std.proofs.Common.{IfOk, ◌≡◌, ◌∙◌, subst}
 use Rattle.specifiers.specs.ClauseView.{clause_of}
 use Rattle.pep_clause.specs.OperatorTable.{set_of}
-use Rattle.pep_clause.specs.VersionSet.{Range}
 use Rattle.pep_clause.proofs.SetLemmas.{normal-inhabited, set_of-demanded, set_of-normal, set_of-versions}
 use Rattle.pep_clause.proofs.set.VersionSet.of.Goals as goal
 use Rattle.pep_clause.proofs.set.VersionSet.of.Goals.{After-of_operand}

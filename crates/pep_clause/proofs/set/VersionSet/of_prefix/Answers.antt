@@ -1,9 +1,7 @@
-use Rattle.std.proofs.Common.{◌≡◌, ◌∙◌, sym}
-use Rattle.std.specs.declared.cmp.Ordering.TheVariants.{Less}
+use Rattle.std.proofs.Common.{◌∙◌, sym}
 use Rattle.specifiers.specs.Clause.{prefix_of}
 use Rattle.specifiers.proofs.FinalVersion.{IsVersion-prefix_of}
 use Rattle.pep_clause.specs.Cut.{cut_cmp}
-use Rattle.pep_clause.specs.OperatorTable.{before_prefix, prefix_end}
 use Rattle.pep_clause.proofs.EndRows.{between-at, between-prefix}
 use Rattle.pep_clause.proofs.PrefixRows.{before_prefix-below_end, prefix_high-at, prefix_low-at}
 use Rattle.pep_clause.proofs.set.VersionSet.of_prefix.Goals as goal

@@ -1,10 +1,8 @@
-use Rattle.std.proofs.Common.{◌∙◌, ap, subst, sym}
+use Rattle.std.proofs.Common.{◌∙◌, subst, sym}
 use Rattle.std.specs.Prelude.{IsTrue}
-use Rattle.std.specs.declared.cmp.Ordering.TheVariants.{Less}
 use Rattle.specifiers.specs.Way.OperatorEnds.{leaves_out}
 use Rattle.pep_clause.specs.Cut.{cut_cmp}
-use Rattle.pep_clause.specs.OperatorTable.{begin_cut, end_cut}
-use Rattle.pep_clause.specs.VersionSet.{Range}
+use Rattle.pep_clause.specs.Way.Ends.{begin_cut, end_cut}
 use Rattle.pep_clause.proofs.EndRows.{between-at, between-ends, ends-in_order}
 use Rattle.pep_clause.proofs.set.VersionSet.of_version.Goals as goal
 

@@ -1,4 +1,3 @@
-use Rattle.std.proofs.Common.{rules}
 use Rattle.places.proofs.bounds.Bounds.of.Goals as goal
 
 pub operand_ends-requires : goal.operand_ends-requires

@@ -1,7 +1,7 @@
 use Rattle.std.proofs.Common.{◌∙◌, Some, rules}
 use Rattle.std.specs.Prelude.{IsOk}
 use Rattle.specifiers.specs.Clause.{version_clause}
-use Rattle.pep_clause.specs.OperatorTable.{begin_cut, end_cut}
+use Rattle.pep_clause.specs.Way.Ends.{begin_cut, end_cut}
 use Rattle.places.specs.Place.{release_alone}
 use Rattle.places.proofs.ReleaseBounds.{holds_release}
 use Rattle.places.proofs.bounds.Bounds.of_release.Goals as goal

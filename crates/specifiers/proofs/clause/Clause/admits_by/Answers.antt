@@ -1,7 +1,6 @@
 use Rattle.std.proofs.Common.{◌≡◌, rules, sym, subst, ◌∙◌, ap}
 use Rattle.specifiers.specs.Admits.{SaysOf}
 use Rattle.specifiers.specs.Clause.{IsClauseOf, matching, matching_prefix, prefix_of}
-use Rattle.specifiers.specs.declared.op.Op.{Op}
 use Rattle.specifiers.specs.declared.op.Op.TheVariants.{Equal, Exact}
 use Rattle.specifiers.specs.ClauseView.{clause_of}
 use Rattle.specifiers.specs.Operator.{operator}
