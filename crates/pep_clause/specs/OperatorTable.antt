@@ -1,7 +1,5 @@
 -- The ranges that `VersionSet::of` promises for each clause, and no definition of a clause's meaning. They hold exactly the versions
 -- that the clause admits, and all versions for `===`. `last` is the largest number.
-use admits (`VersionSet::of`). `last` is the
--- largest number.
 use Rattle.std.specs.Prelude.{ℕ, ◌+◌, ◌-◌, ◌^◌, List, [], ◌∷◌, ◌++◌, Option, Some, None, nat_lt}
 use Rattle.std.specs.Prelude.{if◌then◌else◌}
 use Rattle.std.specs.Ordering.{is_lt}
