@@ -301,10 +301,14 @@ class Refusals(unittest.TestCase):
         self.assertEqual({tuple(map(int, codes.split())): words for codes, words in rows}, tubrambutan._codes.MEANINGS)
 
     def test_a_refusal_is_pickled(self) -> None:
-        with self.assertRaises(Refused) as caught:
-            tubrambutan.Version("x")
-        again = pickle.loads(pickle.dumps(caught.exception))
-        self.assertEqual((type(again), str(again)), (type(caught.exception), str(caught.exception)))
+        project = "[project]\nname = 'd'\ndependencies = ['b<']\n"
+        calls: list[tuple[str, Callable[[], object]]] = [("'x': ", lambda: Version("x")), ("input 1, text 1: ", lambda: merge(projects=[project], environment=STANDARD))]
+        for where, call in calls:
+            with self.subTest(where), self.assertRaises(Refused) as caught:
+                call()
+            again = pickle.loads(pickle.dumps(caught.exception))
+            self.assertEqual((type(again), str(again)), (type(caught.exception), str(caught.exception)))
+            self.assertTrue(str(again).startswith(where), again)
 
 
 class Environments(unittest.TestCase):

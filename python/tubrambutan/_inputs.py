@@ -135,7 +135,7 @@ def placed(refused: Refused, inputs: Sequence[Given]) -> Refused:
     given = inputs[refused.input - 1]
     text = refused.text.replace(f" input {refused.input}", f" input {given.number}")
     if not isinstance(given.places, Lines):
-        return Refused(text, given.places)
+        return Refused(text, given.places, given.kind == PROJECT)
     if not refused.line or refused.line > len(given.places):
         return Refused(text)
     place = given.places[refused.line - 1]

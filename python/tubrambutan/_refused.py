@@ -29,6 +29,7 @@ class Refused(ValueError):
         is_environment: whether the environment is at fault.
         input: the number of the input at fault, counted from 1 through paths, lists, projects and tables in this order; None where none is.
         line: the number of the line at fault, or of the text of a project file, counted from 1; None where none is.
+        is_text: whether `line` is the number of a text of a project file.
         codes: the codes, from the outermost to the innermost.
         meaning: what the codes mean, in words.
         subject: the text that was refused, or the path of its file; None where neither is known.
@@ -38,11 +39,12 @@ class Refused(ValueError):
     is_environment: bool
     input: Optional[int]
     line: Optional[int]
+    is_text: bool
     codes: tuple[int, ...]
     meaning: str
     subject: Optional[str]
 
-    def __init__(self, text: str, subject: Optional[str] = None) -> None:
+    def __init__(self, text: str, subject: Optional[str] = None, is_text: bool = False) -> None:
         found = _LINE.fullmatch(text)
         if not found:
             raise AssertionError(f"no line of a refusal: {text!r}")
@@ -54,6 +56,7 @@ class Refused(ValueError):
         self.codes = tuple(map(int, codes.split()))
         self.meaning = meaning_of(self.codes)
         self.subject = subject
+        self.is_text = is_text or (subject is not None and subject.endswith(".toml"))
         super().__init__(f"{self._where()}{self.meaning} (code{codes})")
 
     def _where(self) -> str:
@@ -66,12 +69,11 @@ class Refused(ValueError):
             is_short = len(self.subject) <= _SHOWN or self.subject[0] not in "'\""
             told = [self.subject if is_short else f"{self.subject[:_SHOWN]}.."]
         if self.line:
-            is_text = self.subject is not None and self.subject.endswith(".toml")
-            told.append(f"{'text' if is_text else 'line'} {self.line}")
+            told.append(f"{'text' if self.is_text else 'line'} {self.line}")
         return f"{', '.join(told)}: " if told else ""
 
-    def __reduce__(self) -> tuple[type[Refused], tuple[str, Optional[str]]]:
-        return type(self), (self.text, self.subject)
+    def __reduce__(self) -> tuple[type[Refused], tuple[str, Optional[str], bool]]:
+        return type(self), (self.text, self.subject, self.is_text)
 
 
 class InvalidVersion(Refused):

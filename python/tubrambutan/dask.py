@@ -38,7 +38,7 @@ def _refused_as_one(parts: Sequence[Any], judged: Judged, fault: Refused, client
     for number, refused in client.gather(client.compute([_dask.delayed(refusal)(part, judged) for part in parts])):
         front += number
         if refused is not None:
-            return Refused(refused.text.replace(" input 1 ", f" input {front + 1} "), refused.subject)
+            return Refused(refused.text.replace(" input 1 ", f" input {front + 1} "), refused.subject, refused.is_text)
     # (no input is at fault, but memory)
     return Refused(f"refused code {' '.join(map(str, fault.codes))}")
 
