@@ -120,10 +120,6 @@ with_claim-before_the_others e =
 abbrev required_on : ℕ → PlacedParts
 required_on n = record { input = 1; number = n; claim = required without_marker }
 
--- the requirement `a[x]`
-pub Claim_name-an_extra : ¬ (codes "x" ≡ name_of (required (record without_marker { extras = codes "x" ∷ [] })))
-Claim_name-an_extra e = cc e
-
 -- a requirement on the second line
 pub with_found-place_before : ¬ (one_asked (required_on 1 ∷ []) ∷ []
     ≡ map (with_found 1 2 (Some without_marker)) (one_asked [] ∷ []))
