@@ -49,6 +49,12 @@ def told_of(output, own, function):
     return found
 
 
+def is_of_another(line, module):
+    """Tells whether the prover says of a function, whose module of proofs this is, that it stands on refused answers of others alone."""
+    names = re.findall(r"`([^`]+)`", line.partition("; it stands on ")[2].partition(", which antt refuses")[0])
+    return names != [] and not any(it.startswith(f"{module}.") for it in names)
+
+
 def judged(output, crate, own):
     """Returns the functions of which the prover found a goal of their own without a proof, and how each is refused, or None where what is
     said of it is nothing of a contract."""
@@ -60,7 +66,7 @@ def judged(output, crate, own):
         of = re.match(rf"fn {crate}::(\S+): (not proved|no proof: expected answers in .* did not prove)?", line)
         if not of:
             continue
-        if of[2]:
+        if of[2] and not is_of_another(line, f"Rattle.{crate}.proofs.{of[1].replace('::', '.')}"):
             told = told_of(output, own, of[1])
             shown = shown or any(it for _, it in told)
             says = shown or of[2] != "not proved" or not told or any(it for it, _ in told)

@@ -1,7 +1,7 @@
 /* Tubrambutan as a library in C: reads Python requirements and merges them into one table.
  *
- * Each call is one export of crates/pep_c, which is proved to meet its contract (docs/PROVED.md). Nothing is proved of what
- * calls it. Link dist/libtubrambutan.so, or libpep_c.a ("rt lib" in crates/pep_c makes it in out/) with c/liblibc_c.a of the kit. The allocator is
+ * Each call is one export of crates/pep_c, which is proved to meet its contract (docs/PROVED.md). Its callers
+ * aren't proved. Link dist/libtubrambutan.so, or libpep_c.a ("rt lib" in crates/pep_c makes it in out/) with c/liblibc_c.a of the kit. The allocator is
  * malloc, realloc and free of the program.
  *
  * What goes out. A call returns a reply. If its `status` is TUBRAMBUTAN_ANSWERED, `answer` is set by calls that return one;
@@ -19,8 +19,8 @@
  * - The room's bytes can be read and written, and lie in nothing else that is handed to the call. Nothing else reads or writes them while it runs.
  *   They have been written before (calloc, not malloc). The same holds of the room for numbers, which is aligned as a uint64_t.
  * - A bool is false or true.
- * - malloc, realloc and free are one allocator's, which aligns a block to each power of two up to 16 that divides its size, and which any thread
- *   that calls may use at once with others.
+ * - malloc, realloc and free belong to one allocator, which all calling threads may use at once. It aligns a block to each power of two up to 16
+ *   that divides its size.
  * - The stack has 512 KiB left. A file that nests 700 levels takes up to some 290 KiB, a marker of 1,024 comparisons some 250.
  * - No call comes from a signal handler, or from the forked child of a process with threads.
  * - Nothing else in the program has these names.

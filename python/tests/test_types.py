@@ -205,6 +205,7 @@ class Types(unittest.TestCase):
         rows = [("python_version < '3.10'", True), ("os_name == 'nt'", False), ("extra == 'x' or os_name=='posix'", True), ("'3.8' in python_version", False)]
         self.assertEqual([Marker(text).evaluate(variables) for text, _ in rows], [wanted for _, wanted in rows])
         self.assertTrue(Marker("extra == 'A_b'").evaluate({"extra": "a-B"}))
+        self.assertTrue(Marker("python_full_version >= '3.9'").evaluate({"python_full_version": "3.13.0+"}))
         self.assertEqual([Marker(f"extra {it} 'x'").evaluate({"extra": None}) for it in ("==", "!=")], [False, True])
         with self.assertRaises(UndefinedComparison):
             Marker("os_name ~= 'x'").evaluate(variables)

@@ -152,12 +152,12 @@ def _parser() -> argparse.ArgumentParser:
         found.set_defaults(run=run)
         return found
 
-    def with_files(found: argparse.ArgumentParser, has_extras: bool = True) -> None:
+    def with_files(found: argparse.ArgumentParser, has_extras: bool = True, kinds: str = "a list, a project file (.toml), a printed table (.table)") -> None:
         found.add_argument("--env", metavar="FILE", help="an environment file, in place of the running interpreter's environment")
         found.add_argument("--group", metavar="NAME", help="the dependency group of project files, in place of their dependencies")
         if has_extras:
-            found.add_argument("--extra", metavar="NAME", action="append", default=[], help="an extra; of several the table is printed without its header")
-        found.add_argument("files", nargs="+", metavar="FILE", help="a list, a project file (.toml), a printed table (.table), or - for standard input")
+            found.add_argument("--extra", metavar="NAME", action="append", default=[], help="an extra; a merge with several prints no header")
+        found.add_argument("files", nargs="+", metavar="FILE", help=f"{kinds}, or - for standard input")
 
     with_files(command("merge", _merge, "Print the table of all that files demand."))
     check = command("check", _check, "Say whether a version meets all that files demand of a package.")
@@ -168,9 +168,9 @@ def _parser() -> argparse.ArgumentParser:
     reason = command("why", _why, "Say who demands what of a package, and which of these demands clash.")
     reason.add_argument("name", metavar="NAME")
     with_files(reason, has_extras=False)
-    with_files(command("clashes", _clashes, "Say for each package whose demands can't be met together which of them clash."), has_extras=False)
+    with_files(command("clashes", _clashes, "For each package whose demands can't be met together, say which of them clash."), has_extras=False)
     lines = command("lines", _lines, "Print the requirements of lists, and those of project files that apply, each with its place.")
-    with_files(lines, has_extras=False)
+    with_files(lines, has_extras=False, kinds="a list, a project file (.toml)")
     diff = command("diff", _diff, "Say which packages two printed tables demand differently.")
     diff.add_argument("--env", metavar="FILE", help="the environment file of both tables, in place of the running interpreter's environment")
     diff.add_argument("old", metavar="OLD")

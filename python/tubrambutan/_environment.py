@@ -63,6 +63,19 @@ def _string(text: str) -> str:
     return '"' + _ESCAPED.sub(lambda it: f"\\u{ord(it[0]):04x}", text) + '"'
 
 
+def completed(environment: Mapping[str, Optional[str]]) -> dict[str, Optional[str]]:
+    """Returns the environment of the running interpreter with these variables in place of its own. A full version among them is repaired too.
+
+    >>> completed({"python_full_version": "3.13.0+"})["python_full_version"]
+    '3.13.0+local'
+    """
+    variables: dict[str, Optional[str]] = {**default_environment(), **environment}
+    version = variables["python_full_version"]
+    if isinstance(version, str):
+        variables["python_full_version"] = _repaired(version)
+    return variables
+
+
 # (most markers are judged in few environments)
 @functools.lru_cache(maxsize=16)
 def _file_of(pairs: tuple[tuple[str, str], ...]) -> bytes:

@@ -153,7 +153,7 @@ def _read(path: str, is_constraint: bool, above: tuple[str, ...]) -> Iterator[tu
                 raise ValueError(f"{path}, line {number}: {inner} includes itself")
             yield from _read(inner, line.startswith(("-c", "--constraint")), above)
         elif _OPTION.search(_QUOTED.sub("", line)) or _VARIABLE.search(line):
-            raise ValueError(f"{path}, line {number}: {line!r} has an option or a variable that says nothing of requirements here")
+            raise ValueError(f"{path}, line {number}: {line!r} has an option or a variable, which isn't read here")
         else:
             yield is_constraint, Line(line, path, number)
 

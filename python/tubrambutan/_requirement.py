@@ -5,7 +5,7 @@ from __future__ import annotations
 from typing import Mapping, Optional, Union
 
 from . import _library
-from ._environment import default_environment, file_of
+from ._environment import completed, file_of
 from ._refused import InvalidMarker, InvalidRequirement, InvalidSpecifier, InvalidVersion, Refused, UndefinedComparison, of_text
 from ._specifiers import SpecifierSet
 from ._texts import encoded, text_in
@@ -50,7 +50,7 @@ class Marker:
 
     def evaluate(self, environment: Optional[Mapping[str, Optional[str]]] = None) -> bool:
         """Returns whether the marker holds in the environment of the interpreter, with the variables of a mapping in place of its own. An `extra` that is
-        None is no extra.
+        None is no extra. A `python_full_version` that ends with `+` gets a local version label, as in `packaging`.
 
         Raises:
             UndefinedComparison: `~=` stands with `extra`, has no version on its left, or can't take the text on its right, as `~= "3"`.
@@ -59,7 +59,7 @@ class Marker:
         """
         if environment is not None and not isinstance(environment, Mapping):
             raise TypeError(f"environment is a mapping, and not {type(environment).__name__}")
-        variables: dict[str, Optional[str]] = {**default_environment(), **(environment or {})}
+        variables = completed(environment or {})
         if variables.get("extra", "") is None:
             del variables["extra"]
         file = file_of(variables)
