@@ -1,6 +1,6 @@
 -- Why edits are refused: at one input, what the turned body gives is not what the clause says.
 use Rattle.std.proofs.Common.{◌≡◌, ◌∙◌, List, ℕ, [], ◌∷◌, None, Some, ap, arith, codes, false, true}
-use Rattle.std.proofs.Common.{inl, inr, lit<, map, refl, subst, sym}
+use Rattle.std.proofs.Common.{inl, inr, length, lit<, map, refl, subst, sym}
 use Rattle.pep_clause.specs.Cut.{end, least}
 use Rattle.pep_require.proofs.Members.{in_either, in_none}
 use Rattle.pep_marker.specs.Environment.{EnvironmentParts}
@@ -119,6 +119,10 @@ with_claim-before_the_others e =
 
 abbrev required_on : ℕ → PlacedParts
 required_on n = record { input = 1; number = n; claim = required without_marker }
+
+-- the requirement `a[long]`
+pub Claim_name-an_extra : ¬ (codes "long" ≡ name_of (required (record without_marker { extras = codes "long" ∷ [] })))
+Claim_name-an_extra e = let same : ◌≡◌ {A = ℕ} 4 1 = ap length e in omega (arith, same)
 
 -- a requirement on the second line
 pub with_found-place_before : ¬ (one_asked (required_on 1 ∷ []) ∷ []
