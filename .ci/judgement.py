@@ -50,9 +50,12 @@ def told_of(output, own, function):
 
 
 def is_of_another(line, module):
-    """Tells whether the prover says of a function, whose module of proofs this is, that it stands on refused answers of others alone."""
+    """Tells whether the prover says of a function, whose module of proofs this is, that it stands on refused answers of others alone. (Those
+    of functions that call themselves or one another are in a module that begins with a plus.)"""
+    above, _, name = module.rpartition(".")
+    own = re.compile(rf"{re.escape(above)}\.({re.escape(name)}|\+\w+)\.")
     names = re.findall(r"`([^`]+)`", line.partition("; it stands on ")[2].partition(", which antt refuses")[0])
-    return names != [] and not any(it.startswith(f"{module}.") for it in names)
+    return names != [] and not any(own.match(it) for it in names)
 
 
 def judged(output, crate, own):
