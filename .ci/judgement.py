@@ -1,5 +1,6 @@
 """What the prover says of a function whose body an edit turns, and which edits have a witness."""
 
+import glob
 import os
 import re
 
@@ -20,6 +21,8 @@ SHOWN = re.compile(
 # What is to be shown of a loop's invariant or measure: with others the same body may be proved.
 OF_LOOP = re.compile(r"(?!returns).*-(init|preserved|smaller)\b")
 LEMMA = re.compile(r"^pub (\S+) :((?:.*\n(?=[ ]))*.*)", re.M)
+# A function that is proved together with those that it calls and that call it.
+IN_CYCLE = re.compile(r"#\[cycle\((\w+)\)\]\s*(?:#\[.*\]\s*)*(?:pub(?:\(crate\))? )?fn (\w+)")
 WITNESSES = "proofs/Witnesses.antt"
 
 
@@ -49,19 +52,37 @@ def told_of(output, own, function):
     return found
 
 
-def is_of_another(line, module):
+def cycles_of(text):
+    """Returns the functions of a file that are in a cycle of calls, each with the names of its cycles."""
+    found = {}
+    for cycle, name in IN_CYCLE.findall(text):
+        found.setdefault(name, set()).add(cycle)
+    return found
+
+
+def cycles_in(own):
+    """Returns the functions of a crate that are in a cycle of calls, each with the names of its cycles."""
+    found = {}
+    for path in glob.glob(f"{own}/src/**/*.rt", recursive=True):
+        with open(path, encoding="utf-8") as it:
+            for name, cycles in cycles_of(it.read()).items():
+                found.setdefault(name, set()).update(cycles)
+    return found
+
+
+def is_of_another(line, module, cycles):
     """Tells whether the prover says of a function, whose module of proofs this is, that it stands on refused answers of others alone. (Those
-    of functions that call themselves or one another are in a module that begins with a plus.)"""
+    of a function that calls itself are in a module with its name behind a plus, and those of a cycle in one with that of the cycle.)"""
     above, _, name = module.rpartition(".")
-    own = re.compile(rf"{re.escape(above)}\.({re.escape(name)}|\+\w+)\.")
+    own = "|".join(map(re.escape, (name, f"+{name}", *(f"+{it}" for it in cycles.get(name, ())))))
     names = re.findall(r"`([^`]+)`", line.partition("; it stands on ")[2].partition(", which antt refuses")[0])
-    return names != [] and not any(own.match(it) for it in names)
+    return names != [] and not any(re.match(rf"{re.escape(above)}\.({own})\.", it) for it in names)
 
 
 def judged(output, crate, own):
     """Returns the functions of which the prover found a goal of their own without a proof, and how each is refused, or None where what is
     said of it is nothing of a contract."""
-    found, shown = {}, False
+    found, shown, cycles = {}, False, cycles_in(own)
     for line in output.split("\n"):
         # (notes on goals without an answer stand in front of the function's line)
         note = re.match(r"note: src/\S+ .*\(`([^`]+)`\)", line)
@@ -69,7 +90,7 @@ def judged(output, crate, own):
         of = re.match(rf"fn {crate}::(\S+): (not proved|no proof: expected answers in .* did not prove)?", line)
         if not of:
             continue
-        if of[2] and not is_of_another(line, f"Rattle.{crate}.proofs.{of[1].replace('::', '.')}"):
+        if of[2] and not is_of_another(line, f"Rattle.{crate}.proofs.{of[1].replace('::', '.')}", cycles):
             told = told_of(output, own, of[1])
             shown = shown or any(it for _, it in told)
             says = shown or of[2] != "not proved" or not told or any(it for it, _ in told)
