@@ -190,7 +190,7 @@ class BesidePackaging(unittest.TestCase):
         while left:
             text = texts.marker()
             ours, theirs = told(lambda: held(Marker(text))), told(lambda: held(packaging.markers.Marker(text)))
-            # (of two sides `packaging` may judge one alone, and it refuses to compare a text that is no version with one that is)
+            # (of two sides `packaging` may judge one alone, and it refuses to compare a text that isn't a version with one that is)
             self.compare(text, ours, theirs, lambda: ours is None or theirs is None)
             left -= ours is not None and theirs is not None
 

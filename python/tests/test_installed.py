@@ -278,7 +278,7 @@ class Commands(unittest.TestCase):
             self.assertEqual((status, told.rpartition("\r")[2].partition(": w")[0]), (2, f"tubrambutan: {paths[1]}, line 3"))
 
     def test_refusals(self) -> None:
-        self.assertEqual(run("merge", "-", given=b"a\nb>"), (2, "", "tubrambutan: standard input, line 2: what follows the operator is no version, or behind `===` no text that it takes (code 57 33 12)\n"))
+        self.assertEqual(run("merge", "-", given=b"a\nb>"), (2, "", "tubrambutan: standard input, line 2: what follows the operator isn't a version, or after `===` isn't an allowed text (code 57 33 12)\n"))
         self.assertEqual((run("merge", "none.txt")[0], run("none")[0], run()[0], run("--help")[0]), (2, 2, 2, 0))
 
 

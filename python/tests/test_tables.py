@@ -109,7 +109,7 @@ class Tables(unittest.TestCase):
             with self.assertRaisesRegex(OSError, "."):
                 of_path.save(f"{folder}/none/all.table")
             self.assertEqual(sorted(os.listdir(folder)), ["all.table", "list.txt", "pyproject.toml"])
-        self.assertEqual(str(caught.exception), f"{faulty}, line 2: what follows the operator is no version, or behind `===` no text that it takes (code 57 33 12)")
+        self.assertEqual(str(caught.exception), f"{faulty}, line 2: what follows the operator isn't a version, or after `===` isn't an allowed text (code 57 33 12)")
         self.assertEqual(list(of_path), ["flask", "pytest"])
         self.assertEqual(of_path, again)
         self.assertEqual(of_path, merge(projects=[PROJECT.encode()], environment={**STANDARD, "extra": "Dev-Tools"}))
@@ -279,12 +279,12 @@ class Refusals(unittest.TestCase):
 
     def test_kinds_and_messages(self) -> None:
         rows: list[tuple[Callable[[], object], type[Refused], str]] = [
-            (lambda: tubrambutan.Version("1.x"), tubrambutan.InvalidVersion, "'1.x': the text is no version (code 62 1)"),
-            (lambda: tubrambutan.admits(">=1.*", "1"), tubrambutan.InvalidSpecifier, "'>=1.*': `.*` stands behind something other than a plain release, or with another operator than `==` and `!=` (code 57 33 13)"),
-            (lambda: tubrambutan.admits(">=1", "x"), tubrambutan.InvalidVersion, "'x': the text is no version (code 62 1)"),
-            (lambda: merge(lists=["a"], environment=STANDARD)["a"].admits("x"), tubrambutan.InvalidVersion, "'x': the text is no version (code 62 1)"),
+            (lambda: tubrambutan.Version("1.x"), tubrambutan.InvalidVersion, "'1.x': the text isn't a version (code 62 1)"),
+            (lambda: tubrambutan.admits(">=1.*", "1"), tubrambutan.InvalidSpecifier, "'>=1.*': `.*` stands after something other than a plain release, or with another operator than `==` and `!=` (code 57 33 13)"),
+            (lambda: tubrambutan.admits(">=1", "x"), tubrambutan.InvalidVersion, "'x': the text isn't a version (code 62 1)"),
+            (lambda: merge(lists=["a"], environment=STANDARD)["a"].admits("x"), tubrambutan.InvalidVersion, "'x': the text isn't a version (code 62 1)"),
             (lambda: merge(environment={}), Refused, "the environment lacks one of the eleven variables (code 59 23)"),
-            (lambda: merge(environment="x = "), Refused, "environment: a project file or the environment file is no TOML document, or nests too deep (code 52)"),
+            (lambda: merge(environment="x = "), Refused, "environment: a project file or the environment file isn't a TOML document, or nests too deep (code 52)"),
         ]
         for call, kind, message in rows:
             with self.subTest(message), self.assertRaises(kind) as caught:

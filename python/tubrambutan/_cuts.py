@@ -26,7 +26,7 @@ class Cut:
 
     Raises:
         ValueError: the text is no cut.
-        InvalidVersion: what follows the kind is no version.
+        InvalidVersion: what follows the kind isn't a version.
     """
 
     # (the version and the order stand there once they were asked for)
@@ -74,7 +74,7 @@ class Cut:
         """Returns whether a version is under the cut.
 
         Raises:
-            InvalidVersion: the text is no version.
+            InvalidVersion: the text isn't a version.
         """
         text = text_of(version)
         Version(text)
@@ -135,7 +135,7 @@ class Range(NamedTuple):
         """Returns whether a version is in the range.
 
         Raises:
-            InvalidVersion: the text is no version.
+            InvalidVersion: the text isn't a version.
         """
         return self.high.has_below(version) and not self.low.has_below(version)
 

@@ -212,7 +212,7 @@ def clause_texts(clauses: bytes) -> list[str]:
 
 def admits_each(clauses: bytes, versions: Sequence[str]) -> bytes:
     """Returns a byte for each version: 1 where all clauses admit it, or 3 where it is a pre-release too; 0 where a clause doesn't admit it; 2 where it
-    is no version."""
+    isn't a version."""
     joined = between_zero_bytes(versions)
     return _given(_admits_each, max(len(versions), _SIZE), *_sized(clauses), *_sized(joined)) if versions else b""
 
@@ -238,7 +238,7 @@ def version_key(version: bytes) -> bytes:
 
 
 def version_keys(versions: Sequence[str]) -> bytes:
-    """Returns the key of each version, behind its length, which `length_at` reads in `LENGTH` bytes. It is 0 for what is no version."""
+    """Returns the key of each version, behind its length, which `length_at` reads in `LENGTH` bytes. It is 0 for what isn't a version."""
     joined = between_zero_bytes(versions)
     return _given(_keys, 64 * len(versions) + 10 * len(joined), *_sized(joined)) if versions else b""
 

@@ -40,7 +40,7 @@ class Lines(tuple[Line, ...]):
     >>> merge(lists=[Lines([Line("flask>=2.0", "base.txt", 7), Line("flask<", "more.txt", 3)])])
     Traceback (most recent call last):
         ...
-    tubrambutan._refused.Refused: more.txt, line 3: what follows the operator is no version, or behind `===` no text that it takes (code 57 33 12)
+    tubrambutan._refused.Refused: more.txt, line 3: what follows the operator isn't a version, or after `===` isn't an allowed text (code 57 33 12)
     """
 
     __slots__ = ()
@@ -127,7 +127,7 @@ def _included(name: str, path: str, number: int) -> str:
     """Returns the path of a file that a line includes by a name, which may stand in quotes as in a shell.
 
     Raises:
-        ValueError: there is no name, or more than one, or it is a URL.
+        ValueError: there isn't a name, or more than one, or it is a URL.
     """
     try:
         names = shlex.split(name)

@@ -86,7 +86,7 @@ def merge(
 
     Raises:
         Refused: an input isn't accepted in the environment, or the environment isn't valid.
-        InvalidName: the group or an extra is no name.
+        InvalidName: the group or an extra isn't a name.
         OSError: a file can't be read.
         ValueError: a text is the name of a file, or a mapping as environment has an extra, and `extras` names some.
         TypeError: an argument has another type.

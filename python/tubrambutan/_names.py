@@ -15,7 +15,7 @@ def canonicalize_name(name: str) -> str:
     'zope-interface'
 
     Raises:
-        InvalidName: the text is no name.
+        InvalidName: the text isn't a name.
         TypeError: it is no text.
     """
     try:

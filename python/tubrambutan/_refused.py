@@ -22,7 +22,7 @@ class Refused(ValueError):
     ...     print(refused.input, refused.line, refused.codes)
     ...     print(refused)
     1 2 (57, 33, 12)
-    input 1, line 2: what follows the operator is no version, or behind `===` no text that it takes (code 57 33 12)
+    input 1, line 2: what follows the operator isn't a version, or after `===` isn't an allowed text (code 57 33 12)
 
     Attributes:
         text: the line that the program prints for this, without its line feed.
@@ -77,11 +77,11 @@ class Refused(ValueError):
 
 
 class InvalidVersion(Refused):
-    """A text is no version (PEP 440), or has a number above 18446744073709551615."""
+    """A text isn't a version (PEP 440), or has a number above 18446744073709551615."""
 
 
 class InvalidSpecifier(Refused):
-    """A text is no version specifier clause (PEP 440)."""
+    """A text isn't a version specifier clause (PEP 440)."""
 
 
 class InvalidRequirement(Refused):
@@ -93,7 +93,7 @@ class InvalidMarker(Refused):
 
 
 class InvalidName(Refused):
-    """A text is no name (PEP 508)."""
+    """A text isn't a name (PEP 508)."""
 
 
 class UndefinedComparison(Refused):

@@ -188,7 +188,7 @@ def admits(clause: str, version: Union[Version, str]) -> bool:
 
     Raises:
         InvalidSpecifier: the text is no clause.
-        InvalidVersion: the text is no version.
+        InvalidVersion: the text isn't a version.
     """
     try:
         return _library.clause_admits(encoded(text_in(clause, "clause")), encoded(text_of(version)))

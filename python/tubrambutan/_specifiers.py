@@ -112,7 +112,7 @@ class SpecifierSet:
         (False, True)
 
         Raises:
-            InvalidVersion: the text is no version.
+            InvalidVersion: the text isn't a version.
         """
         wants = bool(self.prereleases if prereleases is None else prereleases)
         if installed and wants:
@@ -128,7 +128,7 @@ class SpecifierSet:
         """Returns the versions that the set contains, in their order, all asked of in one call of the library.
 
         Raises:
-            InvalidVersion: one of them is no version.
+            InvalidVersion: one of them isn't a version.
             TypeError: one of them is neither a version nor a text, or a text stands in place of many.
         """
         versions = many_in(iterable, "iterable", "versions")

@@ -116,7 +116,7 @@ class Package(_Unchanged):
         (True, False, True, False)
 
         Raises:
-            InvalidVersion: the text is no version.
+            InvalidVersion: the text isn't a version.
             Refused: what is demanded has more than 16,777,216 bytes, which no input may have.
         """
         return next(_admitted(self._inputs, [(self.name, version)], prereleases))
@@ -130,7 +130,7 @@ class Package(_Unchanged):
         ['1.4', '1.6']
 
         Raises:
-            InvalidVersion: one of them is no version.
+            InvalidVersion: one of them isn't a version.
             TypeError: one of them is neither a version nor a text, or a text stands in place of many.
             Refused: what is demanded has more than 16,777,216 bytes, which no input may have.
         """

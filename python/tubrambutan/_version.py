@@ -27,7 +27,7 @@ class Version:
     (1, (2, 0), ('rc', 3), 4, 5, 'ubuntu.6')
 
     Raises:
-        InvalidVersion: the text is no version, or has a number above 18446744073709551615.
+        InvalidVersion: the text isn't a version, or has a number above 18446744073709551615.
         TypeError: it is no text.
     """
 
@@ -56,7 +56,7 @@ class Version:
         [<Version('1.0')>, <Version('2')>]
 
         Raises:
-            InvalidVersion: one of them is no version; the first such is told.
+            InvalidVersion: one of them isn't a version; the first such is told.
             TypeError: one of them is no text, or a text stands in place of many.
         """
         texts = many_in(versions, "versions", "texts")
@@ -223,4 +223,6 @@ def text_of(version: Union[Version, str], argument: str = "version") -> str:
         return version._given
     if isinstance(version, str):
         return version
-    raise TypeError(f"{argument} is a Version or a str, and not {type(version).__name__}")
+    kind = type(version)
+    # (`packaging` has a type of the same name)
+    raise TypeError(f"{argument} is a Version of tubrambutan or a str, and not {kind.__module__}.{kind.__qualname__}: pass its str")

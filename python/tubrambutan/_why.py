@@ -134,7 +134,7 @@ def why(
     """Returns why a package has its verdict on what inputs demand, which are those of `merge`.
 
     Raises:
-        InvalidName: the name, or the group, is no name.
+        InvalidName: the name, or the group, isn't a name.
         Refused: an input isn't accepted in the environment, or the environment isn't valid.
         OSError: a file can't be read.
         ValueError: a text is the name of a file.
@@ -158,7 +158,7 @@ def clashes(
     [('a', ['a>=1', 'a<1']), ('c', ['c @ https://x.test/1', 'c @ https://x.test/2'])]
 
     Raises:
-        InvalidName: the group is no name.
+        InvalidName: the group isn't a name.
         Refused: an input isn't accepted in the environment, or the environment isn't valid.
         OSError: a file can't be read.
         ValueError: a text is the name of a file.
