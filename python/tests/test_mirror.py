@@ -243,7 +243,7 @@ class OnACluster(unittest.TestCase):
     def test_wrong_calls(self) -> None:
         import tubrambutan.dask
 
-        with self.assertRaisesRegex(TypeError, "Bag, and not list"):
+        with self.assertRaisesRegex(TypeError, "Bag, not list"):
             tubrambutan.dask.merge(self.paths, 2, client=self.client)
         # (workers are not forked)
         with importlib.import_module("dask").config.set({"distributed.worker.multiprocessing-method": "fork"}), self.assertRaisesRegex(ValueError, "spawn"):

@@ -165,8 +165,8 @@ class Tables(unittest.TestCase):
 
     def test_extras_that_are_refused(self) -> None:
         rows: list[tuple[dict[str, Any], type[Exception], str]] = [
-            ({"extras": "dev"}, TypeError, "extras takes a list"),
-            ({"extras": [1]}, TypeError, "extras takes names"),
+            ({"extras": "dev"}, TypeError, "extras must be a list"),
+            ({"extras": [1]}, TypeError, "extras must have names"),
             ({"extras": ["-"]}, InvalidName, "62 21"),
             ({"extras": ["a"], "environment": {**STANDARD, "extra": "b"}}, ValueError, "has an extra"),
             ({"extras": ["a"], "environment": "\n".join(f"{name} = '{text}'" for name, text in {**STANDARD, "extra": "b"}.items())}, ValueError, "has an extra"),
@@ -260,7 +260,7 @@ class Refusals(unittest.TestCase):
             # (its path is bytes)
             paths: list[Any] = [0, b"list.txt", next(entries)]
         for path in paths:
-            with self.assertRaisesRegex(TypeError, "path is"):
+            with self.assertRaisesRegex(TypeError, "path must be"):
                 merge(path, environment=STANDARD)
 
     def test_names_that_are_none(self) -> None:

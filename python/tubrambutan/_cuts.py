@@ -38,7 +38,7 @@ class Cut:
 
     def __init__(self, text: str) -> None:
         if not isinstance(text, str):
-            raise TypeError(f"text is a str, and not {type(text).__name__}")
+            raise TypeError(f"text must be a str, not {type(text).__name__}")
         self._kind, _, self._given = text.partition(" ")
         if not (self._kind in _KINDS if self._given else text == "end"):
             raise ValueError(f"{text!r} is no cut: write before, after or past and a version, or end")

@@ -49,7 +49,7 @@ def text_bytes(text: object, argument: str) -> bytes:
     if not isinstance(text, str):
         kind = type(text).__name__
         hint = f": hand in its `{_LISTS_IN[kind]}`" if kind in _LISTS_IN else "" if argument in _READS else ": files are positional arguments of merge"
-        raise TypeError(f"{argument} takes texts and bytes, and not {kind}{hint}")
+        raise TypeError(f"{argument} takes texts and bytes, not {kind}{hint}")
     if "\n" not in text and os.path.isfile(text):
         how = _READS.get(argument, "merge({!r})").format(text)
         raise ValueError(f"{argument} takes texts, and {text!r} is the name of a file: write {how} to read the file, or end the text with a line feed")
@@ -60,7 +60,7 @@ def _texts(texts: object, argument: str) -> Iterator[tuple[bytes, Union[None, st
     """Returns the bytes of the texts of an argument of `merge`, with the places of those that have some; one alone in their place would be
     taken letter by letter."""
     if isinstance(texts, (str, bytes, Lines)) or not isinstance(texts, Iterable):
-        raise TypeError(f"{argument} takes a list of texts, one alone too, and not {type(texts).__name__}")
+        raise TypeError(f"{argument} must be a list of texts, also for one, not {type(texts).__name__}")
     for text in texts:
         if isinstance(text, Lines) and argument == "lists":
             yield encoded(text.text), text
@@ -81,7 +81,7 @@ def environment_file(environment: object, extras: Sequence[str] = ()) -> bytes:
     elif isinstance(environment, (str, bytes)):
         file = text_bytes(environment, "environment")
     else:
-        raise TypeError(f"environment takes a mapping, a text, bytes or an os.PathLike, and not {type(environment).__name__}")
+        raise TypeError(f"environment must be a mapping, a text, bytes or an os.PathLike, not {type(environment).__name__}")
     # (the table of nothing ends with its environment's extra)
     if extras and not buffer_of(file, [], b"").merged().endswith("\nenv extra=\n"):
         raise ValueError(_TWO_EXTRAS)
@@ -93,7 +93,7 @@ def group_of(group: object) -> bytes:
     if group is None:
         return b""
     if not isinstance(group, str):
-        raise TypeError(f"group takes a name, and not {type(group).__name__}")
+        raise TypeError(f"group must be a name, not {type(group).__name__}")
     # (no text would ask for no group)
     return canonicalize_name(group).encode()
 

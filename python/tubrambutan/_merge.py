@@ -14,11 +14,11 @@ from ._table import Table, lines_of
 def extras_of(extras: object) -> tuple[str, ...]:
     """Returns the normalized names of extras, each once, in order; a text alone in their place would be taken letter by letter."""
     if isinstance(extras, (str, bytes)) or not isinstance(extras, Iterable):
-        raise TypeError(f"extras takes a list of names, one alone too, and not {type(extras).__name__}")
+        raise TypeError(f"extras must be a list of names, also for one, not {type(extras).__name__}")
     names = list(extras)
     for name in names:
         if not isinstance(name, str):
-            raise TypeError(f"extras takes names, and not {type(name).__name__}")
+            raise TypeError(f"extras must have names, not {type(name).__name__}")
     return tuple(sorted({canonicalize_name(name) for name in names}))
 
 

@@ -58,7 +58,7 @@ class Marker:
             TypeError: the environment is no mapping, or a variable's text is none.
         """
         if environment is not None and not isinstance(environment, Mapping):
-            raise TypeError(f"environment is a mapping, and not {type(environment).__name__}")
+            raise TypeError(f"environment must be a mapping, not {type(environment).__name__}")
         variables = completed(environment or {})
         if variables.get("extra", "") is None:
             del variables["extra"]

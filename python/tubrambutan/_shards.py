@@ -16,9 +16,9 @@ _LINES = 255
 def count_of(count: object) -> int:
     """Returns the number of shards that an argument is."""
     if isinstance(count, bool) or not isinstance(count, int):
-        raise TypeError(f"count is an int, and not {type(count).__name__}")
+        raise TypeError(f"count must be an int, not {type(count).__name__}")
     if not 0 < count < 1 << 64:
-        raise ValueError(f"count is the number of shards, 1 or more, and not {count}")
+        raise ValueError(f"count must be 1 or more, not {count}")
     return count
 
 

@@ -290,7 +290,7 @@ class Table(_Unchanged, Mapping[str, Package]):
             TypeError: the other one is no table.
         """
         if not isinstance(other, Table):
-            raise TypeError(f"other is a Table, and not {type(other).__name__}")
+            raise TypeError(f"other must be a Table, not {type(other).__name__}")
         both = self | other
         kinds: dict[str, list[str]] = {kind: [] for kind in Difference._fields}
         for name in both:

@@ -39,7 +39,7 @@ def text_in(value: object, argument: str) -> str:
         TypeError: it is none. The message names the argument.
     """
     if not isinstance(value, str):
-        raise TypeError(f"{argument} is a str, and not {type(value).__name__}")
+        raise TypeError(f"{argument} must be a str, not {type(value).__name__}")
     return value
 
 
@@ -51,7 +51,7 @@ def path_in(value: object, argument: str) -> str:
     """
     path: Union[str, bytes, None] = os.fspath(value) if isinstance(value, (str, os.PathLike)) else None
     if not isinstance(path, str):
-        raise TypeError(f"{argument} is a str or os.PathLike, and not {type(value).__name__}")
+        raise TypeError(f"{argument} must be a str or os.PathLike, not {type(value).__name__}")
     return path
 
 
@@ -62,5 +62,5 @@ def many_in(value: Iterable[T], argument: str, of: str) -> list[T]:
         TypeError: it has none. The message names the argument.
     """
     if isinstance(value, (str, bytes)) or not isinstance(value, Iterable):
-        raise TypeError(f"{argument} takes {of}, one alone in a list too, and not {type(value).__name__}")
+        raise TypeError(f"{argument} must be {of} in a list, also for one, not {type(value).__name__}")
     return list(value)

@@ -225,4 +225,4 @@ def text_of(version: Union[Version, str], argument: str = "version") -> str:
         return version
     kind = type(version)
     # (`packaging` has a type of the same name)
-    raise TypeError(f"{argument} is a Version of tubrambutan or a str, and not {kind.__module__}.{kind.__qualname__}: pass its str")
+    raise TypeError(f"{argument} must be a Version of tubrambutan or a str, not {kind.__module__}.{kind.__qualname__}: pass its str")

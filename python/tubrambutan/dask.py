@@ -84,7 +84,7 @@ def merge(
     if _dask.config.get("distributed.worker.multiprocessing-method", "spawn") == "fork":
         raise ValueError("workers are spawned and not forked: set distributed.worker.multiprocessing-method to spawn")
     if not hasattr(inputs, "to_delayed"):
-        raise TypeError(f"inputs is a dask.bag.Bag, and not {type(inputs).__name__}")
+        raise TypeError(f"inputs must be a dask.bag.Bag, not {type(inputs).__name__}")
     judged = Judged.of(environment, group, extras)
     used = _distributed.get_client() if client is None else client
     parts, sending = inputs.to_delayed(), _dask.delayed(_sent, nout=count_of(count))
