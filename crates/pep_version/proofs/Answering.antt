@@ -1,5 +1,5 @@
 -- Answers with a fault, handed on.
-use Rattle.std.proofs.Common.{◌≡◌, Err, sym, subst}
+use Rattle.std.proofs.Common.{Err}
 use Rattle.pep_version.specs.declared.fault.VersionFault.{VersionFault}
 use Rattle.pep_version.specs.declared.fault.VersionFault.TheVariants.{NotAVersion, NumberTooLarge}
 use Rattle.pep_version.specs.declared.fault.VersionFault.TheVariants.{NoMemory}
@@ -12,8 +12,3 @@ pub handed : {A B : Type 0} (P : A → Type 0) (Q : B →
 handed P Q part whole NotAVersion w h = absurd h
 handed P Q part whole NumberTooLarge w h = λ fits. h (w fits)
 handed P Q part whole NoMemory w h = tt
-
--- want of memory is an answer to anything
-pub memory : {B : Type 0} (Q : B → Type 0) (whole : Type 0) (e : VersionFault) → e ≡ NoMemory →
-    Answers Q whole (Err e)
-memory Q whole e h = subst (λ (f : VersionFault). Answers Q whole (Err f)) (sym h) tt

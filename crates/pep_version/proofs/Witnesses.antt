@@ -111,10 +111,15 @@ pub Version_push_text-emptied_where_it_fails : ¬ KeepsFront (codes "a") []
 Version_push_text-emptied_where_it_fails (part, e) = cc e
 
 -- 1.post0, behind no text
-pub Version_push_text-without_post : ¬ (codes "1" ≡ codes ""
+pub Version_push_text-without_the_word_post : ¬ (codes "10" ≡ codes ""
     ++ normal_text (public_version (1 ∷ []) None (Some 0) None))
 unfolding digits
-Version_push_text-without_post e = cc e
+Version_push_text-without_the_word_post e = cc e
+
+-- 0, behind no text
+pub Version_put_front-nothing_for_a_zero : ¬ (codes "" ≡ codes "" ++ normal_text (plain 0))
+unfolding digits
+Version_put_front-nothing_for_a_zero e = cc e
 
 -- 1
 pub Version_release-lost : ¬ ([] ≡ (plain 1).release)

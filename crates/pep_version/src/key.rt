@@ -51,7 +51,7 @@ pub use crate::key::read::behind_release;
 use crate::key::short::short_bytes;
 use crate::parts::{Label, Phase};
 use crate::version::Version;
-use std::alloc::Global;
+use std::alloc::{AllocError, Global};
 use std::cmp::Ordering;
 use std::hash::{Hash, Hasher};
 use std::marker::Model;
@@ -117,7 +117,7 @@ impl Key {
         ensures faults { IfErr result (λ e. e ≡ VersionFault.NoMemory) }
     {
         let release = version.release();
-        Key::of_parts(
+        Ok(Key::of_parts(
             alloc,
             version.epoch(),
             release,
@@ -125,7 +125,7 @@ impl Key {
             post,
             dev,
             version.label(),
-        )
+        )?)
     }
 
     // The place of the version with these parts, written from them.
@@ -137,14 +137,13 @@ impl Key {
         post: Option<u64>,
         dev: Option<u64>,
         label: &[Label],
-    ) -> Result<Key, VersionFault>
+    ) -> Result<Key, AllocError>
         requires { IsVersion (version_with epoch release.now pre post dev (map segment_of
             label.now)) }
         ensures place { IfOk result (λ k. k ≡ place_of (version_with epoch release.now pre post dev
             (map segment_of label.now))) }
         ensures version { IfOk result (λ k. IsVersion k) }
         ensures own_place { IfOk result (λ k. place_of k ≡ k) }
-        ensures faults { IfErr result (λ e. e ≡ VersionFault.NoMemory) }
     {
         let release = without_end_zeros(release);
         if pre.is_none() && label.is_empty() {
@@ -173,7 +172,7 @@ impl Key {
         ensures own_place { IfOk result (λ k. place_of k ≡ k) }
         ensures faults { IfErr result (λ e. e ≡ VersionFault.NoMemory) }
     {
-        Key::of_parts(alloc, epoch, release, None, None, dev, &[])
+        Ok(Key::of_parts(alloc, epoch, release, None, None, dev, &[])?)
     }
 
     /// The key with these bytes, as `bytes` gives them, or `None` where no version's key has these. The

@@ -6,7 +6,6 @@ ghost use Rattle.std.specs.Prelude.{
   ◌<◌,
   length,
   string_bytes,
-  IfErr,
   IfOk,
   IfSome,
   IsTrue,
@@ -27,7 +26,7 @@ ghost use Rattle.pep_version.specs.Spelling.{is_run, segment_of_run, separated_p
 use crate::fault::VersionFault;
 use crate::number::{all_digits, number};
 use crate::parts::{Label, Phase};
-use std::alloc::Global;
+use std::alloc::{AllocError, Global};
 use texts::is_separator;
 
 /// The number that the digits write.
@@ -62,10 +61,9 @@ pub(crate) fn pre_number(pre: Option<(Phase, &[u8])>) -> Result<Option<(Phase, u
 }
 
 // The letters and digits in lower case.
-fn lower_text(alloc: Global, run: &[u8]) -> Result<String, VersionFault>
+fn lower_text(alloc: Global, run: &[u8]) -> Result<String, AllocError>
     requires { IsTrue (is_run (lower run.now)) }
-    ensures text { IfOk result (λ t. string_bytes t ≡ lower run.now) }
-    ensures faults { IfErr result (λ e. e ≡ VersionFault.NoMemory) }
+    ensures { IfOk result (λ t. string_bytes t ≡ lower run.now) }
 {
     let mut text = String::with_capacity(alloc, run.len())?;
     for b in run {

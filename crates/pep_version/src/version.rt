@@ -37,7 +37,7 @@ use crate::release::release_numbers;
 use crate::segments::{label_segments, optional_number, pre_number, written_number};
 use crate::slices::{Slices, slices_of};
 use crate::text::{put_epoch, put_label, put_part, put_pre, put_release};
-use std::alloc::Global;
+use std::alloc::{AllocError, Global};
 use std::marker::Model;
 use texts::{TextOut, trimmed};
 
@@ -113,9 +113,8 @@ fn is_label(label: &[Label]) -> bool
     true
 }
 
-fn segment_copied(alloc: Global, segment: &Label) -> Result<Label, VersionFault>
-    ensures ok { IfOk result (λ s. segment_of s ≡ segment_of segment.now) }
-    ensures faults { IfErr result (λ e. e ≡ VersionFault.NoMemory) }
+fn segment_copied(alloc: Global, segment: &Label) -> Result<Label, AllocError>
+    ensures { IfOk result (λ s. segment_of s ≡ segment_of segment.now) }
 {
     match segment {
         Label::Number(n) => Ok(Label::Number(*n)),
@@ -124,9 +123,8 @@ fn segment_copied(alloc: Global, segment: &Label) -> Result<Label, VersionFault>
 }
 
 /// The same segments in storage of their own.
-pub(crate) fn label_copied(alloc: Global, label: &[Label]) -> Result<Vec<Label>, VersionFault>
-    ensures ok { IfOk result (λ l. map segment_of l.items ≡ map segment_of label.now) }
-    ensures faults { IfErr result (λ e. e ≡ VersionFault.NoMemory) }
+pub(crate) fn label_copied(alloc: Global, label: &[Label]) -> Result<Vec<Label>, AllocError>
+    ensures { IfOk result (λ l. map segment_of l.items ≡ map segment_of label.now) }
 {
     let mut copy = Vec::with_capacity(alloc, label.len())?;
     for segment in label {

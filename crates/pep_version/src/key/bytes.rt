@@ -1,6 +1,6 @@
 // The bytes of a key, part by part.
 
-ghost use Rattle.std.specs.Prelude.{◌≡◌, ◌++◌, ◌∷◌, map, OnOk, IfErr};
+ghost use Rattle.std.specs.Prelude.{◌≡◌, ◌++◌, ◌∷◌, map, OnOk};
 ghost use Rattle.pep_version.specs.ByteOrder.{ended};
 ghost use Rattle.pep_version.specs.KeyBytes.{
   dev_bytes,
@@ -17,9 +17,9 @@ ghost use Rattle.pep_version.specs.Order.{without_end_zeros};
 ghost use Rattle.pep_version.specs.Version.{word as Word};
 ghost use Rattle.pep_version.specs.View.{segment_of};
 
-use crate::fault::VersionFault;
 use crate::parts::{Label, Phase};
 use smallvec::SmallVec;
+use std::alloc::AllocError;
 
 // As many bytes as the keys of most versions have.
 pub(crate) const INLINE: usize = 64;
@@ -28,29 +28,24 @@ pub(crate) const INLINE: usize = 64;
 /// cuts, which are such bytes too.
 pub type KeyBytes = SmallVec<u8, INLINE>;
 
-fn push_number(bytes: &mut KeyBytes, n: u64) -> Result<(), VersionFault>
-    ensures ok { OnOk result (bytes.new.items ≡ bytes.old.items ++ number_bytes n) }
-    ensures faults { IfErr result (λ e. e ≡ VersionFault.NoMemory) }
+fn push_number(bytes: &mut KeyBytes, n: u64) -> Result<(), AllocError>
+    ensures { OnOk result (bytes.new.items ≡ bytes.old.items ++ number_bytes n) }
 {
-    bytes.extend_from_slice(&n.to_be_bytes())?;
-    Ok(())
+    bytes.extend_from_slice(&n.to_be_bytes())
 }
 
 // A byte and a number behind it.
-fn push_marked(bytes: &mut KeyBytes, mark: u8, n: u64) -> Result<(), VersionFault>
-    ensures ok { OnOk result (bytes.new.items ≡ bytes.old.items ++ (mark ∷ number_bytes n)) }
-    ensures faults { IfErr result (λ e. e ≡ VersionFault.NoMemory) }
+fn push_marked(bytes: &mut KeyBytes, mark: u8, n: u64) -> Result<(), AllocError>
+    ensures { OnOk result (bytes.new.items ≡ bytes.old.items ++ (mark ∷ number_bytes n)) }
 {
     let [a, b, c, d, e, f, g, h] = n.to_be_bytes();
-    bytes.extend_from_slice(&[mark, a, b, c, d, e, f, g, h])?;
-    Ok(())
+    bytes.extend_from_slice(&[mark, a, b, c, d, e, f, g, h])
 }
 
 /// Appends the numbers of a release and the byte behind them.
-pub(crate) fn push_release(bytes: &mut KeyBytes, release: &[u64]) -> Result<(), VersionFault>
-    ensures ok { OnOk result (bytes.new.items ≡ bytes.old.items
+pub(crate) fn push_release(bytes: &mut KeyBytes, release: &[u64]) -> Result<(), AllocError>
+    ensures { OnOk result (bytes.new.items ≡ bytes.old.items
         ++ ended release_number_bytes release.now) }
-    ensures faults { IfErr result (λ e. e ≡ VersionFault.NoMemory) }
 {
     for n in release {
         push_marked(bytes, 1, *n)?;
@@ -75,9 +70,8 @@ fn push_stage(
     pre: Option<(Phase, u64)>,
     post: Option<u64>,
     dev: Option<u64>,
-) -> Result<(), VersionFault>
-    ensures ok { OnOk result (bytes.new.items ≡ bytes.old.items ++ stage_bytes_of pre post dev) }
-    ensures faults { IfErr result (λ e. e ≡ VersionFault.NoMemory) }
+) -> Result<(), AllocError>
+    ensures { OnOk result (bytes.new.items ≡ bytes.old.items ++ stage_bytes_of pre post dev) }
 {
     match (pre, post, dev) {
         (Some((phase, n)), _, _) => push_marked(bytes, phase_byte(phase), n)?,
@@ -93,10 +87,9 @@ fn push_part(
     absent: u8,
     present: u8,
     part: Option<u64>,
-) -> Result<(), VersionFault>
-    ensures ok { OnOk result (bytes.new.items
+) -> Result<(), AllocError>
+    ensures { OnOk result (bytes.new.items
         ≡ bytes.old.items ++ marked_bytes absent present part) }
-    ensures faults { IfErr result (λ e. e ≡ VersionFault.NoMemory) }
 {
     match part {
         None => bytes.push(absent)?,
@@ -105,9 +98,8 @@ fn push_part(
     Ok(())
 }
 
-fn push_word(bytes: &mut KeyBytes, word: &[u8]) -> Result<(), VersionFault>
-    ensures ok { OnOk result (bytes.new.items ≡ bytes.old.items ++ segment_bytes (Word word.now)) }
-    ensures faults { IfErr result (λ e. e ≡ VersionFault.NoMemory) }
+fn push_word(bytes: &mut KeyBytes, word: &[u8]) -> Result<(), AllocError>
+    ensures { OnOk result (bytes.new.items ≡ bytes.old.items ++ segment_bytes (Word word.now)) }
 {
     bytes.push(1)?;
     bytes.extend_from_slice(word)?;
@@ -115,10 +107,9 @@ fn push_word(bytes: &mut KeyBytes, word: &[u8]) -> Result<(), VersionFault>
     Ok(())
 }
 
-fn push_segment(bytes: &mut KeyBytes, segment: &Label) -> Result<(), VersionFault>
-    ensures ok { OnOk result (bytes.new.items ≡ bytes.old.items
+fn push_segment(bytes: &mut KeyBytes, segment: &Label) -> Result<(), AllocError>
+    ensures { OnOk result (bytes.new.items ≡ bytes.old.items
         ++ segment_bytes (segment_of segment.now)) }
-    ensures faults { IfErr result (λ e. e ≡ VersionFault.NoMemory) }
 {
     match segment {
         Label::Number(n) => push_marked(bytes, 2, *n),
@@ -126,10 +117,9 @@ fn push_segment(bytes: &mut KeyBytes, segment: &Label) -> Result<(), VersionFaul
     }
 }
 
-fn push_segments(bytes: &mut KeyBytes, label: &[Label]) -> Result<(), VersionFault>
-    ensures ok { OnOk result (bytes.new.items ≡ bytes.old.items
+fn push_segments(bytes: &mut KeyBytes, label: &[Label]) -> Result<(), AllocError>
+    ensures { OnOk result (bytes.new.items ≡ bytes.old.items
         ++ ended segment_bytes (map segment_of label.now)) }
-    ensures faults { IfErr result (λ e. e ≡ VersionFault.NoMemory) }
 {
     for segment in label {
         push_segment(bytes, segment)?;
@@ -138,10 +128,9 @@ fn push_segments(bytes: &mut KeyBytes, label: &[Label]) -> Result<(), VersionFau
 }
 
 // Appends a label.
-fn push_label(bytes: &mut KeyBytes, label: &[Label]) -> Result<(), VersionFault>
-    ensures ok { OnOk result (bytes.new.items ≡ bytes.old.items
+fn push_label(bytes: &mut KeyBytes, label: &[Label]) -> Result<(), AllocError>
+    ensures { OnOk result (bytes.new.items ≡ bytes.old.items
         ++ label_bytes (map segment_of label.now)) }
-    ensures faults { IfErr result (λ e. e ≡ VersionFault.NoMemory) }
 {
     if label.is_empty() {
         bytes.push(0)?;
@@ -156,10 +145,9 @@ pub(crate) fn push_place(
     bytes: &mut KeyBytes,
     epoch: u64,
     release: &[u64],
-) -> Result<(), VersionFault>
-    ensures ok { OnOk result (bytes.new.items ≡ bytes.old.items
+) -> Result<(), AllocError>
+    ensures { OnOk result (bytes.new.items ≡ bytes.old.items
         ++ (number_bytes epoch ++ ended release_number_bytes release.now)) }
-    ensures faults { IfErr result (λ e. e ≡ VersionFault.NoMemory) }
 {
     push_number(bytes, epoch)?;
     push_release(bytes, release)
@@ -172,10 +160,9 @@ pub(crate) fn push_suffix(
     post: Option<u64>,
     dev: Option<u64>,
     label: &[Label],
-) -> Result<(), VersionFault>
-    ensures ok { OnOk result (bytes.new.items ≡ bytes.old.items ++ (stage_bytes_of pre post dev
+) -> Result<(), AllocError>
+    ensures { OnOk result (bytes.new.items ≡ bytes.old.items ++ (stage_bytes_of pre post dev
         ++ (post_bytes post ++ (dev_bytes dev ++ label_bytes (map segment_of label.now))))) }
-    ensures faults { IfErr result (λ e. e ≡ VersionFault.NoMemory) }
 {
     push_stage(bytes, pre, post, dev)?;
     push_part(bytes, 0, 1, post)?;

@@ -33,7 +33,7 @@ ghost use Rattle.pep_version.specs.View.{segment_of};
 use crate::fault::VersionFault;
 use crate::parts::{Label, Phase};
 use crate::version::Version;
-use std::alloc::Global;
+use std::alloc::{AllocError, Global};
 
 // The number in front, and the bytes behind it.
 pub(crate) fn take_number(bytes: &[u8]) -> (u64, &[u8])
@@ -47,10 +47,9 @@ pub(crate) fn take_number(bytes: &[u8]) -> (u64, &[u8])
 }
 
 // The numbers of a release, without the zeros at its end.
-fn take_numbers(alloc: Global, bytes: &[u8]) -> Result<(Vec<u64>, &[u8]), VersionFault>
+fn take_numbers(alloc: Global, bytes: &[u8]) -> Result<(Vec<u64>, &[u8]), AllocError>
     ensures numbers { IfOk result (λ p. p.0.items ≡ (read_numbers bytes.now).0) }
     ensures rest { IfOk result (λ p. p.1.now ≡ (read_numbers bytes.now).1) }
-    ensures faults { IfErr result (λ e. e ≡ VersionFault.NoMemory) }
 {
     let mut numbers = Vec::new(alloc);
     let mut rest = bytes;
@@ -79,10 +78,9 @@ fn behind_numbers(bytes: &[u8]) -> &[u8]
     rest
 }
 
-fn take_release(alloc: Global, bytes: &[u8]) -> Result<(Vec<u64>, &[u8]), VersionFault>
+fn take_release(alloc: Global, bytes: &[u8]) -> Result<(Vec<u64>, &[u8]), AllocError>
     ensures release { IfOk result (λ p. p.0.items ≡ (read_release bytes.now).0) }
     ensures rest { IfOk result (λ p. p.1.now ≡ (read_release bytes.now).1) }
-    ensures faults { IfErr result (λ e. e ≡ VersionFault.NoMemory) }
 {
     let (mut numbers, rest) = take_numbers(alloc, bytes)?;
     if numbers.is_empty() {
@@ -155,10 +153,9 @@ pub(crate) fn take_word(bytes: &[u8]) -> (&[u8], &[u8])
 }
 
 // The segment of a word, unless the word isn't UTF-8.
-fn word_label(alloc: Global, word: &[u8]) -> Result<Option<Label>, VersionFault>
+fn word_label(alloc: Global, word: &[u8]) -> Result<Option<Label>, AllocError>
     ensures segment { IfOk result (λ found. IfSome found (λ s. segment_of s ≡ Word word.now)) }
     ensures is_read { IfOk result (λ found. IsSegment (Word word.now) → IsSome found) }
-    ensures faults { IfErr result (λ e. e ≡ VersionFault.NoMemory) }
 {
     match std::str::from_utf8(word) {
         Ok(text) => Ok(Some(Label::Word(String::from_str(alloc, text)?))),
@@ -167,12 +164,11 @@ fn word_label(alloc: Global, word: &[u8]) -> Result<Option<Label>, VersionFault>
 }
 
 // A segment, unless it is a word that isn't UTF-8.
-fn take_segment(alloc: Global, bytes: &[u8]) -> Result<(Option<Label>, &[u8]), VersionFault>
+fn take_segment(alloc: Global, bytes: &[u8]) -> Result<(Option<Label>, &[u8]), AllocError>
     ensures segment { IfOk result (λ p. IfSome p.0 (λ s.
         segment_of s ≡ (read_segment bytes.now).0)) }
     ensures is_read { IfOk result (λ p. IsSegment (read_segment bytes.now).0 → IsSome p.0) }
     ensures rest { IfOk result (λ p. p.1.now ≡ (read_segment bytes.now).1) }
-    ensures faults { IfErr result (λ e. e ≡ VersionFault.NoMemory) }
 {
     let [mark, behind @ ..] = bytes else {
         return Ok((Some(Label::Number(0)), bytes));
@@ -186,14 +182,13 @@ fn take_segment(alloc: Global, bytes: &[u8]) -> Result<(Option<Label>, &[u8]), V
 }
 
 // The segments of a label, unless one is a word that isn't UTF-8.
-fn take_segments(alloc: Global, bytes: &[u8]) -> Result<Option<(Vec<Label>, &[u8])>, VersionFault>
+fn take_segments(alloc: Global, bytes: &[u8]) -> Result<Option<(Vec<Label>, &[u8])>, AllocError>
     ensures label { IfOk result (λ found. IfSome found (λ p. map segment_of p.0.items
         ≡ (read_segments bytes.now).0)) }
     ensures rest { IfOk result (λ found. IfSome found (λ p. p.1.now
         ≡ (read_segments bytes.now).1)) }
     ensures is_read { IfOk result (λ found. AllByRecursion IsSegment (read_segments bytes.now).0
         → IsSome found) }
-    ensures faults { IfErr result (λ e. e ≡ VersionFault.NoMemory) }
 {
     let mut label = Vec::new(alloc);
     let mut rest = bytes;
@@ -211,13 +206,12 @@ fn take_segments(alloc: Global, bytes: &[u8]) -> Result<Option<(Vec<Label>, &[u8
     Ok(Some((label, rest)))
 }
 
-fn take_label(alloc: Global, bytes: &[u8]) -> Result<Option<(Vec<Label>, &[u8])>, VersionFault>
+fn take_label(alloc: Global, bytes: &[u8]) -> Result<Option<(Vec<Label>, &[u8])>, AllocError>
     ensures label { IfOk result (λ found. IfSome found (λ p. map segment_of p.0.items
         ≡ (read_label bytes.now).0)) }
     ensures rest { IfOk result (λ found. IfSome found (λ p. p.1.now ≡ (read_label bytes.now).1)) }
     ensures is_read { IfOk result (λ found. AllByRecursion IsSegment (read_label bytes.now).0
         → IsSome found) }
-    ensures faults { IfErr result (λ e. e ≡ VersionFault.NoMemory) }
 {
     let [mark, behind @ ..] = bytes else {
         return Ok(Some((Vec::new(alloc), bytes)));

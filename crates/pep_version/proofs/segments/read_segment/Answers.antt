@@ -37,4 +37,4 @@ returns-in_ok-lower_text c =
     let run = c.args.run.now in
     let letters : list_all is_ascii_digit run ≡ false =
     sym c.all_digits.ensures ∙ c.if-all_digits.false in
-    rw (run-of-letters run letters) (ap word c.in_ok-lower_text.ensures.text, tt)
+    rw (run-of-letters run letters) (ap word c.in_ok-lower_text.ensures, tt)

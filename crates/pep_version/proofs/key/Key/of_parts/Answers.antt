@@ -48,8 +48,8 @@ bytes_are : (c : In_ok-push_suffix) → c.push_suffix.new.bytes.items ≡ key_by
 bytes_are c =
     let release = c.without_end_zeros-release.result.now in
     written-key (given c) release c.push_suffix.new.bytes.items c.without_end_zeros-release.ensures
-    (c.in_ok-push_suffix.ensures.ok
-    ∙ ap (λ (xs : List ℕ). xs ++ suffix_bytes (given c)) (c.in_ok-push_place.ensures.ok
+    (c.in_ok-push_suffix.ensures
+    ∙ ap (λ (xs : List ℕ). xs ++ suffix_bytes (given c)) (c.in_ok-push_place.ensures
     ∙ ap (λ (xs : List ℕ). xs ++ (number_bytes c.args.epoch ++ ended release_number_bytes release))
     c.new-bytes.ensures.items))
 

@@ -8,11 +8,11 @@ loop-n-preserved c =
     let release = c.args.release.now in
     let n = get_or release c.loop-n.n-index 0 in
     ended-more release_number_bytes release c.loop-n.n-index 0 c.loop-n.bytes.items
-    c.push_marked.new.bytes.items c.loop-n-test.true c.in_ok-push_marked.ensures.ok
+    c.push_marked.new.bytes.items c.loop-n-test.true c.in_ok-push_marked.ensures
     ∙ c.loop-n.invariant
 
-pub returns-clause-ok : goal.returns-clause-ok
-returns-clause-ok c =
+pub returns : goal.returns
+returns c =
     c.in_ok-push.ensures.ok
     ∙ ended-all release_number_bytes c.args.release.now c.loop-n.n-index c.loop-n.bytes.items
     c.loop-n-test.false ∙ c.loop-n.invariant

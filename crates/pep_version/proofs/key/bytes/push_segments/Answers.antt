@@ -12,9 +12,9 @@ pub loop-segment-preserved : goal.loop-segment-preserved
 loop-segment-preserved c =
     let out = c.loop-segment.bytes.items in
     ended-more code c.args.label.now c.loop-segment.segment-index c.segment-item.result out c.push_segment.new.bytes.items c.loop-segment-test.true
-    (c.in_ok-push_segment.ensures.ok ∙ ap (λ (s : Label). out ++ code s) c.segment-item.is) ∙ c.loop-segment.invariant
+    (c.in_ok-push_segment.ensures ∙ ap (λ (s : Label). out ++ code s) c.segment-item.is) ∙ c.loop-segment.invariant
 
-pub returns-clause-ok : goal.returns-clause-ok
-returns-clause-ok c =
+pub returns : goal.returns
+returns c =
     c.in_ok-push.ensures.ok ∙ ended-all code c.args.label.now c.loop-segment.segment-index c.loop-segment.bytes.items c.loop-segment-test.false ∙ c.loop-segment.invariant
     ∙ ap (λ (xs : List ℕ). c.args.bytes.now.items ++ xs) (sym (ended-map (segment_bytes) segment_of c.args.label.now))

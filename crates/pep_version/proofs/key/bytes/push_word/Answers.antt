@@ -2,8 +2,8 @@ use Rattle.std.proofs.Common.{◌++◌, ◌∷◌, [], ◌∙◌, List, ap, appe
 use Rattle.pep_version.proofs.EndedLists.{ended-bytes}
 use Rattle.pep_version.proofs.key.bytes.push_word.Goals as goal
 
-pub returns-clause-ok : goal.returns-clause-ok
-returns-clause-ok c =
+pub returns : goal.returns
+returns c =
     let out = c.args.bytes.now.items in
     let word = c.args.word.now in
     c.in_ok-push-2.ensures.ok

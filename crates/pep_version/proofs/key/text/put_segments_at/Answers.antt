@@ -1,4 +1,4 @@
-use Rattle.std.proofs.Common.{◌∙◌, ◌+◌, ◌<◌, ◌++◌, ◌∷◌, [], ap, append-nil, arith, get_or, refl, sym}
+use Rattle.std.proofs.Common.{◌∙◌, ◌<◌, ◌++◌, ◌∷◌, [], ap, append-nil, arith, get_or, refl, sym}
 use Rattle.std.proofs.lemmas.List.{length-append}
 use Rattle.pep_version.specs.KeyReading.{read_segment, read_segments}
 use Rattle.pep_version.specs.Text.{segment_text}
