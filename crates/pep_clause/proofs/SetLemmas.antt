@@ -1,19 +1,17 @@
 -- What the ranges of a clause hold.
-use Rattle.std.proofs.Common.{◌≡◌, ◌==◌, ◌↔◌, Bool, false, length, List, [], ◌∷◌, None, Result, Ok}
-use Rattle.std.proofs.Common.{Err, IfOk, IsSome, ◌&&◌, ◌||◌, not, refl, ◌∙◌, sym, subst, is_ge}
+use Rattle.std.proofs.Common.{◌≡◌, ◌==◌, ◌↔◌, Bool, false, length, List, [], ◌∷◌, None}
+use Rattle.std.proofs.Common.{IsSome, ◌&&◌, ◌||◌, not, refl, ◌∙◌, sym, subst, is_ge}
 use Rattle.std.specs.Prelude.{IsTrue}
 use Rattle.std.specs.declared.cmp.Ordering.{Ordering}
 use Rattle.std.specs.declared.cmp.Ordering.TheVariants.{Less, Equal, Greater}
 use Rattle.pep_version.specs.Order.{place_of}
 use Rattle.texts.proofs.ListLemmas.{is_empty-length}
 use Rattle.pep_version.specs.Version.{IsVersion, Version}
-use Rattle.specifiers.specs.declared.fault.ClauseFault.{ClauseFault}
 use Rattle.specifiers.specs.Admits.{admits}
 use Rattle.specifiers.specs.Clause.{Clause, compatible, matching, matching_prefix, excluding}
 use Rattle.specifiers.specs.Clause.{excluding_prefix, at_most, at_least, less_than, greater_than}
 use Rattle.specifiers.specs.Clause.{demanded, demanded_text}
 use Rattle.pep_clause.proofs.Density.{normal-has_version}
-use Rattle.pep_clause.specs.Inhabited.{HasVersionUnlessEmpty}
 use Rattle.pep_clause.proofs.LeastCut.{IsNormal-all_versions, none-under_least}
 use Rattle.pep_clause.specs.OperatorTable.{set_of}
 use Rattle.specifiers.specs.Valid.{IsValidClause}
@@ -51,12 +49,6 @@ is_in-set_of (demanded text) h v g none = cc none
 pub In-all_versions : (v : Version) → In all_versions v
 In-all_versions v = (λ i. not (none-under_least v i) || false)
 
--- the same of a call's answer
-pub all-versions : (answer : Result (List Range) ClauseFault) →
-    IfOk answer (λ s. s ≡ all_versions) → IfOk answer (λ s. (v : Version) → In s v)
-all-versions (Ok s) e = λ v. subst (λ (list : List Range). In list v) (sym e) (In-all_versions v)
-all-versions (Err fault) e = e
-
 -- where a text is demanded they hold all versions
 pub demanded-in-set_of : (c : Clause) (v : Version) → IsSome (demanded_text c) → In (set_of c) v
 demanded-in-set_of (demanded text) v h = In-all_versions v
@@ -82,31 +74,6 @@ IsNormal-set_of (at_least w) h = at_least-normal w h.0
 IsNormal-set_of (less_than w) h = less_than_version-normal w h.0
 IsNormal-set_of (greater_than w) h = greater_than-normal w h.0
 IsNormal-set_of (demanded text) h = IsNormal-all_versions
-
--- the same of a call's answer
-pub set_of-versions : (answer : Result (List Range) ClauseFault) (c : Clause) → IsValidClause c →
-    IfOk answer (λ s. s ≡ set_of c)
-    → IfOk answer (λ s. (v : Version) → IsVersion v → demanded_text c ≡ None →
-    is_in s v ≡ admits c v)
-set_of-versions (Ok s) c h e = λ v g none. (λ i. is_in (e i) v) ∙ is_in-set_of c h v g none
-set_of-versions (Err fault) c h e = e
-
-pub set_of-demanded : (answer : Result (List Range) ClauseFault) (c : Clause) →
-    IfOk answer (λ s. s ≡ set_of c)
-    → IfOk answer (λ s. (v : Version) → IsSome (demanded_text c) → In s v)
-set_of-demanded (Ok s) c e =
-    λ v h. subst (λ (list : List Range). In list v) (sym e) (demanded-in-set_of c v h)
-set_of-demanded (Err fault) c e = e
-
-pub set_of-normal : (answer : Result (List Range) ClauseFault) (c : Clause) → IsValidClause c →
-    IfOk answer (λ s. s ≡ set_of c) → IfOk answer (λ s. IsNormal s)
-set_of-normal (Ok s) c h e = subst IsNormal (sym e) (IsNormal-set_of c h)
-set_of-normal (Err fault) c h e = e
-
-pub normal-inhabited : (answer : Result (List Range) ClauseFault) → IfOk answer (λ s. IsNormal s) →
-    IfOk answer (λ s. HasVersionUnlessEmpty s)
-normal-inhabited (Ok s) n = normal-has_version s n
-normal-inhabited (Err fault) n = n
 
 -- a normal list is empty exactly if it holds no version
 pub empty-exactly : (ranges : List Range) (b : Bool) → IsNormal ranges → b ≡ (length ranges == 0)

@@ -38,7 +38,7 @@ ghost use Rattle.pep_clause.specs.OperatorTable.{before_dev, before_place, past_
 
 use pep_version::{Key, KeyBytes, Phase, Version};
 use specifiers::ClauseFault;
-use std::alloc::Global;
+use std::alloc::{AllocError, Global};
 use std::cmp::Ordering;
 use std::marker::Model;
 
@@ -82,7 +82,7 @@ impl Cut {
         ensures spelled { IfOk result (λ c. IsCut c) }
         ensures faults { IfErr result (λ e. e ≡ ClauseFault.NoMemory) }
     {
-        Cut::before_suffixed(alloc, version, version.pre(), version.post(), version.dev())
+        Ok(Cut::before_suffixed(alloc, version, version.pre(), version.post(), version.dev())?)
     }
 
     // The cut directly before the version at this place, whose bytes are the key's.
@@ -104,7 +104,7 @@ impl Cut {
         pre: Option<(Phase, u64)>,
         post: Option<u64>,
         dev: Option<u64>,
-    ) -> Result<Cut, ClauseFault>
+    ) -> Result<Cut, AllocError>
         ensures place { IfOk result (λ c. c ≡ before_place (record version.now {
           pre = pre;
           post =
@@ -112,43 +112,44 @@ impl Cut {
           dev = dev;
         })) }
         ensures spelled { IfOk result (λ c. IsCut c) }
-        ensures faults { IfErr result (λ e. e ≡ ClauseFault.NoMemory) }
     {
-        let key = Key::with_suffixes(alloc, version, pre, post, dev)?;
+        let key = Key::with_suffixes(alloc, version, pre, post, dev).map_err(|_| AllocError)?;
         Ok(Cut::before_key(key))
     }
 
     /// The cut before the first developmental release of a release, and so before all its
     /// pre-releases.
-    pub(crate) fn before_dev(alloc: Global, epoch: u64, release: &[u64]) -> Result<Cut, ClauseFault>
+    pub(crate) fn before_dev(alloc: Global, epoch: u64, release: &[u64]) -> Result<Cut, AllocError>
         requires { 0 < length release.now }
         ensures place { IfOk result (λ c. c ≡ before_dev epoch release.now) }
         ensures spelled { IfOk result (λ c. IsCut c) }
-        ensures faults { IfErr result (λ e. e ≡ ClauseFault.NoMemory) }
     {
-        let key = Key::of_release(alloc, epoch, release, Some(0))?;
+        let key = Key::of_release(alloc, epoch, release, Some(0)).map_err(|_| AllocError)?;
         Ok(Cut::before_key(key))
     }
 
     /// The cut directly after a version with a label and all that are the same in order.
-    pub(crate) fn after(alloc: Global, version: &Version) -> Result<Cut, ClauseFault>
+    pub(crate) fn after(alloc: Global, version: &Version) -> Result<Cut, AllocError>
         requires { 0 < length version.now.label }
         ensures place { IfOk result (λ c. c ≡ after (place_of version.now)) }
         ensures spelled { IfOk result (λ c. IsCut c) }
-        ensures faults { IfErr result (λ e. e ≡ ClauseFault.NoMemory) }
     {
-        let mut bytes = Key::of(alloc, version)?.into_bytes();
+        let Ok(key) = Key::of(alloc, version) else {
+            return Err(AllocError);
+        };
+        let mut bytes = key.into_bytes();
         bytes.push(0)?;
         Ok(Cut { bytes: Some(bytes) })
     }
 
     /// The cut past everything of a version's release.
-    pub(crate) fn past(alloc: Global, version: &Version) -> Result<Cut, ClauseFault>
+    pub(crate) fn past(alloc: Global, version: &Version) -> Result<Cut, AllocError>
         ensures place { IfOk result (λ c. c ≡ past_release version.now) }
         ensures spelled { IfOk result (λ c. IsCut c) }
-        ensures faults { IfErr result (λ e. e ≡ ClauseFault.NoMemory) }
     {
-        let key = Key::of_release(alloc, version.epoch(), version.release(), None)?;
+        let Ok(key) = Key::of_release(alloc, version.epoch(), version.release(), None) else {
+            return Err(AllocError);
+        };
         let mut bytes = key.into_bytes();
         // behind its release the key of a final release has four bytes
         bytes.truncate(bytes.len() - 4);

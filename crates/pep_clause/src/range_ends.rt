@@ -9,7 +9,6 @@ ghost use Rattle.std.specs.Prelude.{
   nat_lt,
   option_map,
   if◌then◌else◌,
-  IfErr,
   IfOk,
   None,
   Some,
@@ -17,13 +16,14 @@ ghost use Rattle.std.specs.Prelude.{
 ghost use Rattle.pep_version.specs.Order.{without_dev, without_post};
 ghost use Rattle.pep_clause.specs.Cut.{IsCut};
 ghost use Rattle.specifiers.specs.Admits.{compatible_prefix};
-ghost use Rattle.pep_clause.specs.OperatorTable.{after_last_dev, done, greater_from, last, less_to, matching_to, next, next_phase, prefix_end, raised};
+ghost use Rattle.pep_clause.specs.OperatorTable.{after_last_dev, done, greater_from, last, less_to, matching_to, next};
+ghost use Rattle.pep_clause.specs.OperatorTable.{next_phase, prefix_end, raised};
 ghost use Rattle.pep_clause.specs.Way.Ends.{begin_cut, end_cut};
 
 use crate::cut::Cut;
 use pep_version::{Phase, Version};
-use specifiers::{Begin, ClauseFault, End};
-use std::alloc::Global;
+use specifiers::{Begin, End};
+use std::alloc::{AllocError, Global};
 
 // The number above, unless this is the largest.
 fn next_number(n: u64) -> Option<u64>
@@ -34,11 +34,10 @@ fn next_number(n: u64) -> Option<u64>
 
 // The cut directly after all pre-releases of the phase: before the first of the next phase, or
 // before the release.
-fn next_phase(alloc: Global, version: &Version, phase: Phase) -> Result<Cut, ClauseFault>
+fn next_phase(alloc: Global, version: &Version, phase: Phase) -> Result<Cut, AllocError>
     ensures place { IfOk result (λ c.
         c ≡ next_phase phase (without_dev (without_post version.now))) }
     ensures spelled { IfOk result (λ c. IsCut c) }
-    ensures faults { IfErr result (λ e. e ≡ ClauseFault.NoMemory) }
 {
     match phase {
         Phase::Alpha => {
@@ -50,10 +49,9 @@ fn next_phase(alloc: Global, version: &Version, phase: Phase) -> Result<Cut, Cla
 }
 
 // The cut directly after a pre-release and its post-releases, or past everything of a release.
-fn done(alloc: Global, version: &Version) -> Result<Cut, ClauseFault>
+fn done(alloc: Global, version: &Version) -> Result<Cut, AllocError>
     ensures place { IfOk result (λ c. c ≡ done version.now) }
     ensures spelled { IfOk result (λ c. IsCut c) }
-    ensures faults { IfErr result (λ e. e ≡ ClauseFault.NoMemory) }
 {
     let Some((phase, number)) = version.pre() else {
         return Cut::past(alloc, version);
@@ -65,11 +63,10 @@ fn done(alloc: Global, version: &Version) -> Result<Cut, ClauseFault>
 }
 
 // The cut directly after a version whose developmental release number is the largest.
-fn after_last_dev(alloc: Global, version: &Version) -> Result<Cut, ClauseFault>
+fn after_last_dev(alloc: Global, version: &Version) -> Result<Cut, AllocError>
     ensures place { IfOk result (λ c. c ≡ after_last_dev version.now.pre version.now.post
         version.now) }
     ensures spelled { IfOk result (λ c. IsCut c) }
-    ensures faults { IfErr result (λ e. e ≡ ClauseFault.NoMemory) }
 {
     match (version.pre(), version.post()) {
         (None, None) => {
@@ -82,10 +79,9 @@ fn after_last_dev(alloc: Global, version: &Version) -> Result<Cut, ClauseFault>
 
 // The cut directly after a version without a label and all its labels: where `<=` ends (PEP 440,
 // "Inclusive ordered comparison").
-fn next(alloc: Global, version: &Version) -> Result<Cut, ClauseFault>
+fn next(alloc: Global, version: &Version) -> Result<Cut, AllocError>
     ensures place { IfOk result (λ c. c ≡ next version.now) }
     ensures spelled { IfOk result (λ c. IsCut c) }
-    ensures faults { IfErr result (λ e. e ≡ ClauseFault.NoMemory) }
 {
     let (pre, post) = (version.pre(), version.post());
     if let Some(dev) = version.dev() {
@@ -104,10 +100,9 @@ fn next(alloc: Global, version: &Version) -> Result<Cut, ClauseFault>
 }
 
 // Where `>` begins (PEP 440, "Exclusive ordered comparison").
-fn greater_from(alloc: Global, version: &Version) -> Result<Cut, ClauseFault>
+fn greater_from(alloc: Global, version: &Version) -> Result<Cut, AllocError>
     ensures place { IfOk result (λ c. c ≡ greater_from version.now) }
     ensures spelled { IfOk result (λ c. IsCut c) }
-    ensures faults { IfErr result (λ e. e ≡ ClauseFault.NoMemory) }
 {
     if version.post().is_none() && version.dev().is_none() {
         done(alloc, version)
@@ -118,23 +113,21 @@ fn greater_from(alloc: Global, version: &Version) -> Result<Cut, ClauseFault>
 
 // Where `<` ends: a version that is no pre-release leaves its own pre-releases out (PEP 440,
 // "Exclusive ordered comparison").
-fn less_to(alloc: Global, version: &Version) -> Result<Cut, ClauseFault>
+fn less_to(alloc: Global, version: &Version) -> Result<Cut, AllocError>
     ensures place { IfOk result (λ c. c ≡ less_to version.now) }
     ensures spelled { IfOk result (λ c. IsCut c) }
-    ensures faults { IfErr result (λ e. e ≡ ClauseFault.NoMemory) }
 {
     if version.is_pre() {
-        Cut::before(alloc, version)
+        Cut::before(alloc, version).map_err(|_| AllocError)
     } else {
         Cut::before_suffixed(alloc, version, version.pre(), version.post(), Some(0))
     }
 }
 
 // Where `==` ends (PEP 440, "Version matching").
-fn matching_to(alloc: Global, version: &Version) -> Result<Cut, ClauseFault>
+fn matching_to(alloc: Global, version: &Version) -> Result<Cut, AllocError>
     ensures place { IfOk result (λ c. c ≡ matching_to version.now) }
     ensures spelled { IfOk result (λ c. IsCut c) }
-    ensures faults { IfErr result (λ e. e ≡ ClauseFault.NoMemory) }
 {
     if version.label().is_empty() {
         next(alloc, version)
@@ -159,14 +152,13 @@ fn raised(release: &[u64]) -> Option<(&[u64], u64)>
 
 /// The cut directly after all versions with this epoch whose release begins with these numbers (PEP
 /// 440, "Version matching").
-pub(crate) fn prefix_end(alloc: Global, epoch: u64, release: &[u64]) -> Result<Cut, ClauseFault>
+pub(crate) fn prefix_end(alloc: Global, epoch: u64, release: &[u64]) -> Result<Cut, AllocError>
     ensures place { IfOk result (λ c. c ≡ prefix_end (record {
       epoch = epoch;
       release =
           release.now;
     })) }
     ensures spelled { IfOk result (λ c. IsCut c) }
-    ensures faults { IfErr result (λ e. e ≡ ClauseFault.NoMemory) }
 {
     if let Some((front, number)) = raised(release) {
         let mut numbers = Vec::from_slice(alloc, front)?;
@@ -180,33 +172,30 @@ pub(crate) fn prefix_end(alloc: Global, epoch: u64, release: &[u64]) -> Result<C
 }
 
 // Where `~=` ends: behind all versions that begin with the release but its last number (PEP 440, "Compatible release").
-fn compatible_to(alloc: Global, version: &Version) -> Result<Cut, ClauseFault>
+fn compatible_to(alloc: Global, version: &Version) -> Result<Cut, AllocError>
     ensures place { IfOk result (λ c. c ≡ prefix_end (compatible_prefix version.now)) }
     ensures spelled { IfOk result (λ c. IsCut c) }
-    ensures faults { IfErr result (λ e. e ≡ ClauseFault.NoMemory) }
 {
     let release = version.release();
     prefix_end(alloc, version.epoch(), &release[..release.len() - 1])
 }
 
 /// The cut where the versions begin that the clause of an operator and this version speaks of.
-pub(crate) fn begin_cut(alloc: Global, begin: Begin, version: &Version) -> Result<Cut, ClauseFault>
+pub(crate) fn begin_cut(alloc: Global, begin: Begin, version: &Version) -> Result<Cut, AllocError>
     ensures place { IfOk result (λ c. c ≡ begin_cut begin version.now) }
     ensures spelled { IfOk result (λ c. IsCut c) }
-    ensures faults { IfErr result (λ e. e ≡ ClauseFault.NoMemory) }
 {
     match begin {
-        Begin::Least => Cut::least(alloc),
-        Begin::Version => Cut::before(alloc, version),
+        Begin::Least => Cut::least(alloc).map_err(|_| AllocError),
+        Begin::Version => Cut::before(alloc, version).map_err(|_| AllocError),
         Begin::Greater => greater_from(alloc, version),
     }
 }
 
 /// The cut where they end.
-pub(crate) fn end_cut(alloc: Global, end: End, version: &Version) -> Result<Cut, ClauseFault>
+pub(crate) fn end_cut(alloc: Global, end: End, version: &Version) -> Result<Cut, AllocError>
     ensures place { IfOk result (λ c. c ≡ end_cut end version.now) }
     ensures spelled { IfOk result (λ c. IsCut c) }
-    ensures faults { IfErr result (λ e. e ≡ ClauseFault.NoMemory) }
 {
     match end {
         End::Version => next(alloc, version),

@@ -45,7 +45,7 @@ use crate::sweep::{moved_ranges, swept_ranges};
 use crate::turns::Turns;
 use pep_version::{Key, Version};
 use specifiers::{Clause, ClauseFault, Op, Operand};
-use std::alloc::Global;
+use std::alloc::{AllocError, Global};
 use std::cmp::Ordering;
 use std::marker::Model;
 
@@ -93,9 +93,8 @@ fn are_increasing(ranges: &[Range]) -> bool
 }
 
 // The range goes to the end of the list, if its cuts are in order.
-fn push_range(done: &mut Vec<Range>, low: Cut, high: Cut) -> Result<(), ClauseFault>
-    ensures ok { OnOk result (done.new.items ≡ done.old.items ++ range low high) }
-    ensures faults { IfErr result (λ e. e ≡ ClauseFault.NoMemory) }
+fn push_range(done: &mut Vec<Range>, low: Cut, high: Cut) -> Result<(), AllocError>
+    ensures { OnOk result (done.new.items ≡ done.old.items ++ range low high) }
 {
     if let Some(range) = Range::of(low, high) {
         done.push(range)?;
@@ -108,11 +107,10 @@ fn common_ranges(
     alloc: Global,
     ranges: Vec<Range>,
     others: Vec<Range>,
-) -> Result<Vec<Range>, ClauseFault>
+) -> Result<Vec<Range>, AllocError>
     requires ranges { IsNormal ranges.items }
     requires others { IsNormal others.items }
-    ensures ok { IfOk result (λ done. done.items ≡ joined ranges.items others.items) }
-    ensures faults { IfErr result (λ e. e ≡ ClauseFault.NoMemory) }
+    ensures { IfOk result (λ done. done.items ≡ joined ranges.items others.items) }
 {
     if ranges.len() != 1 || others.len() != 1 {
         return moved_ranges(alloc, ranges, others);
@@ -142,13 +140,12 @@ fn are_within(ranges: &[Range], others: &[Range]) -> bool
     }
 }
 
-fn ranges_copied(alloc: Global, ranges: &[Range]) -> Result<Vec<Range>, ClauseFault>
-    ensures ok { IfOk result (λ copy. copy.items ≡ ranges.now) }
-    ensures faults { IfErr result (λ e. e ≡ ClauseFault.NoMemory) }
+fn ranges_copied(alloc: Global, ranges: &[Range]) -> Result<Vec<Range>, AllocError>
+    ensures { IfOk result (λ copy. copy.items ≡ ranges.now) }
 {
     let mut copy = Vec::with_capacity(alloc, ranges.len())?;
     for range in ranges {
-        copy.push(range.copied(alloc)?)?;
+        copy.push(range.copied(alloc).map_err(|_| AllocError)?)?;
     }
     Ok(copy)
 }
@@ -184,15 +181,14 @@ impl VersionSet {
         ensures faults { IfErr result (λ e. e ≡ ClauseFault.NoMemory) }
     {
         let least = Cut::least(alloc)?;
-        VersionSet::between(alloc, least, Cut::end())
+        Ok(VersionSet::between(alloc, least, Cut::end())?)
     }
 
     /// The versions between two cuts.
-    fn between(alloc: Global, low: Cut, high: Cut) -> Result<VersionSet, ClauseFault>
+    fn between(alloc: Global, low: Cut, high: Cut) -> Result<VersionSet, AllocError>
         requires low { IsCut low }
         requires high { IsCut high }
-        ensures range { IfOk result (λ s. s ≡ range low high) }
-        ensures faults { IfErr result (λ e. e ≡ ClauseFault.NoMemory) }
+        ensures { IfOk result (λ s. s ≡ range low high) }
     {
         if low.order_to(&high) != Ordering::Less {
             return Ok(VersionSet {
@@ -204,31 +200,25 @@ impl VersionSet {
     }
 
     /// The versions under the low cut, and those not under the high one.
-    fn outside(alloc: Global, low: Cut, high: Cut) -> Result<VersionSet, ClauseFault>
+    fn outside(alloc: Global, low: Cut, high: Cut) -> Result<VersionSet, AllocError>
         requires low { IsCut low }
         requires high { IsCut high }
         requires in_order { cut_cmp low high ≡ Less }
-        ensures outside { IfOk result (λ s. s ≡ outside low high) }
-        ensures faults { IfErr result (λ e. e ≡ ClauseFault.NoMemory) }
+        ensures { IfOk result (λ s. s ≡ outside low high) }
     {
         let mut ranges = Vec::new(alloc);
-        push_range(&mut ranges, Cut::least(alloc)?, low)?;
+        let least = Cut::least(alloc).map_err(|_| AllocError)?;
+        push_range(&mut ranges, least, low)?;
         push_range(&mut ranges, high, Cut::end())?;
         Ok(VersionSet { ranges })
     }
 
     // The versions between two cuts, or where these are left out the others.
-    fn by_cuts(
-        alloc: Global,
-        left_out: bool,
-        low: Cut,
-        high: Cut,
-    ) -> Result<VersionSet, ClauseFault>
+    fn by_cuts(alloc: Global, left_out: bool, low: Cut, high: Cut) -> Result<VersionSet, AllocError>
         requires low { IsCut low }
         requires high { IsCut high }
         requires in_order { IsTrue left_out → cut_cmp low high ≡ Less }
-        ensures list { IfOk result (λ s. s ≡ between left_out low high) }
-        ensures faults { IfErr result (λ e. e ≡ ClauseFault.NoMemory) }
+        ensures { IfOk result (λ s. s ≡ between left_out low high) }
     {
         if left_out {
             VersionSet::outside(alloc, low, high)
@@ -238,10 +228,9 @@ impl VersionSet {
     }
 
     // The versions that the clause of this operator and version admits.
-    fn of_version(alloc: Global, op: Op, version: &Version) -> Result<VersionSet, ClauseFault>
+    fn of_version(alloc: Global, op: Op, version: &Version) -> Result<VersionSet, AllocError>
         requires { IsVersion version.now }
-        ensures list { IfOk result (λ s. s ≡ set_of (of_version op version.now)) }
-        ensures faults { IfErr result (λ e. e ≡ ClauseFault.NoMemory) }
+        ensures { IfOk result (λ s. s ≡ set_of (of_version op version.now)) }
     {
         let low = begin_cut(alloc, op.begin(), version)?;
         let high = end_cut(alloc, op.end(), version)?;
@@ -249,9 +238,8 @@ impl VersionSet {
     }
 
     // The versions that the clause of this operator and prefix admits.
-    fn of_prefix(alloc: Global, op: Op, prefix: &Version) -> Result<VersionSet, ClauseFault>
-        ensures list { IfOk result (λ s. s ≡ set_of (of_prefix op (prefix_of prefix.now))) }
-        ensures faults { IfErr result (λ e. e ≡ ClauseFault.NoMemory) }
+    fn of_prefix(alloc: Global, op: Op, prefix: &Version) -> Result<VersionSet, AllocError>
+        ensures { IfOk result (λ s. s ≡ set_of (of_prefix op (prefix_of prefix.now))) }
     {
         let (epoch, release) = (prefix.epoch(), prefix.release());
         let low = Cut::before_dev(alloc, epoch, release)?;
@@ -260,15 +248,14 @@ impl VersionSet {
     }
 
     // The versions that the clause of this operator and operand admits; all where it demands a text.
-    fn of_operand(alloc: Global, op: Op, operand: &Operand) -> Result<VersionSet, ClauseFault>
+    fn of_operand(alloc: Global, op: Op, operand: &Operand) -> Result<VersionSet, AllocError>
         requires { IsStored op operand.now }
-        ensures list { IfOk result (λ s. s ≡ set_of (clause_of op operand.now)) }
-        ensures faults { IfErr result (λ e. e ≡ ClauseFault.NoMemory) }
+        ensures { IfOk result (λ s. s ≡ set_of (clause_of op operand.now)) }
     {
         match operand {
             Operand::Version(version) => VersionSet::of_version(alloc, op, version),
             Operand::Prefix(prefix) => VersionSet::of_prefix(alloc, op, prefix),
-            Operand::Text(_) => VersionSet::all(alloc),
+            Operand::Text(_) => VersionSet::all(alloc).map_err(|_| AllocError),
         }
     }
 
@@ -285,7 +272,7 @@ impl VersionSet {
         ensures inhabited { IfOk result (λ s. HasVersionUnlessEmpty s) }
         ensures faults { IfErr result (λ e. e ≡ ClauseFault.NoMemory) }
     {
-        VersionSet::of_operand(alloc, clause.op(), clause.operand())
+        Ok(VersionSet::of_operand(alloc, clause.op(), clause.operand())?)
     }
 
     /// The versions that are in both sets, by one sweep over the ranges of both: each turn passes

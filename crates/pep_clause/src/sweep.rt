@@ -1,6 +1,6 @@
 //! What two lists of ranges have in common, by one sweep over both.
 
-ghost use Rattle.std.specs.Prelude.{◌≡◌, ◌+◌, ◌++◌, ◌≤◌, IfErr, IfOk, OnOk, length};
+ghost use Rattle.std.specs.Prelude.{◌≡◌, ◌+◌, ◌++◌, ◌≤◌, IfOk, OnOk, length};
 ghost use Rattle.std.specs.Ordering.{is_lt};
 ghost use Rattle.std.specs.declared.cmp.Ordering.TheVariants.{Less};
 ghost use Rattle.pep_clause.specs.Cut.{IsCut, cut_cmp};
@@ -11,8 +11,7 @@ ghost use Rattle.pep_clause.specs.VersionSet.{IsNormal};
 use crate::cut::Cut;
 use crate::range::{Range, later};
 use crate::turns::Turns;
-use specifiers::ClauseFault;
-use std::alloc::Global;
+use std::alloc::{AllocError, Global};
 
 // What lies between two cuts goes to the end of the list, if these are in order.
 fn push_between(
@@ -20,12 +19,12 @@ fn push_between(
     done: &mut Vec<Range>,
     low: &Cut,
     high: &Cut,
-) -> Result<(), ClauseFault>
-    ensures ok { OnOk result (done.new.items ≡ done.old.items ++ range low.now high.now) }
-    ensures faults { IfErr result (λ e. e ≡ ClauseFault.NoMemory) }
+) -> Result<(), AllocError>
+    ensures { OnOk result (done.new.items ≡ done.old.items ++ range low.now high.now) }
 {
     if low < high {
-        let (low, high) = (low.copied(alloc)?, high.copied(alloc)?);
+        let low = low.copied(alloc).map_err(|_| AllocError)?;
+        let high = high.copied(alloc).map_err(|_| AllocError)?;
         done.push(Range::between(low, high))?;
     }
     Ok(())
@@ -38,12 +37,11 @@ fn push_common(
     done: &mut Vec<Range>,
     range: &Range,
     other: &Range,
-) -> Result<bool, ClauseFault>
+) -> Result<bool, AllocError>
     ensures ok { OnOk result (done.new.items ≡ done.old.items
         ++ range_joined range.now other.now) }
     ensures first { IfOk result (λ first.
         first ≡ is_lt (cut_cmp range.now.high other.now.high)) }
-    ensures faults { IfErr result (λ e. e ≡ ClauseFault.NoMemory) }
 {
     let (end, other_end) = (range.high(), other.high());
     let ends_first = end < other_end;
@@ -59,13 +57,12 @@ pub(crate) fn swept_ranges(
     ranges: &[Range],
     others: &[Range],
     turns: &mut Turns,
-) -> Result<Vec<Range>, ClauseFault>
+) -> Result<Vec<Range>, AllocError>
     requires ranges { IsNormal ranges.now }
     requires others { IsNormal others.now }
     ensures ok { IfOk result (λ done. done.items ≡ joined ranges.now others.now) }
     ensures turns { turns.new.passed ≤ turns.old.passed + (length ranges.now + length others.now) }
     ensures no_fewer { turns.old.passed ≤ turns.new.passed }
-    ensures faults { IfErr result (λ e. e ≡ ClauseFault.NoMemory) }
 {
     // Between two ranges in common one of the lists goes on to its next.
     let most = ranges.len().saturating_add(others.len().saturating_sub(1));
@@ -88,13 +85,12 @@ pub(crate) fn swept_ranges(
 }
 
 // What the range that ends first has in common with the other goes to the end of the list.
-fn push_first(done: &mut Vec<Range>, mut first: Range, other: &mut Range) -> Result<(), ClauseFault>
+fn push_first(done: &mut Vec<Range>, mut first: Range, other: &mut Range) -> Result<(), AllocError>
     ensures both { OnOk result (done.new.items ≡ done.old.items
         ++ range (later cut_cmp first.low other.old.low) first.high) }
     ensures left { SameBehind first.high other.old other.new }
     ensures above { cut_cmp other.new.low other.new.high ≡ Less }
     ensures spelled { IsCut first.low × IsCut other.old.low }
-    ensures faults { IfErr result (λ e. e ≡ ClauseFault.NoMemory) }
 {
     if first.part(other) {
         done.push(first)?;
@@ -107,11 +103,10 @@ pub(crate) fn moved_ranges(
     alloc: Global,
     ranges: Vec<Range>,
     others: Vec<Range>,
-) -> Result<Vec<Range>, ClauseFault>
+) -> Result<Vec<Range>, AllocError>
     requires ranges { IsNormal ranges.items }
     requires others { IsNormal others.items }
-    ensures ok { IfOk result (λ done. done.items ≡ joined ranges.items others.items) }
-    ensures faults { IfErr result (λ e. e ≡ ClauseFault.NoMemory) }
+    ensures { IfOk result (λ done. done.items ≡ joined ranges.items others.items) }
 {
     let most = ranges.len().saturating_add(others.len().saturating_sub(1));
     let mut done = Vec::with_capacity(alloc, most)?;

@@ -11,7 +11,7 @@ ghost use Rattle.pep_clause.specs.OperatorTable.{past_release};
 use crate::cut::Cut;
 use pep_version::{Version, VersionFault};
 use specifiers::{ClauseFault, is_final};
-use std::alloc::Global;
+use std::alloc::{AllocError, Global};
 
 // Whether the release has no zero at its end beyond its first number.
 fn is_short(release: &[u64]) -> bool
@@ -28,18 +28,17 @@ fn spelled_version(
     alloc: Global,
     version: Version,
     text: &str,
-) -> Result<Option<Version>, ClauseFault>
+) -> Result<Option<Version>, AllocError>
     ensures kept { IfOk result (λ read. place_of version ≡ version
         → normal_text version ≡ text.now → read ≡ Some version) }
     ensures spelled { IfOk result (λ read. IfSome read (λ v. (v ≡ version)
         × (place_of version ≡ version) × (normal_text version ≡ text.now))) }
-    ensures faults { IfErr result (λ e. e ≡ ClauseFault.NoMemory) }
 {
     if !is_short(version.release()) {
         return Ok(None);
     }
     let mut normal = String::with_capacity(alloc, text.len())?;
-    version.push_text(&mut normal)?;
+    version.push_text(&mut normal).map_err(|_| AllocError)?;
     if normal.as_str() == text {
         Ok(Some(version))
     } else {
@@ -48,12 +47,11 @@ fn spelled_version(
 }
 
 // The version behind the word, if the normal text of one that is at its own place stands there.
-fn version_behind(alloc: Global, text: &str, word: &str) -> Result<Option<Version>, ClauseFault>
+fn version_behind(alloc: Global, text: &str, word: &str) -> Result<Option<Version>, AllocError>
     ensures normal { IfOk result (λ read. (v : Version) → IsVersion v → place_of v ≡ v
         → text.now ≡ word.now ++ normal_text v → read ≡ Some v) }
     ensures spelled { IfOk result (λ read. IfSome read (λ v. IsVersion v × (place_of v ≡ v)
         × (text.now ≡ word.now ++ normal_text v))) }
-    ensures faults { IfErr result (λ e. e ≡ ClauseFault.NoMemory) }
 {
     let Some(version) = text.strip_prefix(word) else {
         return Ok(None);
@@ -62,17 +60,16 @@ fn version_behind(alloc: Global, text: &str, word: &str) -> Result<Option<Versio
         Ok(read) => Ok(spelled_version(alloc, read, version)?),
         Err(VersionFault::NotAVersion) => Ok(None),
         Err(VersionFault::NumberTooLarge) => Ok(None),
-        Err(VersionFault::NoMemory) => Err(ClauseFault::NoMemory),
+        Err(VersionFault::NoMemory) => Err(AllocError),
     }
 }
 
 // The cut past everything of the version's release, if it is final: no other is in a cut's text.
-fn past_final(alloc: Global, version: &Version) -> Result<Option<Cut>, ClauseFault>
+fn past_final(alloc: Global, version: &Version) -> Result<Option<Cut>, AllocError>
     ensures kept { IfOk result (λ read. is_final version.now ≡ true
         → read ≡ Some (past_release version.now)) }
     ensures exact { IfOk result (λ read. IfSome read (λ c. (c ≡ past_release version.now)
         × (is_final version.now ≡ true) × IsCut c)) }
-    ensures faults { IfErr result (λ e. e ≡ ClauseFault.NoMemory) }
 {
     if !is_final(version) {
         return Ok(None);

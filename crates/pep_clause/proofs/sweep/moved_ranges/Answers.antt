@@ -7,8 +7,8 @@ use Rattle.pep_clause.proofs.Sweeping.{IsSwept, swept_left, swept_right}
 use Rattle.pep_clause.proofs.sweep.moved_ranges.Goals as goal
 use Rattle.pep_clause.proofs.sweep.moved_ranges.Goals.{In_ok-push_first, In_ok-push_first-2}
 
-pub returns-in_default-next-clause-ok : goal.returns-in_default-next-clause-ok
-returns-in_default-next-clause-ok c =
+pub returns-in_default-next : goal.returns-in_default-next
+returns-in_default-next c =
     none_moves c.args.ranges.items c.args.others.items c.in_ok-done.done.items
     c.in_ok-done.ensures.items (search rules)
 
@@ -49,12 +49,12 @@ passes_right c =
     c.push_first-else-lt.ensures.spelled c.push_first-else-lt.ensures.left
     c.push_first-else-lt.ensures.above c.in_ok-push_first-2.ensures.both
 
-pub returns-in_default-next-2-clause-ok : goal.returns-in_default-next-2-clause-ok
-returns-in_default-next-2-clause-ok c =
+pub returns-in_default-next-2 : goal.returns-in_default-next-2
+returns-in_default-next-2 c =
     let none : 0 ≡ into_iter_len c.sweep.left = search rules in
     let few = c.sweep.invariant.1 in
     swept_left c.args.ranges.items c.args.others.items c.push_first.new.done.items _ _
-    (passes_left (goal.at.returns-in_default-next-2-clause-ok c).In_ok-push_first)
+    (passes_left (goal.at.returns-in_default-next-2 c).In_ok-push_first)
     (omega (arith, none, few))
 
 pub sweep-preserved-then-lt : goal.sweep-preserved-then-lt
@@ -67,12 +67,12 @@ sweep-preserved-then-lt c = (
   c.sweep.invariant.2,
 )
 
-pub returns-in_default-next-3-clause-ok : goal.returns-in_default-next-3-clause-ok
-returns-in_default-next-3-clause-ok c =
+pub returns-in_default-next-3 : goal.returns-in_default-next-3
+returns-in_default-next-3 c =
     let none : 0 ≡ into_iter_len c.sweep.right = search rules in
     let few = c.sweep.invariant.2 in
     swept_right c.args.ranges.items c.args.others.items c.push_first-else-lt.new.done.items _ _
-    (passes_right (goal.at.returns-in_default-next-3-clause-ok c).In_ok-push_first-2)
+    (passes_right (goal.at.returns-in_default-next-3 c).In_ok-push_first-2)
     (omega (arith, none, few))
 
 pub sweep-preserved : goal.sweep-preserved

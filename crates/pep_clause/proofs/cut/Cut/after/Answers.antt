@@ -5,25 +5,25 @@ use Rattle.pep_clause.specs.CutBytes.{cut_bytes}
 use Rattle.pep_clause.proofs.CutsRead.{cut_at-is, reads_back}
 use Rattle.pep_clause.proofs.cut.Cut.after.Goals as goal
 
-is_cut : (c : goal.In_ok-push) → IsCut (after c.in_ok-of.field-0)
+is_cut : (c : goal.In_ok-push) → IsCut (after c.in-Ok.key)
 is_cut c = (
-  c.in_ok-of.ensures.version,
-  c.in_ok-of.ensures.own_place,
-  subst (λ (w : Version). 0 < length w.label) (sym c.in_ok-of.ensures.place) c.requires,
+  c.in-Ok.ensures.version,
+  c.in-Ok.ensures.own_place,
+  subst (λ (w : Version). 0 < length w.label) (sym c.in-Ok.ensures.place) c.requires,
 )
 
-bytes_are : (c : goal.In_ok-push) → c.push.new.self.items ≡ cut_bytes (after c.in_ok-of.field-0)
+bytes_are : (c : goal.In_ok-push) → c.push.new.self.items ≡ cut_bytes (after c.in-Ok.key)
 bytes_are c =
     c.in_ok-push.ensures.ok ∙ ap (λ (xs : List ℕ). xs ++ (0 ∷ [])) c.into_bytes-bytes.ensures.bytes
 
 pub invariant_of-result : goal.invariant_of-result
 invariant_of-result c =
-    reads_back c.push.new.self.items (after c.in_ok-of.field-0) (is_cut c) refl (bytes_are c)
+    reads_back c.push.new.self.items (after c.in-Ok.key) (is_cut c) refl (bytes_are c)
 
 pub returns-clause-place : goal.returns-clause-place
 returns-clause-place c =
-    cut_at-is c.push.new.self.items (after c.in_ok-of.field-0) (is_cut c) refl (bytes_are c)
-    ∙ ap after c.in_ok-of.ensures.place
+    cut_at-is c.push.new.self.items (after c.in-Ok.key) (is_cut c) refl (bytes_are c)
+    ∙ ap after c.in-Ok.ensures.place
 
 pub returns-clause-spelled : goal.returns-clause-spelled
 returns-clause-spelled c = (invariant_of-result c).cut

@@ -14,13 +14,13 @@ abbrev short : Version → Prefix
 short v = record { epoch = v.epoch; release = short_release v.release }
 
 -- the key is that of the release
-is_final : (c : goal.In_ok-push) → c.in_ok-key.key ≡ final_version (short c.args.version.now)
+is_final : (c : goal.In_ok-push) → c.in-Ok.key ≡ final_version (short c.args.version.now)
 is_final c =
-    c.in_ok-key.ensures.place
+    c.in-Ok.ensures.place
     ∙ (λ i. final_version (record { epoch = c.epoch.ensures i; release = short_release (c.release.ensures.numbers i) }))
 
 is_cut : (c : goal.In_ok-push) → IsCut (past (short c.args.version.now))
-is_cut c = (subst IsVersion (is_final c) c.in_ok-key.ensures.version, short-twice c.args.version.now.release)
+is_cut c = (subst IsVersion (is_final c) c.in-Ok.ensures.version, short-twice c.args.version.now.release)
 
 bytes_are : (c : goal.In_ok-push) → c.push.new.self.items ≡ cut_bytes (past (short c.args.version.now))
 bytes_are c =

@@ -1,9 +1,9 @@
-use Rattle.std.proofs.Common.{◌≡◌, IfOk, rules}
-use Rattle.pep_clause.specs.VersionSet.{all_versions}
-use Rattle.pep_clause.proofs.SetLemmas.{all-versions}
+use Rattle.std.proofs.Common.{◌≡◌, rules, subst, sym}
+use Rattle.pep_clause.specs.VersionSet.{In, all_versions}
+use Rattle.pep_clause.proofs.SetLemmas.{In-all_versions}
 use Rattle.pep_clause.proofs.set.VersionSet.all.Goals as goal
 
 pub returns-clause-versions : goal.returns-clause-versions
-returns-clause-versions c =
-    let all : IfOk c.between.result (λ s. s ≡ all_versions) = search rules in
-    all-versions c.between.result all
+returns-clause-versions c v =
+    let all : c.in_ok-between.field-0 ≡ all_versions = search rules in
+    subst (λ list. In list v) (sym all) (In-all_versions v)

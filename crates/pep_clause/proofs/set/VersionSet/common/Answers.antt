@@ -24,7 +24,7 @@ returns-then-are_within-clause-inhabited c =
 pub invariant_of-result : goal.invariant_of-result
 invariant_of-result c =
     joined_normal c.args.self c.args.other c.in_ok-ranges.ranges.items
-    (cc (c.in_ok-ranges.ensures.ok)) (subst IsNormal c.self.view_is c.self.invariant)
+    (cc (c.in_ok-ranges.ensures)) (subst IsNormal c.self.view_is c.self.invariant)
     (subst IsNormal c.other.view_is c.other.invariant)
 
 pub returns-clause-normal : goal.returns-clause-normal
@@ -36,9 +36,9 @@ returns-clause-inhabited c = normal-has_version c.in_ok-ranges.ranges.items (inv
 pub returns-clause-points : goal.returns-clause-points
 returns-clause-points c =
     joined_points c.args.self c.args.other c.in_ok-ranges.ranges.items
-    (cc (c.in_ok-ranges.ensures.ok))
+    (cc (c.in_ok-ranges.ensures))
 
 pub returns-clause-versions : goal.returns-clause-versions
 returns-clause-versions c =
     joined_versions c.args.self c.args.other c.in_ok-ranges.ranges.items
-    (cc (c.in_ok-ranges.ensures.ok))
+    (cc (c.in_ok-ranges.ensures))

@@ -15,11 +15,11 @@ by_cuts-requires-clause-in_order c =
     λ t. (λ i. cut_cmp (low i) (high i)) ∙ before_prefix-below_end (prefix_of v)
     (IsVersion-prefix_of v c.release-release.ensures.version)
 
-pub returns-clause-list : goal.returns-clause-list
-returns-clause-list c =
+pub returns : goal.returns
+returns c =
     let v = c.args.prefix.now in
     let numbers = c.release-release.ensures.numbers in
     let low = prefix_low-at v c.in_ok-low.ensures.place c.epoch-epoch.ensures numbers in
     let high = prefix_high-at v c.in_ok-high.ensures.place c.epoch-epoch.ensures numbers in
     rw (sym (between-prefix c.args.op (prefix_of v)))
-    (between-at c.by_cuts.result c.leaves_out.ensures low high c.by_cuts.ensures.list)
+    (between-at c.by_cuts.result c.leaves_out.ensures low high c.by_cuts.ensures)

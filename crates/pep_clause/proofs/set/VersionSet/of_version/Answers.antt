@@ -14,10 +14,10 @@ by_cuts-requires-clause-in_order c =
     λ t. (λ i. cut_cmp (low i) (high i))
     ∙ ends-in_order c.args.op v c.requires (subst IsTrue c.leaves_out.ensures t)
 
-pub returns-clause-list : goal.returns-clause-list
-returns-clause-list c =
+pub returns : goal.returns
+returns c =
     let v = c.args.version.now in
     let low = c.in_ok-low.ensures.place ∙ (λ i. begin_cut (c.begin.ensures i) v) in
     let high = c.in_ok-high.ensures.place ∙ (λ i. end_cut (c.end.ensures i) v) in
     rw (sym (between-ends c.args.op v))
-    (between-at c.by_cuts.result c.leaves_out.ensures low high c.by_cuts.ensures.list)
+    (between-at c.by_cuts.result c.leaves_out.ensures low high c.by_cuts.ensures)

@@ -1,4 +1,4 @@
-use Rattle.std.proofs.Common.{◌≡◌, ◌++◌, ◌∙◌}
+use Rattle.std.proofs.Common.{◌≡◌, ◌++◌, ◌∙◌, rules}
 use Rattle.pep_clause.specs.Cut.{least}
 use Rattle.pep_clause.specs.OperatorTable.{outside, range}
 use Rattle.pep_clause.proofs.RangeRows.{IsNormal-outside}
@@ -9,16 +9,16 @@ use Rattle.pep_clause.proofs.set.VersionSet.outside.Goals.{In_ok-push_range-2}
 ranges_are : (c : In_ok-push_range-2) → c.push_range-2.new.done.items ≡ outside c.args.low c.args.high
 ranges_are c =
     let none = c.new-ranges.ensures.items in
-    let first = c.in_ok-least.ensures.least in
+    let first : c.in_ok-least.least ≡ least = search rules in
     let last = c.end.ensures in
     let under : c.push_range.new.done.items ≡ range least c.args.low =
-    c.in_ok-push_range.ensures.ok ∙ (λ i. none i ++ range (first i) c.args.low) in
-    c.in_ok-push_range-2.ensures.ok ∙ (λ i. under i ++ range c.args.high (last i))
+    c.in_ok-push_range.ensures ∙ (λ i. none i ++ range (first i) c.args.low) in
+    c.in_ok-push_range-2.ensures ∙ (λ i. under i ++ range c.args.high (last i))
 
 pub invariant_of-result : goal.invariant_of-result
 invariant_of-result c =
     rw (ranges_are c) (IsNormal-outside c.args.low c.args.high c.requires.low c.requires.high
     c.requires.in_order)
 
-pub returns-clause-outside : goal.returns-clause-outside
-returns-clause-outside c = ranges_are c
+pub returns : goal.returns
+returns c = ranges_are c
