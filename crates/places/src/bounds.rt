@@ -7,7 +7,8 @@ ghost use Rattle.specifiers.specs.ClauseView.{IsStored, clause_of, operand_parts
 ghost use Rattle.specifiers.specs.Operator.{operand, operator, version_part};
 ghost use Rattle.specifiers.specs.Way.OperatorEnds.{begin_of, end_of};
 ghost use Rattle.pep_clause.specs.Cut.{IsCut};
-ghost use Rattle.pep_clause.specs.OperatorTable.{before_dev, before_place, before_prefix, greater_from, less_to, matching_to, next, prefix_end};
+ghost use Rattle.pep_clause.specs.OperatorTable.{before_dev, before_place, before_prefix, greater_from, less_to};
+ghost use Rattle.pep_clause.specs.OperatorTable.{matching_to, next, prefix_end};
 ghost use Rattle.pep_clause.specs.Way.Ends.{begin_cut, end_cut};
 ghost use Rattle.places.specs.Way.Bounds.{
   BeginsShort,

@@ -49,7 +49,7 @@ use crate::bounds::Bounds;
 use crate::place::Place;
 use crate::place_ranges::PlaceRanges;
 use pep_clause::ClauseFault;
-use std::alloc::Global;
+use std::alloc::{AllocError, Global};
 use std::cmp::Ordering;
 use std::marker::Model;
 use std::mem::replace;
@@ -97,13 +97,12 @@ fn sort_new(singles: &mut [Place], settled: usize)
 
 // Puts single places in order, so that the last one is the least, and keeps each once. So many in front are in order:
 // they are merged with the others, which wants no more room than these have.
-fn order_singles(singles: &mut Vec<Place>, settled: usize) -> Result<(), ClauseFault>
+fn order_singles(singles: &mut Vec<Place>, settled: usize) -> Result<(), AllocError>
     requires { All IsSingle singles.old.items }
     ensures falling { OnOk result (IsFalling place_of singles.new.items) }
     ensures points { (c : Cut) → is_left_out (map single singles.new.items) c
         ≡ is_left_out (map single singles.old.items) c }
     ensures singles { All IsSingle singles.new.items }
-    ensures faults { IfErr result (λ e. e ≡ ClauseFault.NoMemory) }
 {
     sort_new(singles.as_mut_slice(), settled);
     singles.sort_by(|a, b| b.cmp(a))?;
@@ -127,13 +126,12 @@ fn meets(first: &Bounds, second: &Bounds) -> bool
 }
 
 // Puts a part behind the others, or joins it with the last one where the two meet.
-fn push_part(parts: &mut Vec<Bounds>, part: Bounds) -> Result<(), ClauseFault>
+fn push_part(parts: &mut Vec<Bounds>, part: Bounds) -> Result<(), AllocError>
     requires parts { All IsPart parts.old.items }
     requires part { IsPart part }
     ensures points { OnOk result ((c : Cut) → is_left_out parts.new.items c
         ≡ (is_left_out parts.old.items c || lies_between part.low part.high c)) }
     ensures parts { OnOk result (All IsPart parts.new.items) }
-    ensures faults { IfErr result (λ e. e ≡ ClauseFault.NoMemory) }
 {
     let Some(last) = parts.pop() else {
         parts.push(part)?;
@@ -153,12 +151,11 @@ fn push_part(parts: &mut Vec<Bounds>, part: Bounds) -> Result<(), ClauseFault>
 }
 
 // The same parts with those joined that meet.
-fn merged(alloc: Global, parts: Vec<Bounds>) -> Result<Vec<Bounds>, ClauseFault>
+fn merged(alloc: Global, parts: Vec<Bounds>) -> Result<Vec<Bounds>, AllocError>
     requires { All IsPart parts.items }
     ensures points { IfOk result (λ m. (c : Cut) → is_left_out m.items c
         ≡ is_left_out parts.items c) }
     ensures parts { IfOk result (λ m. All IsPart m.items) }
-    ensures faults { IfErr result (λ e. e ≡ ClauseFault.NoMemory) }
 {
     let mut left = parts;
     sort_falling(&mut left);
@@ -170,10 +167,9 @@ fn merged(alloc: Global, parts: Vec<Bounds>) -> Result<Vec<Bounds>, ClauseFault>
 }
 
 // Puts the range between two places behind the others, where it isn't empty.
-fn push_range(ranges: &mut Vec<Bounds>, low: Place, high: Place) -> Result<(), ClauseFault>
-    ensures ranges { OnOk result (spans ranges.new.items
+fn push_range(ranges: &mut Vec<Bounds>, low: Place, high: Place) -> Result<(), AllocError>
+    ensures { OnOk result (spans ranges.new.items
         ≡ spans ranges.old.items ++ range low high) }
-    ensures faults { IfErr result (λ e. e ≡ ClauseFault.NoMemory) }
 {
     if low.cmp(&high) == Ordering::Less {
         ranges.push(Bounds { low, high })?;
@@ -229,12 +225,11 @@ fn swept(
     low: Place,
     singles: Vec<Place>,
     parts: Vec<Bounds>,
-) -> Result<Vec<Bounds>, ClauseFault>
+) -> Result<Vec<Bounds>, AllocError>
     requires low { IsCut low }
     requires falling { AreFalling singles.items parts.items }
-    ensures ranges { IfOk result (λ r. spans r.items
+    ensures { IfOk result (λ r. spans r.items
         ≡ joined (range low end) (left_over (all_parts singles.items parts.items))) }
-    ensures faults { IfErr result (λ e. e ≡ ClauseFault.NoMemory) }
 {
     let most = singles.len().saturating_add(parts.len()).saturating_add(1);
     let mut ranges = Vec::with_capacity(alloc, most)?;
@@ -250,12 +245,11 @@ fn swept(
 }
 
 // The parts, and what lies at a place and behind it.
-fn closed(parts: Vec<Bounds>, high: Place) -> Result<Vec<Bounds>, ClauseFault>
+fn closed(parts: Vec<Bounds>, high: Place) -> Result<Vec<Bounds>, AllocError>
     requires { All IsPart parts.items }
     ensures points { IfOk result (λ all. (c : Cut) → is_left_out all.items c
         ≡ (is_left_out parts.items c || lies_between high end c)) }
     ensures parts { IfOk result (λ all. All IsPart all.items) }
-    ensures faults { IfErr result (λ e. e ≡ ClauseFault.NoMemory) }
 {
     let end = Place::end();
     if high.cmp(&end) != Ordering::Less {
@@ -294,10 +288,9 @@ impl LeftOut {
     }
 
     // Puts the new single places in order, where there are many.
-    fn settle_singles(&mut self) -> Result<(), ClauseFault>
+    fn settle_singles(&mut self) -> Result<(), AllocError>
         ensures points { OnOk result ((c : Cut) → is_point self.new c ≡ is_point self.old c) }
         ensures normal { IsNormal self.new }
-        ensures faults { IfErr result (λ e. e ≡ ClauseFault.NoMemory) }
     {
         if self.singles.len() < self.settled.saturating_mul(2).saturating_add(FEW) {
             return Ok(());
@@ -308,10 +301,9 @@ impl LeftOut {
     }
 
     // Joins the parts that meet, where there are many.
-    fn settle_parts(&mut self, alloc: Global) -> Result<(), ClauseFault>
+    fn settle_parts(&mut self, alloc: Global) -> Result<(), AllocError>
         ensures points { OnOk result ((c : Cut) → is_point self.new c ≡ is_point self.old c) }
         ensures normal { IsNormal self.new }
-        ensures faults { IfErr result (λ e. e ≡ ClauseFault.NoMemory) }
     {
         if self.parts.len() < self.most_parts {
             return Ok(());
@@ -323,12 +315,11 @@ impl LeftOut {
     }
 
     // Leaves out what lies between a place and the one right behind it, too.
-    fn leave_single(&mut self, place: Place) -> Result<(), ClauseFault>
+    fn leave_single(&mut self, place: Place) -> Result<(), AllocError>
         requires { IsSingle place }
         ensures points { OnOk result ((c : Cut) → is_point self.new c
             ≡ (is_point self.old c && is_point (outside place (right_behind place)) c)) }
         ensures normal { IsNormal self.new }
-        ensures faults { IfErr result (λ e. e ≡ ClauseFault.NoMemory) }
     {
         self.settle_singles()?;
         self.singles.push(place)?;
@@ -336,12 +327,11 @@ impl LeftOut {
     }
 
     // The same of what lies between two places.
-    fn leave_part(&mut self, alloc: Global, part: Bounds) -> Result<(), ClauseFault>
+    fn leave_part(&mut self, alloc: Global, part: Bounds) -> Result<(), AllocError>
         requires { IsPart part }
         ensures points { OnOk result ((c : Cut) → is_point self.new c
             ≡ (is_point self.old c && is_point (outside part.low part.high) c)) }
         ensures normal { IsNormal self.new }
-        ensures faults { IfErr result (λ e. e ≡ ClauseFault.NoMemory) }
     {
         self.settle_parts(alloc)?;
         self.parts.push(part)?;
@@ -362,9 +352,11 @@ impl LeftOut {
             return Ok(());
         }
         if bounds.high.is_right_behind(bounds.low) {
-            return self.leave_single(bounds.low);
+            self.leave_single(bounds.low)?;
+            return Ok(());
         }
-        self.leave_part(alloc, bounds)
+        self.leave_part(alloc, bounds)?;
+        Ok(())
     }
 
     /// The versions between two places that are left over. The only fault is `NoMemory`.

@@ -8,7 +8,7 @@ ghost use Rattle.places.specs.Way.LeftOut.{span, spans};
 
 use crate::bounds::Bounds;
 use pep_clause::{ClauseFault, Range, VersionSet};
-use std::alloc::Global;
+use std::alloc::{AllocError, Global};
 use std::marker::Model;
 
 /// The versions in some ranges between places, each of which begins above the end of the one before it.
@@ -30,12 +30,17 @@ impl Model for PlaceRanges {
 }
 
 // The range between two places, the first of which is below the second.
-fn range_of(alloc: Global, bounds: &Bounds) -> Result<Range, ClauseFault>
+fn range_of(alloc: Global, bounds: &Bounds) -> Result<Range, AllocError>
     requires { cut_cmp bounds.now.low bounds.now.high ≡ Less }
-    ensures range { IfOk result (λ r. r ≡ span bounds.now) }
-    ensures faults { IfErr result (λ e. e ≡ ClauseFault.NoMemory) }
+    ensures { IfOk result (λ r. r ≡ span bounds.now) }
 {
-    match Range::of(bounds.low.cut(alloc)?, bounds.high.cut(alloc)?) {
+    let Ok(low) = bounds.low.cut(alloc) else {
+        return Err(AllocError);
+    };
+    let Ok(high) = bounds.high.cut(alloc) else {
+        return Err(AllocError);
+    };
+    match Range::of(low, high) {
         Some(range) => Ok(range),
         None => unreachable!(),
     }

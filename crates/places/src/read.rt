@@ -1,6 +1,6 @@
 // The version before which the cut of a place stands, from its number.
 
-ghost use Rattle.std.specs.Prelude.{◌≡◌, ◌++◌, ◌<◌, ◌≤◌, ◌^◌, ◌%◌, take, IfErr, IfOk, OnErr, OnOk};
+ghost use Rattle.std.specs.Prelude.{◌≡◌, ◌++◌, ◌<◌, ◌≤◌, ◌^◌, ◌%◌, take, IfOk, OnErr, OnOk};
 ghost use Rattle.pep_version.specs.Text.{normal_text, public_version};
 ghost use Rattle.pep_version.specs.Order.{short_release};
 ghost use Rattle.places.specs.Place.{
@@ -14,9 +14,8 @@ ghost use Rattle.places.specs.Place.{
 ghost use Rattle.texts.specs.TextOut.{Extends};
 
 use crate::word::{DIGIT, NUMBER};
-use pep_clause::ClauseFault;
 use pep_version::{Phase, Version, put_public};
-use std::alloc::Global;
+use std::alloc::{AllocError, Global};
 use texts::TextOut;
 
 // The pre-release of a stage.
@@ -115,10 +114,9 @@ fn parts_at(word: u128) -> Parts
     }
 }
 
-/// The version with the release and the suffixes of the word. The only fault is `NoMemory`.
-pub(crate) fn version_at(alloc: Global, word: u128) -> Result<Version, ClauseFault>
-    ensures version { IfOk result (λ v. v ≡ version_at word) }
-    ensures faults { IfErr result (λ e. e ≡ ClauseFault.NoMemory) }
+/// The version with the release and the suffixes of the word.
+pub(crate) fn version_at(alloc: Global, word: u128) -> Result<Version, AllocError>
+    ensures { IfOk result (λ v. v ≡ version_at word) }
 {
     let parts = parts_at(word);
     let release = Vec::from_slice(alloc, &parts.numbers[..parts.count])?;

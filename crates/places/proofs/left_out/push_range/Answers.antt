@@ -5,11 +5,11 @@ use Rattle.places.specs.Way.LeftOut.{spans}
 use Rattle.places.proofs.LeftOver.{one_span}
 use Rattle.places.proofs.left_out.push_range.Goals as goal
 
-pub returns-in_ok-push-clause-ranges : goal.returns-in_ok-push-clause-ranges
-returns-in_ok-push-clause-ranges c =
+pub returns-in_ok-push : goal.returns-in_ok-push
+returns-in_ok-push c =
     let a = c.args in
     let less : cut_cmp a.low a.high ≡ Less = search rules in
     ap spans c.in_ok-push.ensures.items ∙ one_span a.ranges.now.items a.low a.high less
 
-pub returns-else-eq-clause-ranges : goal.returns-else-eq-clause-ranges
-returns-else-eq-clause-ranges c = search rules
+pub returns-else-eq : goal.returns-else-eq
+returns-else-eq c = search rules

@@ -22,15 +22,15 @@ parts-preserved c =
       swept-next c.args.low (all_parts c.args.singles.items c.args.parts.items)
           (all_parts c.parts.places.items c.parts.left.items) (all_parts others rest) (spans c.parts.ranges.items)
           (spans c.push_range.new.ranges.items) c.parts.from c.later-from.result c.in-Some.part c.parts.invariant.0
-          taken.points taken.part taken.first c.in_ok-push_range.ensures.ranges c.later-from.ensures,
+          taken.points taken.part taken.first c.in_ok-push_range.ensures c.later-from.ensures,
       taken.left,
     )
 
-pub returns-clause-ranges : goal.returns-clause-ranges
-returns-clause-ranges c =
+pub returns : goal.returns
+returns c =
     swept-whole c.args.low (all_parts c.args.singles.items c.args.parts.items)
     (all_parts c.parts.places.items c.parts.left.items) (spans c.parts.ranges.items)
     (spans c.push_range-2.new.ranges.items) c.parts.from c.requires.low
     (all_are c.args.singles.items c.args.parts.items c.requires.falling.singles_are c.requires.falling.parts_are)
     c.parts.invariant.0 (search rules)
-    (c.in_ok-push_range-2.ensures.ranges ∙ (λ i. spans c.parts.ranges.items ++ range c.parts.from (c.end.ensures.end i)))
+    (c.in_ok-push_range-2.ensures ∙ (λ i. spans c.parts.ranges.items ++ range c.parts.from (c.end.ensures.end i)))

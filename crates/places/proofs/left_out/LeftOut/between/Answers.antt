@@ -24,7 +24,7 @@ of-requires c =
     let singles = c.order_singles.new.singles.items in
     let parts = c.sort_falling.new.parts.items in
     let are = All-permutation IsPart _ _ c.sort_falling.ensures.permutation c.in_ok-parts.ensures.parts in
-    rw c.in_ok-ranges.ensures.ranges (IsNormal-joined (range b.low end) (left_over (all_parts singles parts))
+    rw c.in_ok-ranges.ensures (IsNormal-joined (range b.low end) (left_over (all_parts singles parts))
     (IsNormal-range b.low end c.cmp.ensures.spelled tt) (all_normal singles parts c.order_singles.ensures.singles are))
 
 pub returns-clause-ranges : goal.returns-clause-ranges
@@ -42,5 +42,5 @@ returns-clause-ranges c =
     (all_are singles parts c.order_singles.ensures.singles are)
     (more-rest own_singles singles own.parts.items parts (lies_between b.high end) c.in_ok-order_singles.ensures.points
     (λ x. permuted _ parts c.sort_falling.ensures.permutation x ∙ c.in_ok-parts.ensures.points x))
-    c.in_ok-ranges.ensures.ranges
+    c.in_ok-ranges.ensures
     ∙ ap (joined (range b.low b.high)) c.self.view_is

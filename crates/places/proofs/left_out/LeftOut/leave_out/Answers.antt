@@ -1,7 +1,7 @@
-use Rattle.std.proofs.Common.{◌≡◌, ◌&&◌, refl, rules, subst, sym}
-use Rattle.std.specs.Prelude.{◌≢◌, OnOk}
+use Rattle.std.proofs.Common.{◌&&◌, ◌∙◌, refl, rules, subst, sym}
+use Rattle.std.specs.Prelude.{◌≢◌}
 use Rattle.std.specs.declared.cmp.Ordering.TheVariants.{Less}
-use Rattle.pep_clause.specs.Cut.{Cut, cut_cmp}
+use Rattle.pep_clause.specs.Cut.{cut_cmp}
 use Rattle.pep_clause.specs.OperatorTable.{outside}
 use Rattle.pep_clause.specs.VersionSet.{IsNormal, is_point}
 use Rattle.places.proofs.LeftOver.{not_below, points-none}
@@ -21,8 +21,7 @@ returns-then-ne-clause-normal c =
     subst IsNormal c.self.view_is (all_normal own.singles.items own.parts.items are.0 are.1)
 
 pub returns-then-is_right_behind-clause-points : goal.returns-then-is_right_behind-clause-points
-returns-then-is_right_behind-clause-points c =
+returns-then-is_right_behind-clause-points c x =
     let b = c.args.bounds in
-    subst (λ high. OnOk c.leave_single.result ((x : Cut) → is_point c.leave_single.new.self x
-    ≡ (is_point c.args.self.now x && is_point (outside b.low high) x)))
-    (sym (c.if-is_right_behind.ensures.behind refl)) c.leave_single.ensures.points
+    c.in_ok-leave_single.ensures.points x
+    ∙ (λ i. is_point c.args.self.now x && is_point (outside b.low (sym (c.if-is_right_behind.ensures.behind refl) i)) x)
