@@ -1,6 +1,6 @@
 -- Which versions have the demanded texts of an entry.
 use Rattle.std.proofs.Common.{◌≡◌, ◌≢◌, ℕ, ◌<◌, ◌≤◌, List, [], ◌∷◌, length, refl, sym, ap, subst}
-use Rattle.std.proofs.Common.{◌∙◌, arith, map, Result, Ok, Err, IfOk, false, Bool}
+use Rattle.std.proofs.Common.{◌∙◌, arith, map, Result, Ok, Err, IfOk, Bool}
 use Rattle.std.proofs.lemmas.List.{length-map}
 use Rattle.std.specs.Prelude.{◌↔◌, IsTrue, slice_index_or}
 use Rattle.std.specs.List.{All}
@@ -81,24 +81,6 @@ none_has text NotAVersion ranges reads known has =
 none_has text NumberTooLarge ranges reads known has =
     reads.1 has.0 (spelled text has.0 has.1 has.2)
 none_has text NoMemory ranges reads known has = known refl
-
-no_answer : {E : Type 0} (text : List ℕ) (e : VersionFault) (ranges : List Range)
-    (r : Result Bool E) → Reads text (Err e) → e ≢ NoMemory → r ≡ Ok false →
-    IfOk r (λ b. IsTrue b ↔ HasVersionOfText ranges text)
-no_answer text e ranges r reads known same =
-    subst (λ q. IfOk q (λ b. IsTrue b ↔ HasVersionOfText ranges text)) (sym same)
-    ((λ t. cc t), λ has. absurd (none_has text e ranges reads known has))
-
--- the answer where the text is no version
-pub refused_has : {E : Type 0} (text : List ℕ) (e : VersionFault) (ranges : List Range)
-    (r : Result Bool E) (f : E) → Reads text (Err e) → (e ≡ NoMemory → r ≡ Err f) →
-    (e ≢ NoMemory → r ≡ Ok false) → IfOk r (λ b. IsTrue b ↔ HasVersionOfText ranges text)
-refused_has text NotAVersion ranges r f reads memory none =
-    no_answer text NotAVersion ranges r reads (λ e. cc e) (none (λ e. cc e))
-refused_has text NumberTooLarge ranges r f reads memory none =
-    no_answer text NumberTooLarge ranges r reads (λ e. cc e) (none (λ e. cc e))
-refused_has text NoMemory ranges r f reads memory none =
-    subst (λ q. IfOk q (λ b. IsTrue b ↔ HasVersionOfText ranges text)) (sym (memory refl)) tt
 
 -- ---- answers that are the same
 

@@ -1,6 +1,6 @@
 //! What is kept of the versions of a package beside two places.
 
-ghost use Rattle.std.specs.Prelude.{◌≡◌, IfErr, IfOk, IsTrue, OnOk};
+ghost use Rattle.std.specs.Prelude.{◌≡◌, IfOk, IsTrue, OnOk};
 ghost use Rattle.pep_clause.specs.Cut.{end, least};
 ghost use Rattle.pep_clause.specs.Way.Joined.{joined};
 ghost use Rattle.pep_clause.specs.OperatorTable.{outside, range};
@@ -8,12 +8,11 @@ ghost use Rattle.pep_clause.specs.VersionSet.{IsNormal, all_versions};
 ghost use Rattle.demands.specs.Way.Finished.{kept_ranges};
 ghost use Rattle.demands.specs.Join.{IsIntersection};
 
-use crate::fault::TableFault;
 use crate::kept_ranges::{KeptRanges, set_of};
 use crate::partial_joins::{common, joined_of, narrow};
 use pep_clause::VersionSet;
 use places::{Bounds, LeftOut, Place, PlaceRanges};
-use std::alloc::Global;
+use std::alloc::{AllocError, Global};
 use std::marker::Model;
 
 /// Versions that are left out between two places at a time, and sets, in each of which a version has to be. Clauses
@@ -38,14 +37,10 @@ impl Model for Beside {
 }
 
 // The versions between two places that are left over.
-fn left_between(alloc: Global, left_out: LeftOut, bounds: Bounds) -> Result<PlaceRanges, TableFault>
-    ensures ranges { IfOk result (λ r. r ≡ joined (range bounds.low bounds.high) left_out) }
-    ensures faults { IfErr result (λ e. e ≡ TableFault.NoMemory) }
+fn left_between(alloc: Global, left_out: LeftOut, bounds: Bounds) -> Result<PlaceRanges, AllocError>
+    ensures { IfOk result (λ r. r ≡ joined (range bounds.low bounds.high) left_out) }
 {
-    match left_out.between(alloc, bounds) {
-        Ok(ranges) => Ok(ranges),
-        Err(_) => Err(TableFault::NoMemory),
-    }
+    left_out.between(alloc, bounds).map_err(|_| AllocError)
 }
 
 // Whether the two places bound nothing.
@@ -67,32 +62,29 @@ impl Beside {
         }
     }
 
-    /// Keeps the versions that don't lie between the bounds. The only fault is `NoMemory`.
-    pub(crate) fn leave_out(&mut self, alloc: Global, bounds: Bounds) -> Result<(), TableFault>
+    /// Keeps the versions that don't lie between the bounds.
+    pub(crate) fn leave_out(&mut self, alloc: Global, bounds: Bounds) -> Result<(), AllocError>
         ensures ok { OnOk result (IsIntersection self.old (outside bounds.low bounds.high) self.new) }
         ensures normal { IsNormal self.new }
-        ensures faults { IfErr result (λ e. e ≡ TableFault.NoMemory) }
     {
         let Ok(()) = self.left_out.leave_out(alloc, bounds) else {
-            return Err(TableFault::NoMemory);
+            return Err(AllocError);
         };
         Ok(())
     }
 
-    /// Keeps the versions that are in the set too, which is used up. The only fault is `NoMemory`.
-    pub(crate) fn meet(&mut self, alloc: Global, others: VersionSet) -> Result<(), TableFault>
+    /// Keeps the versions that are in the set too, which is used up.
+    pub(crate) fn meet(&mut self, alloc: Global, others: VersionSet) -> Result<(), AllocError>
         ensures ok { OnOk result (IsIntersection self.old others self.new) }
         ensures normal { IsNormal self.new }
-        ensures faults { IfErr result (λ e. e ≡ TableFault.NoMemory) }
     {
         narrow(alloc, &mut self.sets, others)
     }
 
-    /// The versions between two places that are kept. The only fault is `NoMemory`.
-    pub(crate) fn between(self, alloc: Global, bounds: Bounds) -> Result<KeptRanges, TableFault>
-        ensures ranges { IfOk result (λ k. kept_ranges k
+    /// The versions between two places that are kept.
+    pub(crate) fn between(self, alloc: Global, bounds: Bounds) -> Result<KeptRanges, AllocError>
+        ensures { IfOk result (λ k. kept_ranges k
             ≡ joined (range bounds.low bounds.high) self) }
-        ensures faults { IfErr result (λ e. e ≡ TableFault.NoMemory) }
     {
         // Its clauses tell that both cuts are in their one spelling.
         let _ = bounds.low.cmp(&bounds.high);

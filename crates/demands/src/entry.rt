@@ -8,7 +8,7 @@ use crate::join::Join;
 use crate::sorted::Sorted;
 use pep_clause::VersionSet;
 use pep_marker::Name;
-use std::alloc::Global;
+use std::alloc::{AllocError, Global};
 use std::marker::Model;
 
 /// What is demanded of one package: its extras, the texts of the URLs to take it from, the texts
@@ -161,12 +161,8 @@ impl Join for Entry {
 pub(crate) fn versions_copied(
     alloc: Global,
     versions: &VersionSet,
-) -> Result<VersionSet, TableFault>
-    ensures same { IfOk result (λ s. s ≡ versions.now) }
-    ensures faults { IfErr result (λ e. e ≡ TableFault.NoMemory) }
+) -> Result<VersionSet, AllocError>
+    ensures { IfOk result (λ s. s ≡ versions.now) }
 {
-    match versions.copied(alloc) {
-        Ok(versions) => Ok(versions),
-        Err(_) => Err(TableFault::NoMemory),
-    }
+    versions.copied(alloc).map_err(|_| AllocError)
 }

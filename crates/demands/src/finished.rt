@@ -10,7 +10,7 @@ use crate::fault::TableFault;
 use crate::kept_ranges::KeptRanges;
 use crate::others::OtherTexts;
 use crate::verdict::{Verdict, has_version};
-use std::alloc::Global;
+use std::alloc::{AllocError, Global};
 use std::marker::Model;
 
 /// What is demanded of one package in all, as it is printed: no list of an entry is made for it. Clauses see the entry.
@@ -76,11 +76,10 @@ impl Finished {
     }
 
     // The verdict by the demanded texts, where there is no conflict and some version in the ranges.
-    fn text_verdict(&self, alloc: Global) -> Result<Verdict, TableFault>
+    fn text_verdict(&self, alloc: Global) -> Result<Verdict, AllocError>
         requires few { length self.now.urls < 2 }
         requires some { self.now.versions ≢ [] }
         ensures entry { IfOk result (IsEntryVerdict self.now) }
-        ensures faults { IfErr result (λ e. e ≡ TableFault.NoMemory) }
         ensures plain { self.now.texts ≡ [] → IsOk result }
     {
         let Some(others) = &self.others else {
@@ -95,12 +94,11 @@ impl Finished {
     }
 
     // The same where this text alone is demanded.
-    fn one_text_verdict(&self, alloc: Global, text: &str) -> Result<Verdict, TableFault>
+    fn one_text_verdict(&self, alloc: Global, text: &str) -> Result<Verdict, AllocError>
         requires few { length self.now.urls < 2 }
         requires some { self.now.versions ≢ [] }
         requires one { self.now.texts ≡ text.now ∷ [] }
-        ensures entry { IfOk result (IsEntryVerdict self.now) }
-        ensures faults { IfErr result (λ e. e ≡ TableFault.NoMemory) }
+        ensures { IfOk result (IsEntryVerdict self.now) }
     {
         if has_version(alloc, text, &self.versions.set(alloc)?)? {
             Ok(Verdict::Possible)
@@ -122,6 +120,6 @@ impl Finished {
         if self.versions.is_empty() {
             return Ok(Verdict::Nothing);
         }
-        self.text_verdict(alloc)
+        Ok(self.text_verdict(alloc)?)
     }
 }

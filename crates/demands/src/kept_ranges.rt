@@ -1,14 +1,13 @@
 // The versions that are kept of a package, in the form that holds them.
 
-ghost use Rattle.std.specs.Prelude.{◌≡◌, ◌↔◌, [], IfErr, IfOk, IsTrue};
+ghost use Rattle.std.specs.Prelude.{◌≡◌, ◌↔◌, [], IfOk, IsTrue};
 ghost use Rattle.pep_clause.specs.OperatorTable.{range};
 ghost use Rattle.demands.specs.Way.Finished.{kept_ranges};
 
 use crate::entry::versions_copied;
-use crate::fault::TableFault;
 use pep_clause::{Range, VersionSet};
 use places::{Bounds, PlaceRanges};
-use std::alloc::Global;
+use std::alloc::{AllocError, Global};
 use std::cmp::Ordering;
 
 /// The versions that are kept, in the form that holds them. Public for the crate of tables.
@@ -23,12 +22,11 @@ pub enum KeptRanges {
 }
 
 // The set of the versions between two places.
-fn set_between(alloc: Global, bounds: Bounds) -> Result<VersionSet, TableFault>
-    ensures range { IfOk result (λ s. s ≡ range bounds.low bounds.high) }
-    ensures faults { IfErr result (λ e. e ≡ TableFault.NoMemory) }
+fn set_between(alloc: Global, bounds: Bounds) -> Result<VersionSet, AllocError>
+    ensures { IfOk result (λ s. s ≡ range bounds.low bounds.high) }
 {
     let (Ok(low), Ok(high)) = (bounds.low.cut(alloc), bounds.high.cut(alloc)) else {
-        return Err(TableFault::NoMemory);
+        return Err(AllocError);
     };
     let Some(range) = Range::of(low, high) else {
         return Ok(VersionSet::none(alloc));
@@ -39,15 +37,11 @@ fn set_between(alloc: Global, bounds: Bounds) -> Result<VersionSet, TableFault>
     }
 }
 
-/// The versions in some ranges between places as a set. The only fault is `NoMemory`.
-pub(crate) fn set_of(alloc: Global, ranges: &PlaceRanges) -> Result<VersionSet, TableFault>
-    ensures same { IfOk result (λ s. s ≡ ranges.now) }
-    ensures faults { IfErr result (λ e. e ≡ TableFault.NoMemory) }
+/// The versions in some ranges between places as a set.
+pub(crate) fn set_of(alloc: Global, ranges: &PlaceRanges) -> Result<VersionSet, AllocError>
+    ensures { IfOk result (λ s. s ≡ ranges.now) }
 {
-    match ranges.to_set(alloc) {
-        Ok(versions) => Ok(versions),
-        Err(_) => Err(TableFault::NoMemory),
-    }
+    ranges.to_set(alloc).map_err(|_| AllocError)
 }
 
 impl KeptRanges {
@@ -62,10 +56,9 @@ impl KeptRanges {
         }
     }
 
-    /// The versions as a set. The only fault is `NoMemory`.
-    pub(crate) fn into_set(self, alloc: Global) -> Result<VersionSet, TableFault>
-        ensures same { IfOk result (λ s. s ≡ kept_ranges self) }
-        ensures faults { IfErr result (λ e. e ≡ TableFault.NoMemory) }
+    /// The versions as a set.
+    pub(crate) fn into_set(self, alloc: Global) -> Result<VersionSet, AllocError>
+        ensures { IfOk result (λ s. s ≡ kept_ranges self) }
     {
         match self {
             KeptRanges::Bounded(bounds) => set_between(alloc, bounds),
@@ -74,10 +67,9 @@ impl KeptRanges {
         }
     }
 
-    /// A set of the same versions. The only fault is `NoMemory`.
-    pub(crate) fn set(&self, alloc: Global) -> Result<VersionSet, TableFault>
-        ensures same { IfOk result (λ s. s ≡ kept_ranges self.now) }
-        ensures faults { IfErr result (λ e. e ≡ TableFault.NoMemory) }
+    /// A set of the same versions.
+    pub(crate) fn set(&self, alloc: Global) -> Result<VersionSet, AllocError>
+        ensures { IfOk result (λ s. s ≡ kept_ranges self.now) }
     {
         match self {
             KeptRanges::Bounded(bounds) => set_between(alloc, *bounds),

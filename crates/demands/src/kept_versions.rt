@@ -1,6 +1,6 @@
 //! The versions that are demanded of a package so far.
 
-ghost use Rattle.std.specs.Prelude.{◌≡◌, ◌++◌, ◌∷◌, [], All, IfErr, IfOk, List, OnOk, map, option_map};
+ghost use Rattle.std.specs.Prelude.{◌≡◌, ◌++◌, ◌∷◌, [], All, IfOk, List, OnOk, map, option_map};
 ghost use Rattle.specifiers.specs.Valid.{IsValidClause};
 ghost use Rattle.pep_clause.specs.Cut.{IsCut};
 ghost use Rattle.pep_clause.specs.OperatorTable.{outside, range, set_of};
@@ -13,13 +13,12 @@ ghost use Rattle.demands.specs.Way.LineSets.{left_by};
 ghost use Rattle.demands.specs.Way.PartialJoins.{beside_versions, joined_sets};
 
 use crate::beside::Beside;
-use crate::fault::TableFault;
 use crate::kept_ranges::KeptRanges;
 use crate::line_demands::LineDemands;
 use pep_clause::{Clause, VersionSet};
 use pep_require::Target;
 use places::{Bounds, Place};
-use std::alloc::Global;
+use std::alloc::{AllocError, Global};
 use std::marker::Model;
 
 /// The versions between two places, which move inwards clause by clause, that are kept beside them too: what `!=`
@@ -47,9 +46,8 @@ impl Model for KeptVersions {
 }
 
 // What is kept beside two places: all versions, where there was nothing.
-fn taken(alloc: Global, beside: Option<Box<Beside>>) -> Result<Box<Beside>, TableFault>
-    ensures same { IfOk result (λ b. b.value ≡ beside_versions (option_map (λ b. b.value) beside)) }
-    ensures faults { IfErr result (λ e. e ≡ TableFault.NoMemory) }
+fn taken(alloc: Global, beside: Option<Box<Beside>>) -> Result<Box<Beside>, AllocError>
+    ensures { IfOk result (λ b. b.value ≡ beside_versions (option_map (λ b. b.value) beside)) }
 {
     match beside {
         Some(kept) => Ok(kept),
@@ -80,15 +78,14 @@ impl KeptVersions {
     }
 
     /// Keeps the versions that a line demands too, whose sets are moved. Where the line leaves none out, and each of
-    /// its clauses has places, nothing is allocated. The only fault is `NoMemory`.
+    /// its clauses has places, nothing is allocated.
     #[inline(always)]
     pub(crate) fn meet_line(
         &mut self,
         alloc: Global,
         line: &mut LineDemands,
-    ) -> Result<(), TableFault>
-        ensures ok { OnOk result (IsIntersection self.old line.old.versions self.new) }
-        ensures faults { IfErr result (λ e. e ≡ TableFault.NoMemory) }
+    ) -> Result<(), AllocError>
+        ensures { OnOk result (IsIntersection self.old line.old.versions self.new) }
     {
         self.narrow_to(line.bounds);
         self.leave_out_all(alloc, line.left_out.as_slice())?;
@@ -96,10 +93,9 @@ impl KeptVersions {
     }
 
     // Keeps the versions that lie between none of these places.
-    fn leave_out_all(&mut self, alloc: Global, left_out: &[Bounds]) -> Result<(), TableFault>
-        ensures ok { OnOk result
+    fn leave_out_all(&mut self, alloc: Global, left_out: &[Bounds]) -> Result<(), AllocError>
+        ensures { OnOk result
             (IsIntersection self.old (joined_sets (map left_by left_out.now)) self.new) }
-        ensures faults { IfErr result (λ e. e ≡ TableFault.NoMemory) }
     {
         // Where a field is read, the invariant is at hand.
         let _ = &self.low;
@@ -111,10 +107,9 @@ impl KeptVersions {
 
     // Keeps the versions that are in all these sets, which are moved: some may be left where that fails.
     #[inline(always)]
-    fn meet_all(&mut self, alloc: Global, sets: &mut Vec<VersionSet>) -> Result<(), TableFault>
+    fn meet_all(&mut self, alloc: Global, sets: &mut Vec<VersionSet>) -> Result<(), AllocError>
         ensures ok { OnOk result (IsIntersection self.old (joined_sets sets.old.items) self.new) }
         ensures fewer { (moved : List (List Range)) × (sets.old.items ≡ sets.new.items ++ moved) }
-        ensures faults { IfErr result (λ e. e ≡ TableFault.NoMemory) }
     {
         // Where a field is read, the invariant is at hand.
         let _ = &self.low;
@@ -124,10 +119,9 @@ impl KeptVersions {
         Ok(())
     }
 
-    /// Keeps the versions that are in the set too, which is used up. The only fault is `NoMemory`.
-    pub(crate) fn meet(&mut self, alloc: Global, others: VersionSet) -> Result<(), TableFault>
-        ensures ok { OnOk result (IsIntersection self.old others self.new) }
-        ensures faults { IfErr result (λ e. e ≡ TableFault.NoMemory) }
+    /// Keeps the versions that are in the set too, which is used up.
+    pub(crate) fn meet(&mut self, alloc: Global, others: VersionSet) -> Result<(), AllocError>
+        ensures { OnOk result (IsIntersection self.old others self.new) }
     {
         let mut beside = taken(alloc, self.beside.take())?;
         beside.meet(alloc, others)?;
@@ -136,9 +130,8 @@ impl KeptVersions {
     }
 
     // Keeps the versions that don't lie between the bounds.
-    fn leave_out(&mut self, alloc: Global, bounds: Bounds) -> Result<(), TableFault>
-        ensures ok { OnOk result (IsIntersection self.old (outside bounds.low bounds.high) self.new) }
-        ensures faults { IfErr result (λ e. e ≡ TableFault.NoMemory) }
+    fn leave_out(&mut self, alloc: Global, bounds: Bounds) -> Result<(), AllocError>
+        ensures { OnOk result (IsIntersection self.old (outside bounds.low bounds.high) self.new) }
     {
         let mut beside = taken(alloc, self.beside.take())?;
         beside.leave_out(alloc, bounds)?;
@@ -147,21 +140,17 @@ impl KeptVersions {
     }
 
     // Keeps the versions in the set of the clause.
-    fn meet_set_of(&mut self, alloc: Global, clause: &Clause) -> Result<(), TableFault>
-        ensures ok { OnOk result (IsIntersection self.old (set_of clause.now) self.new) }
-        ensures faults { IfErr result (λ e. e ≡ TableFault.NoMemory) }
+    fn meet_set_of(&mut self, alloc: Global, clause: &Clause) -> Result<(), AllocError>
+        ensures { OnOk result (IsIntersection self.old (set_of clause.now) self.new) }
     {
-        match VersionSet::of(alloc, clause) {
-            Ok(admitted) => self.meet(alloc, admitted),
-            Err(_) => Err(TableFault::NoMemory),
-        }
+        let admitted = VersionSet::of(alloc, clause).map_err(|_| AllocError)?;
+        self.meet(alloc, admitted)
     }
 
     // Keeps the versions that the clause admits. A clause that demands a text admits all of them here.
-    fn meet_clause(&mut self, alloc: Global, clause: &Clause) -> Result<(), TableFault>
+    fn meet_clause(&mut self, alloc: Global, clause: &Clause) -> Result<(), AllocError>
         ensures ok { OnOk result (MeetsClauses self.old (clause.now ∷ []) self.new) }
         ensures valid { IsValidClause clause.now }
-        ensures faults { IfErr result (λ e. e ≡ TableFault.NoMemory) }
     {
         // Its clause tells that the clause is valid.
         let _ = clause.op();
@@ -176,10 +165,9 @@ impl KeptVersions {
     }
 
     // Keeps the versions that all clauses admit.
-    fn meet_clauses(&mut self, alloc: Global, clauses: &[Clause]) -> Result<(), TableFault>
+    fn meet_clauses(&mut self, alloc: Global, clauses: &[Clause]) -> Result<(), AllocError>
         ensures ok { OnOk result (MeetsClauses self.old clauses.now self.new) }
         ensures valid { OnOk result (All IsValidClause clauses.now) }
-        ensures faults { IfErr result (λ e. e ≡ TableFault.NoMemory) }
     {
         // Where a field is read, the invariant is at hand.
         let _ = &self.low;
@@ -189,13 +177,12 @@ impl KeptVersions {
         Ok(())
     }
 
-    /// Keeps the versions that the target admits. The only fault is `NoMemory`.
-    pub(crate) fn meet_target(&mut self, alloc: Global, target: &Target) -> Result<(), TableFault>
+    /// Keeps the versions that the target admits.
+    pub(crate) fn meet_target(&mut self, alloc: Global, target: &Target) -> Result<(), AllocError>
         ensures ok { OnOk result (MeetsClauses self.old
             (target_clauses (target_parts target.now)) self.new) }
         ensures valid { OnOk result
             (All IsValidClause (target_clauses (target_parts target.now))) }
-        ensures faults { IfErr result (λ e. e ≡ TableFault.NoMemory) }
     {
         // Where a field is read, the invariant is at hand.
         let _ = &self.low;
@@ -205,10 +192,9 @@ impl KeptVersions {
         }
     }
 
-    /// The versions, in the form that holds them. The only fault is `NoMemory`.
-    pub(crate) fn finish(self, alloc: Global) -> Result<KeptRanges, TableFault>
-        ensures same { IfOk result (λ k. kept_ranges k ≡ self) }
-        ensures faults { IfErr result (λ e. e ≡ TableFault.NoMemory) }
+    /// The versions, in the form that holds them.
+    pub(crate) fn finish(self, alloc: Global) -> Result<KeptRanges, AllocError>
+        ensures { IfOk result (λ k. kept_ranges k ≡ self) }
     {
         let KeptVersions { low, high, beside } = self;
         let bounds = Bounds { low, high };

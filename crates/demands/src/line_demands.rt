@@ -20,8 +20,8 @@ use std::marker::Model;
 /// What the parts of one line so far demand of its package. It serves again for the next line, so that most lines
 /// allocate nothing. Clauses see the entry of it.
 ///
-/// A call that is refused leaves something that may stand in a table, and may have taken the part or not. So the line is
-/// cleared before it is used again.
+/// A call that is refused leaves something that may stand in a table, and may have taken the part or not. So the line
+/// is cleared before it is used again.
 #[derive(Drop)]
 pub struct LineDemands {
     pub(crate) bounds: Bounds,

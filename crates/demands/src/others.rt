@@ -1,6 +1,6 @@
 // What requirements demand of a package besides its versions.
 
-ghost use Rattle.std.specs.Prelude.{◌≡◌, ◌∷◌, [], All, IfErr, IfOk, IsTrue, OnErr, OnOk, false};
+ghost use Rattle.std.specs.Prelude.{◌≡◌, ◌∷◌, [], All, IfOk, IsTrue, OnErr, OnOk, false};
 ghost use Rattle.pep_require.specs.Requirement.{IsAscending};
 ghost use Rattle.pep_require.specs.View.{requirement_parts, target_parts};
 ghost use Rattle.demands.specs.Gathering.{bare_entry, target_clauses, target_urls, texts_of};
@@ -16,7 +16,6 @@ ghost use Rattle.demands.specs.Table.{IsValidEntry, is_url_text};
 
 use crate::collected::Collected;
 use crate::entry::Entry;
-use crate::fault::TableFault;
 use crate::sorted::Sorted;
 use pep_clause::{Clause, VersionSet};
 use pep_require::{Requirement, Target, UrlText};
@@ -281,11 +280,10 @@ impl OtherTexts {
         &self.texts
     }
 
-    /// The entry of these and of the versions. The only fault is `NoMemory`.
-    pub(crate) fn entry(&self, alloc: Global, versions: VersionSet) -> Result<Entry, TableFault>
+    /// The entry of these and of the versions.
+    pub(crate) fn entry(&self, alloc: Global, versions: VersionSet) -> Result<Entry, AllocError>
         requires { IsValidEntry (entry_with self.now versions) }
-        ensures same { IfOk result (λ e. e ≡ entry_with self.now versions) }
-        ensures faults { IfErr result (λ e. e ≡ TableFault.NoMemory) }
+        ensures { IfOk result (λ e. e ≡ entry_with self.now versions) }
     {
         Ok(Entry::of(
             Sorted::of_texts(alloc, &self.extras)?,

@@ -17,7 +17,7 @@ use crate::others::{OtherTexts, Others, demands_others};
 use crate::sorted::Sorted;
 use pep_clause::VersionSet;
 use pep_require::Requirement;
-use std::alloc::Global;
+use std::alloc::{AllocError, Global};
 use std::marker::Model;
 
 /// What requirements and entries so far demand of one package. Clauses see the entry of it.
@@ -43,10 +43,9 @@ fn take_others(
     alloc: Global,
     others: &mut Option<Box<Others>>,
     requirement: &Requirement,
-) -> Result<(), TableFault>
-    ensures taken { OnOk result (TakesOthers (kept_others (option_map (λ b. b.value) others.old))
+) -> Result<(), AllocError>
+    ensures { OnOk result (TakesOthers (kept_others (option_map (λ b. b.value) others.old))
         (requirement_parts requirement.now) (kept_others (option_map (λ b. b.value) others.new))) }
-    ensures faults { IfErr result (λ e. e ≡ TableFault.NoMemory) }
 {
     let mut kept = match others.take() {
         Some(kept) => kept,
@@ -63,11 +62,10 @@ fn join_others(
     alloc: Global,
     others: &mut Option<Box<Others>>,
     entry: &Entry,
-) -> Result<(), TableFault>
-    ensures joined { OnOk result (JoinsOthers
+) -> Result<(), AllocError>
+    ensures { OnOk result (JoinsOthers
         (kept_others (option_map (λ b. b.value) others.old)) entry.now
         (kept_others (option_map (λ b. b.value) others.new))) }
-    ensures faults { IfErr result (λ e. e ≡ TableFault.NoMemory) }
 {
     let mut kept = match others.take() {
         Some(kept) => kept,
@@ -84,11 +82,10 @@ fn join_line(
     alloc: Global,
     others: &mut Option<Box<Others>>,
     line: &LineDemands,
-) -> Result<(), TableFault>
-    ensures joined { OnOk result (JoinsOthers
+) -> Result<(), AllocError>
+    ensures { OnOk result (JoinsOthers
         (kept_others (option_map (λ b. b.value) others.old)) line.now
         (kept_others (option_map (λ b. b.value) others.new))) }
-    ensures faults { IfErr result (λ e. e ≡ TableFault.NoMemory) }
 {
     if line.others.is_none() {
         in_order(others);
@@ -131,10 +128,9 @@ fn entry_of(alloc: Global, versions: VersionSet) -> Entry
 fn finished_others(
     alloc: Global,
     others: Option<Box<Others>>,
-) -> Result<Option<Box<OtherTexts>>, TableFault>
-    ensures same { IfOk result (λ new. kept_others (option_map (λ b. b.value) new)
+) -> Result<Option<Box<OtherTexts>>, AllocError>
+    ensures { IfOk result (λ new. kept_others (option_map (λ b. b.value) new)
         ≡ kept_others (option_map (λ b. b.value) others)) }
-    ensures faults { IfErr result (λ e. e ≡ TableFault.NoMemory) }
 {
     let Some(others) = others else {
         return Ok(None);
@@ -165,7 +161,8 @@ impl PackageDemands {
         // Its clause tells that the name is in its normalized form.
         let _ = requirement.name().text();
         take_others(alloc, &mut self.others, requirement)?;
-        self.versions.meet_target(alloc, requirement.target())
+        self.versions.meet_target(alloc, requirement.target())?;
+        Ok(())
     }
 
     /// Takes what an entry demands, whose ranges are moved. The only fault is `NoMemory`, 42; what
@@ -178,7 +175,8 @@ impl PackageDemands {
         // Its clause tells that the entry is valid.
         let _ = entry.versions();
         join_others(alloc, &mut self.others, &entry)?;
-        self.versions.meet(alloc, entry.into_versions())
+        self.versions.meet(alloc, entry.into_versions())?;
+        Ok(())
     }
 
     /// Takes what a line demands, whose sets are moved: it may be anything until it is cleared. The only fault is
@@ -191,7 +189,8 @@ impl PackageDemands {
     {
         line.as_entry();
         join_line(alloc, &mut self.others, line)?;
-        self.versions.meet_line(alloc, line)
+        self.versions.meet_line(alloc, line)?;
+        Ok(())
     }
 
     /// What is gathered, which has to be an entry, as for `entry`. The only fault is `NoMemory`, 42.
@@ -216,7 +215,7 @@ impl PackageDemands {
         let PackageDemands { versions, others } = self;
         let versions = versions.finish(alloc)?.into_set(alloc)?;
         match finished_others(alloc, others)? {
-            Some(others) => others.entry(alloc, versions),
+            Some(others) => Ok(others.entry(alloc, versions)?),
             None => Ok(entry_of(alloc, versions)),
         }
     }

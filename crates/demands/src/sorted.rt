@@ -9,7 +9,7 @@ ghost use Rattle.demands.specs.Way.Collected.{collected_texts};
 use crate::fault::TableFault;
 use crate::join::Join;
 use pep_marker::Name;
-use std::alloc::Global;
+use std::alloc::{AllocError, Global};
 use std::marker::Model;
 use texts::Arena;
 
@@ -123,13 +123,12 @@ impl<T: Kept> Model for Sorted<T> {
 }
 
 // Puts copies of the values behind the others.
-fn push_copies<T: Kept>(alloc: Global, items: &mut Vec<T>, values: &[T]) -> Result<(), TableFault>
-    ensures pushed { OnOk result (map T.text items.new.items
+fn push_copies<T: Kept>(alloc: Global, items: &mut Vec<T>, values: &[T]) -> Result<(), AllocError>
+    ensures { OnOk result (map T.text items.new.items
         ≡ map T.text items.old.items ++ map T.text values.now) }
-    ensures faults { IfErr result (λ e. e ≡ TableFault.NoMemory) }
 {
     for value in values {
-        items.push(value.kept(alloc)?)?;
+        items.push(value.kept(alloc).map_err(|_| AllocError)?)?;
     }
     Ok(())
 }
@@ -161,16 +160,15 @@ impl<T: Kept> Sorted<T> {
         Sorted { items }
     }
 
-    /// The values with these texts, which are in order, each once. The only fault is `NoMemory`, 42.
-    pub(crate) fn of_texts(alloc: Global, texts: &Arena) -> Result<Self, TableFault>
+    /// The values with these texts, which are in order, each once.
+    pub(crate) fn of_texts(alloc: Global, texts: &Arena) -> Result<Self, AllocError>
         requires ascending { IsAscending texts.now }
         requires texts { All T.is_text texts.now }
-        ensures same { IfOk result (λ s. s ≡ texts.now) }
-        ensures faults { IfErr result (λ e. e ≡ TableFault.NoMemory) }
+        ensures { IfOk result (λ s. s ≡ texts.now) }
     {
         let mut items = Vec::with_capacity(alloc, texts.len())?;
         for i in 0..texts.len() {
-            items.push(T::of_text(alloc, texts.text(i))?)?;
+            items.push(T::of_text(alloc, texts.text(i)).map_err(|_| AllocError)?)?;
         }
         Ok(Sorted { items })
     }

@@ -8,8 +8,6 @@ ghost use Rattle.std.specs.Prelude.{
   ◌↔◌,
   ◌⊎◌,
   [],
-  Err,
-  Ok,
   false,
   IfErr,
   IfOk,
@@ -35,7 +33,7 @@ use crate::entry::Entry;
 use crate::fault::TableFault;
 use pep_clause::VersionSet;
 use pep_version::{Key, Version, VersionFault};
-use std::alloc::Global;
+use std::alloc::{AllocError, Global};
 
 /// Whether a package can be had at all, by the demands on it.
 #[derive(Clone, Copy, Debug, PartialEq, Eq)]
@@ -72,29 +70,18 @@ pub enum Answer {
     Conflict,
 }
 
-/// Whether a version in the set has this as its normal text. The only fault is `NoMemory`.
+/// Whether a version in the set has this as its normal text.
 pub(crate) fn has_version(
     alloc: Global,
     text: &str,
     versions: &VersionSet,
-) -> Result<bool, TableFault>
-    ensures found { IfOk result (λ b. IsTrue b ↔ HasVersionOfText versions.now text.now) }
-    ensures faults { IfErr result (λ e. e ≡ TableFault.NoMemory) }
+) -> Result<bool, AllocError>
+    ensures { IfOk result (λ b. IsTrue b ↔ HasVersionOfText versions.now text.now) }
 {
     match Version::read(alloc, text) {
         Ok(version) => has_text(alloc, &version, text, versions),
-        Err(fault) => no_version(fault),
-    }
-}
-
-// There is no version, unless memory was wanting.
-fn no_version(fault: VersionFault) -> Result<bool, TableFault>
-    ensures memory { fault ≡ VersionFault.NoMemory → result ≡ Err TableFault.NoMemory }
-    ensures none { fault ≢ VersionFault.NoMemory → result ≡ Ok false }
-{
-    match fault {
-        VersionFault::NoMemory => Err(TableFault::NoMemory),
-        _ => Ok(false),
+        Err(VersionFault::NoMemory) => Err(AllocError),
+        Err(_) => Ok(false),
     }
 }
 
@@ -104,13 +91,12 @@ fn has_text(
     version: &Version,
     text: &str,
     versions: &VersionSet,
-) -> Result<bool, TableFault>
-    ensures both { IfOk result (λ b. IsTrue b
+) -> Result<bool, AllocError>
+    ensures { IfOk result (λ b. IsTrue b
         ↔ ((normal_text version.now ≡ text.now) × In versions.now version.now)) }
-    ensures faults { IfErr result (λ e. e ≡ TableFault.NoMemory) }
 {
     let Ok(normal) = version.text(alloc) else {
-        return Err(TableFault::NoMemory);
+        return Err(AllocError);
     };
     if normal.as_str() != text {
         return Ok(false);
@@ -119,13 +105,12 @@ fn has_text(
 }
 
 // Whether the version is in the set.
-fn is_in(alloc: Global, version: &Version, versions: &VersionSet) -> Result<bool, TableFault>
-    ensures in_set { IfOk result (λ b. b ≡ is_in versions.now version.now) }
-    ensures faults { IfErr result (λ e. e ≡ TableFault.NoMemory) }
+fn is_in(alloc: Global, version: &Version, versions: &VersionSet) -> Result<bool, AllocError>
+    ensures { IfOk result (λ b. b ≡ is_in versions.now version.now) }
 {
     match Key::of(alloc, version) {
         Ok(key) => Ok(versions.contains(&key)),
-        Err(_) => Err(TableFault::NoMemory),
+        Err(_) => Err(AllocError),
     }
 }
 
@@ -147,11 +132,10 @@ impl Entry {
     }
 
     // The verdict by the demanded texts, where there is no conflict and some version in the ranges.
-    fn text_verdict(&self, alloc: Global) -> Result<Verdict, TableFault>
+    fn text_verdict(&self, alloc: Global) -> Result<Verdict, AllocError>
         requires few { length self.now.urls < 2 }
         requires some { self.now.versions ≢ [] }
         ensures entry { IfOk result (IsEntryVerdict self.now) }
-        ensures faults { IfErr result (λ e. e ≡ TableFault.NoMemory) }
         ensures plain { self.now.texts ≡ [] → IsOk result }
     {
         match self.texts().items() {
@@ -183,13 +167,12 @@ impl Entry {
         if self.versions().is_empty() {
             return Ok(Verdict::Nothing);
         }
-        self.text_verdict(alloc)
+        Ok(self.text_verdict(alloc)?)
     }
 
     // Whether the version is in the ranges and has each demanded text as its normal text.
-    fn fits(&self, alloc: Global, version: &Version) -> Result<bool, TableFault>
-        ensures fits { IfOk result (λ b. IsTrue b ↔ FitsEntry self.now version.now) }
-        ensures faults { IfErr result (λ e. e ≡ TableFault.NoMemory) }
+    fn fits(&self, alloc: Global, version: &Version) -> Result<bool, AllocError>
+        ensures { IfOk result (λ b. IsTrue b ↔ FitsEntry self.now version.now) }
     {
         match self.texts().items() {
             [] => is_in(alloc, version, self.versions()),

@@ -12,10 +12,10 @@ pub sets-preserved : goal.sets-preserved
 sets-preserved c =
     joins_next (joined_sets c.args.sets.items) c.sets.left.items c.pop-in-sets.new.self.items
     c.in-Some-pop.next c.sets.all c.in_ok-all.all c.in-Some-pop.ensures.items c.sets.invariant
-    c.in_ok-all.ensures.ok
+    c.in_ok-all.ensures
 
-pub returns-clause-joined : goal.returns-clause-joined
-returns-clause-joined c =
+pub returns : goal.returns
+returns c =
     let none : length c.sets.left.items ≡ 0 = search rules in
     joined_whole (joined_sets c.args.sets.items) c.sets.all c.sets.left.items none
     (normal_sets c.args.sets.items c.requires) c.sets.invariant

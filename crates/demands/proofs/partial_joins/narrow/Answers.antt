@@ -12,7 +12,7 @@ pub sets-preserved-in-Some : goal.sets-preserved-in-Some
 sets-preserved-in-Some c =
     joins_next (joined (joined_sets c.args.sets.now.items) c.args.others) c.sets.sets.items
     c.pop.new.self.items c.in-Some.next c.sets.narrowed c.in_ok-narrowed.narrowed c.in-Some.ensures.items
-    c.sets.invariant c.in_ok-narrowed.ensures.ok
+    c.sets.invariant c.in_ok-narrowed.ensures
 
 pub returns-clause-ok : goal.returns-clause-ok
 returns-clause-ok c =

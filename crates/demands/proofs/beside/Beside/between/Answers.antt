@@ -9,36 +9,36 @@ use Rattle.demands.proofs.KeptVersions.{kept-both, kept-left, kept-unbounded, no
 use Rattle.demands.proofs.PartialJoins.{normal_sets}
 use Rattle.demands.proofs.beside.Beside.between.Goals as goal
 
-pub returns-then-is_empty-clause-ranges : goal.returns-then-is_empty-clause-ranges
-returns-then-is_empty-clause-ranges c =
+pub returns-then-is_empty : goal.returns-then-is_empty
+returns-then-is_empty c =
     let b = c.args.bounds in
     let left = c.self.inside.left_out in
     let sets = c.self.inside.sets.items in
     let none : length sets ≡ 0 = search rules in
-    kept-left b.low b.high left c.in_ok-left_between.field-0 c.self.invariant.0 c.in_ok-left_between.ensures.ranges
+    kept-left b.low b.high left c.in_ok-left_between.field-0 c.self.invariant.0 c.in_ok-left_between.ensures
     ∙ ap (λ s. joined (range b.low b.high) (joined left s)) (sym (no_sets sets none))
     ∙ ap (joined (range b.low b.high)) c.self.view_is
 
-pub returns-then-is_unbounded-clause-ranges : goal.returns-then-is_unbounded-clause-ranges
-returns-then-is_unbounded-clause-ranges c =
+pub returns-then-is_unbounded : goal.returns-then-is_unbounded
+returns-then-is_unbounded c =
     let b = c.args.bounds in
     let left = c.self.inside.left_out in
     let sets = c.self.inside.sets.items in
     let low : b.low ≡ least = search rules in
     let high : b.high ≡ end = search rules in
     let all : left ≡ all_versions = search rules in
-    c.in_ok-joined.ensures.joined
+    c.in_ok-joined.ensures
     ∙ kept-unbounded b.low b.high left (joined_sets sets) low high all (normal_sets sets c.self.invariant.1)
     ∙ ap (joined (range b.low b.high)) c.self.view_is
 
-pub returns-clause-ranges : goal.returns-clause-ranges
-returns-clause-ranges c =
+pub returns : goal.returns
+returns c =
     let b = c.args.bounds in
     let left = c.self.inside.left_out in
     let sets = c.self.inside.sets.items in
     let both : IsIntersection (joined_sets sets) c.in_ok-set_of.field-0 c.in_ok-both.both =
-    subst (λ s. IsIntersection s c.in_ok-set_of.field-0 c.in_ok-both.both) (c.joined.view_is ∙ c.in_ok-joined.ensures.joined) c.in_ok-both.ensures.ok in
+    subst (λ s. IsIntersection s c.in_ok-set_of.field-0 c.in_ok-both.both) (c.joined.view_is ∙ c.in_ok-joined.ensures) c.in_ok-both.ensures in
     kept-both b.low b.high left (joined_sets sets) c.in_ok-set_of.field-0 c.in_ok-both.both c.cmp.ensures.spelled
     c.cmp.ensures.other_spelled c.self.invariant.0 (normal_sets sets c.self.invariant.1)
-    (c.in_ok-set_of.ensures.same ∙ c.in_ok-ranges.ensures.ranges) both
+    (c.in_ok-set_of.ensures ∙ c.in_ok-ranges.ensures) both
     ∙ ap (joined (range b.low b.high)) c.self.view_is

@@ -31,6 +31,6 @@ returns-else-fits-clause-answer c =
       λ both. elim c.else-fits.branch [
         | else-fits-via-then-fits+else-is_wanted w ↦
             cc (sym w.if-is_wanted.false ∙ w.is_wanted.ensures.1 both.1)
-        | else-fits-via-else-fits w ↦ cc (sym w.if-fits.false ∙ c.in_ok-fits.ensures.fits.1 both.0)
+        | else-fits-via-else-fits w ↦ cc (sym w.if-fits.false ∙ c.in_ok-fits.ensures.1 both.0)
       ],
     )

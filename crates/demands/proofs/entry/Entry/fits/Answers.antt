@@ -6,8 +6,8 @@ use Rattle.demands.specs.Verdict.{FitsEntry}
 use Rattle.demands.proofs.EntryTexts.{fits_more, fits_one, more_texts, same_answer, single}
 use Rattle.demands.proofs.entry.Entry.fits.Goals as goal
 
-pub returns-in-len1-clause-fits : goal.returns-in-len1-clause-fits
-returns-in-len1-clause-fits c =
+pub returns-in-len1 : goal.returns-in-len1
+returns-in-len1 c =
     let e = c.args.self.now in
     let v = c.args.version.now in
     let text = c.text-item.result in
@@ -22,10 +22,10 @@ returns-in-len1-clause-fits c =
     (subst (λ r. ((normal_text v ≡ string_bytes text) × In r v) ↔ FitsEntry e v)
     (sym c.versions-in-len1.ensures.versions)
     (let both = fits_one e v (string_bytes text) one in (both.1, both.0))))
-    c.has_text.ensures.both
+    c.has_text.ensures
 
-pub returns-in_default-clause-fits : goal.returns-in_default-clause-fits
-returns-in_default-clause-fits c =
+pub returns-in_default : goal.returns-in_default
+returns-in_default c =
     let e = c.args.self.now in
     let more : 2 ≤ length e.texts = more_texts (λ x. string_bytes x) c.items.result.now e.texts
     (c.items.ensures.texts ∙ c.texts.ensures.texts) c.in_default.len_at_least in (

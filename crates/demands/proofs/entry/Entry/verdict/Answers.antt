@@ -1,7 +1,4 @@
 use Rattle.std.proofs.Common.{rules}
-use Rattle.std.proofs.lemmas.Result.{IfOk-weaker}
-use Rattle.demands.specs.Table.{EntryDemands}
-use Rattle.demands.specs.Verdict.{IsEntryVerdict, IsVerdict}
 use Rattle.demands.specs.declared.verdict.Verdict.TheVariants.{Conflict, Nothing}
 use Rattle.demands.proofs.Verdicts.{verdict_of_entry}
 use Rattle.demands.proofs.entry.Entry.verdict.Goals as goal
@@ -16,7 +13,5 @@ returns-then-is_empty-clause-demands c =
 
 pub returns-clause-demands : goal.returns-clause-demands
 returns-clause-demands c =
-    IfOk-weaker c.text_verdict.result (IsEntryVerdict c.args.self.now)
-    (IsVerdict (EntryDemands c.args.self.now))
-    (λ w shows. verdict_of_entry c.args.self.now w c.has_conflict.ensures.valid shows)
-    c.text_verdict.ensures.entry
+    verdict_of_entry c.args.self.now c.in_ok-text_verdict.field-0 c.has_conflict.ensures.valid
+    c.in_ok-text_verdict.ensures.entry

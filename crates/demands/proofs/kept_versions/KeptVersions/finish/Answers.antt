@@ -4,8 +4,8 @@ use Rattle.demands.specs.Way.PartialJoins.{beside_versions, kept_versions}
 use Rattle.demands.proofs.KeptVersions.{kept-bare}
 use Rattle.demands.proofs.kept_versions.KeptVersions.finish.Goals as goal
 
-pub returns-in-None-clause-same : goal.returns-in-None-clause-same
-returns-in-None-clause-same c =
+pub returns-in-None : goal.returns-in-None
+returns-in-None c =
     let i = c.self.inside in
     kept-bare i.low i.high c.self.invariant.low c.self.invariant.high
     ∙ (λ j. kept_versions i.low i.high (beside_versions (option_map (λ b. b.value) (sym c.in-None.is j))))

@@ -6,14 +6,14 @@ use Rattle.demands.specs.Way.PartialJoins.{beside_versions, kept_versions}
 use Rattle.demands.proofs.KeptVersions.{met-versions}
 use Rattle.demands.proofs.kept_versions.KeptVersions.leave_out.Goals as goal
 
-pub returns-clause-ok : goal.returns-clause-ok
-returns-clause-ok c =
+pub returns : goal.returns
+returns c =
     let i = c.self.inside in
     let t = (outside c.args.bounds.low c.args.bounds.high) in
     let new = c.leave_out.new.self in
     let old = beside_versions (option_map (λ b. b.value) i.beside) in
     let taken : c.deref_mut.result.now ≡ old =
-    c.deref_mut.ensures.value ∙ c.in_ok-beside.ensures.same
+    c.deref_mut.ensures.value ∙ c.in_ok-beside.ensures
     ∙ ap (λ b. beside_versions (option_map (λ x. x.value) b)) c.take.ensures.value in
     subst (λ whole. IsIntersection whole t (kept_versions i.low i.high new)) c.self.view_is
     (met-versions i.low i.high old new t c.self.invariant c.leave_out.ensures.normal

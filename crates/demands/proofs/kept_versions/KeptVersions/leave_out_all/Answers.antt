@@ -22,4 +22,4 @@ loop-bounds-preserved c =
     let b = c.bounds-item.result in
     let step = next_taken outs i b c.bounds-item.is (search rules) in
     meets_one_set _ _ _ (left_by b) (map left_by (take i outs)) (map left_by (take (i + 1) outs))
-    c.loop-bounds.invariant c.in_ok-leave_out.ensures.ok (ap (map left_by) step ∙ map_push left_by (take i outs) b)
+    c.loop-bounds.invariant c.in_ok-leave_out.ensures (ap (map left_by) step ∙ map_push left_by (take i outs) b)

@@ -8,13 +8,13 @@ use Rattle.demands.specs.Table.{EntryParts}
 use Rattle.demands.proofs.LineSets.{fewer_sets, meets_line}
 use Rattle.demands.proofs.kept_versions.KeptVersions.meet_line.Goals as goal
 
-pub returns-clause-ok : goal.returns-clause-ok
-returns-clause-ok c =
+pub returns : goal.returns
+returns c =
     let i = c.line.inside in
     let mid = c.leave_out_all.new.self in
     let new = c.meet_all.new.self in
     let left = subst (λ outs. IsIntersection c.narrow_to.new.self (joined_sets (map left_by outs)) mid)
-    c.as_slice.ensures.value c.in_ok-leave_out_all.ensures.ok in
+    c.as_slice.ensures.value c.in_ok-leave_out_all.ensures in
     on_ok_weaker c.meet_all.result
     (λ k. subst (λ (e : EntryParts). IsIntersection c.args.self.now e.versions new) c.line.view_is
     (meets_line c.args.self.now c.narrow_to.new.self mid new (range i.bounds.low i.bounds.high)
