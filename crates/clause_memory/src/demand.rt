@@ -1,13 +1,13 @@
 // What one clause demands.
 
-ghost use Rattle.std.specs.Prelude.{◌≡◌, IfErr, IfOk, IfSome};
+ghost use Rattle.std.specs.Prelude.{IfOk, IfSome};
 ghost use Rattle.demands.specs.Way.LineDemands.{DemandsRanges};
 ghost use Rattle.clause_memory.specs.Way.Demand.{KnowsDemand, demanded_ranges};
 
 use pep_clause::{Clause, Op};
 use pep_require::{RequireFault, clause_at};
 use places::Bounds;
-use std::alloc::Global;
+use std::alloc::{AllocError, Global};
 
 /// What a clause demands: a version between two places, or one outside of them.
 #[derive(Clone, Copy)]
@@ -31,14 +31,13 @@ pub(crate) fn demand_of(clause: &Clause) -> Option<Demand>
 }
 
 /// What the clause demands that the text is, white space round it apart. `None` where it is no clause, or one that
-/// demands a text, or versions without places. The only fault is `NoMemory`.
-pub(crate) fn demand_in(alloc: Global, text: &str) -> Result<Option<Demand>, RequireFault>
-    ensures read { IfOk result (KnowsDemand text.now) }
-    ensures faults { IfErr result (λ e. e ≡ RequireFault.NoMemory) }
+/// demands a text, or versions without places.
+pub(crate) fn demand_in(alloc: Global, text: &str) -> Result<Option<Demand>, AllocError>
+    ensures { IfOk result (KnowsDemand text.now) }
 {
     match clause_at(alloc, text) {
         Ok((clause, rest)) if rest.is_empty() => Ok(demand_of(&clause)),
-        Err(RequireFault::NoMemory) => Err(RequireFault::NoMemory),
+        Err(RequireFault::NoMemory) => Err(AllocError),
         _ => Ok(None),
     }
 }

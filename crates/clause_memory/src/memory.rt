@@ -1,12 +1,11 @@
 //! A memory of clauses by their texts.
 
-ghost use Rattle.std.specs.Prelude.{◌≡◌, IfErr, IfOk, IfSome, Some, length, take};
+ghost use Rattle.std.specs.Prelude.{◌≡◌, IfOk, IfSome, Some, length, take};
 ghost use Rattle.clause_memory.specs.Way.Demand.{IsRemembered, KnowsDemand, remembered_demand};
 
 use crate::demand::{Demand, demand_in};
-use pep_require::RequireFault;
 use places::{Bounds, Place};
-use std::alloc::Global;
+use std::alloc::{AllocError, Global};
 use std::marker::Model;
 use text_memory::{OfText, TextMemory};
 
@@ -118,14 +117,9 @@ impl ClauseMemory {
     }
 
     /// What the clause demands that the text is, white space round it apart. `None` where it is no clause, or one that
-    /// demands a text, or versions without places. The only fault is `NoMemory`.
-    pub(crate) fn demand(
-        &mut self,
-        alloc: Global,
-        text: &str,
-    ) -> Result<Option<Demand>, RequireFault>
-        ensures read { IfOk result (KnowsDemand text.now) }
-        ensures faults { IfErr result (λ e. e ≡ RequireFault.NoMemory) }
+    /// demands a text, or versions without places.
+    pub(crate) fn demand(&mut self, alloc: Global, text: &str) -> Result<Option<Demand>, AllocError>
+        ensures { IfOk result (KnowsDemand text.now) }
     {
         if text.len() > LONGEST {
             return demand_in(alloc, text);
@@ -144,9 +138,8 @@ impl ClauseMemory {
         alloc: Global,
         text: &str,
         found: &Option<Demand>,
-    ) -> Result<(), RequireFault>
+    ) -> Result<(), AllocError>
         requires { KnowsDemand text.now found.now }
-        ensures faults { IfErr result (λ e. e ≡ RequireFault.NoMemory) }
     {
         if let Some(kept) = Remembered::of(text.as_bytes(), found) {
             self.memory.put(alloc, kept)?;

@@ -15,7 +15,7 @@ use crate::text::text_at;
 use demands::LineDemands;
 use pep_clause::{Clause, VersionSet};
 use pep_require::{RequireFault, clause_at};
-use std::alloc::Global;
+use std::alloc::{AllocError, Global};
 
 // How many bytes stand before a `,`, a `;` or a `)`.
 fn piece_run(text: &[u8]) -> usize
@@ -32,45 +32,34 @@ pub(crate) fn goes_on(b: u8) -> bool
     b != b',' && b != b';' && b != b')'
 }
 
-// Keeps what a clause demands. The only fault is `NoMemory`.
-fn keep(demand: Demand, demands: &mut LineDemands) -> Result<(), RequireFault>
+// Keeps what a clause demands.
+fn keep(demand: Demand, demands: &mut LineDemands) -> Result<(), AllocError>
     requires { (c : Clause) × DemandsRanges c (demanded_ranges demand) }
-    ensures ok { OnOk result ((c : Clause) → DemandsRanges c (demanded_ranges demand)
+    ensures { OnOk result ((c : Clause) → DemandsRanges c (demanded_ranges demand)
         → AddsClause c demands.old demands.new) }
-    ensures faults { IfErr result (λ e. e ≡ RequireFault.NoMemory) }
 {
     if demand.outside {
-        demands.leave_out(demand.bounds)?;
-        return Ok(());
+        return demands.leave_out(demand.bounds);
     }
     demands.meet(demand.bounds);
     Ok(())
 }
 
-// Keeps what the clause demands, whatever it is. The only fault is `NoMemory`.
-fn keep_clause(
-    alloc: Global,
-    clause: &Clause,
-    demands: &mut LineDemands,
-) -> Result<(), RequireFault>
-    ensures ok { OnOk result (AddsClause clause.now demands.old demands.new) }
-    ensures faults { IfErr result (λ e. e ≡ RequireFault.NoMemory) }
+// Keeps what the clause demands, whatever it is.
+fn keep_clause(alloc: Global, clause: &Clause, demands: &mut LineDemands) -> Result<(), AllocError>
+    ensures { OnOk result (AddsClause clause.now demands.old demands.new) }
 {
     // Its clause tells that the clause is valid.
     let _ = clause.op();
     if let Some(text) = clause.exact_text() {
-        demands.put_text(text)?;
-        return Ok(());
+        return demands.put_text(text);
     }
     if let Some(demand) = demand_of(clause) {
         return keep(demand, demands);
     }
     match VersionSet::of(alloc, clause) {
-        Ok(versions) => {
-            demands.admit(versions)?;
-            Ok(())
-        }
-        Err(_) => Err(RequireFault::NoMemory),
+        Ok(versions) => demands.admit(versions),
+        Err(_) => Err(AllocError),
     }
 }
 

@@ -12,4 +12,4 @@ returns-in_ok-keep-in-Some-found-clause-taken c =
     let front = subst (λ o. IfSome o (λ d. DemandsFront x (demanded_ranges d) rest)) c.in-Some-found.is
     c.in-Some.ensures.demand in
     front_taken x rest c.args.demands.now c.keep.new.demands (demanded_ranges c.in-Some-found.demand) front
-    c.in_ok-keep-in-Some-found.ensures.ok
+    c.in_ok-keep-in-Some-found.ensures

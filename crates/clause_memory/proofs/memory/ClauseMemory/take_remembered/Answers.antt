@@ -15,8 +15,8 @@ returns-in_ok-keep-in-Some-clause-taken c =
     let x = c.args.text.now in
     let piece = c.split_at.result.0.now in
     let rest = c.split_at.result.1.now in
-    let known = subst (KnowsDemand piece) c.in-Some.is c.in_ok-found.ensures.read in
+    let known = subst (KnowsDemand piece) c.in-Some.is c.in_ok-found.ensures in
     front_taken x rest c.args.demands.now c.keep.new.demands (demanded_ranges c.in-Some.demand)
     (demand_here x piece rest c.piece_run.result (demanded_ranges c.in-Some.demand) (search rules)
     c.split_at.ensures.front c.split_at.ensures.back known)
-    c.in_ok-keep-in-Some.ensures.ok
+    c.in_ok-keep-in-Some.ensures
