@@ -16,7 +16,7 @@ use crate::text::header_of;
 use demands::{Entry, Kept, LineDemands, PackageDemands, TableFault};
 use pep_marker::{Environment, MarkerFault, Name};
 use pep_require::Requirement;
-use std::alloc::Global;
+use std::alloc::{AllocError, Global};
 use std::collections::BTreeMap;
 use std::marker::Model;
 
@@ -42,11 +42,10 @@ fn push_gathered(
     text: &mut String,
     name: Name,
     gathered: PackageDemands,
-) -> Result<(), TableFault>
+) -> Result<(), AllocError>
     requires { IsValidEntry gathered }
-    ensures ok { OnOk result ((verdict : Verdict) × Shows gathered verdict
+    ensures { OnOk result ((verdict : Verdict) × Shows gathered verdict
         × (string_bytes text.new ≡ string_bytes text.old ++ entry_text name verdict gathered)) }
-    ensures faults { IfErr result (λ e. e ≡ TableFault.NoMemory) }
 {
     let row = Row::of(alloc, name, gathered)?;
     row.put_text(text)?;
@@ -127,17 +126,18 @@ impl Gathering {
         alloc: Global,
         name: Name,
         entry: Entry,
-    ) -> Result<Gathering, TableFault>
-        ensures joined { IfOk result (λ new. JoinsTables self ((name, entry) ∷ []) new) }
-        ensures faults { IfErr result (λ e. e ≡ TableFault.NoMemory) }
+    ) -> Result<Gathering, AllocError>
+        ensures { IfOk result (λ new. JoinsTables self ((name, entry) ∷ []) new) }
     {
         // Its clause tells that the name is in its normalized form.
         let _ = name.text();
         // One look finds the name's place, where it is there and where it is new.
         let place = self.entries.entry(name)?;
         let kept = place.or_insert(PackageDemands::bare());
-        kept.join(alloc, entry)?;
-        Ok(self)
+        match kept.join(alloc, entry) {
+            Ok(()) => Ok(self),
+            Err(_) => Err(AllocError),
+        }
     }
 
     /// What is demanded so far, and of one package by a line, whose sets are moved: it may be anything until it is

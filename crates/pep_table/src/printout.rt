@@ -1,14 +1,14 @@
 //! The text of a table that is yet to be written.
 
-ghost use Rattle.std.specs.Prelude.{◌≡◌, ◌++◌, ◌∷◌, [], IfErr, IfOk, OnErr, OnOk, string_bytes};
+ghost use Rattle.std.specs.Prelude.{◌≡◌, ◌++◌, ◌∷◌, [], IfOk, OnErr, OnOk, string_bytes};
 ghost use Rattle.demands.specs.Table.{IsValidEntry};
 ghost use Rattle.pep_table.specs.TableText.{Shows};
 ghost use Rattle.texts.specs.TextOut.{Extends};
 
 use crate::text::put_finished;
-use demands::{Finished, PackageDemands, TableFault, Verdict};
+use demands::{Finished, PackageDemands, Verdict};
 use pep_marker::Name;
-use std::alloc::Global;
+use std::alloc::{AllocError, Global};
 use std::marker::Model;
 use std::mem;
 use texts::TextOut;
@@ -27,16 +27,17 @@ pub(crate) struct Row {
 impl Row {
     ghost use Rattle.pep_table.specs.Way.Printout.{row_text};
 
-    /// What is gathered of a name, finished and judged. The only fault is `NoMemory`.
-    pub(crate) fn of(alloc: Global, name: Name, gathered: PackageDemands) -> Result<Row, TableFault>
+    /// What is gathered of a name, finished and judged.
+    pub(crate) fn of(alloc: Global, name: Name, gathered: PackageDemands) -> Result<Row, AllocError>
         requires { IsValidEntry gathered }
         ensures name { IfOk result (λ row. row.name ≡ name) }
         ensures same { IfOk result (λ row. row.finished ≡ gathered) }
         ensures shows { IfOk result (λ row. Shows row.finished row.verdict) }
-        ensures faults { IfErr result (λ e. e ≡ TableFault.NoMemory) }
     {
-        let finished = gathered.finish(alloc)?;
-        let verdict = finished.verdict(alloc)?;
+        let Ok(finished) = gathered.finish(alloc) else {
+            return Err(AllocError);
+        };
+        let verdict = finished.verdict(alloc).map_err(|_| AllocError)?;
         Ok(Row {
             name,
             finished,
@@ -74,10 +75,9 @@ impl Model for Rows {
 impl Rows {
     ghost use Rattle.pep_table.specs.Way.Printout.{in_blocks, rows_text};
 
-    /// None. The only fault is `NoMemory`.
-    pub(crate) fn new(alloc: Global) -> Result<Rows, TableFault>
-        ensures none { IfOk result (λ rows. rows ≡ []) }
-        ensures faults { IfErr result (λ e. e ≡ TableFault.NoMemory) }
+    /// None.
+    pub(crate) fn new(alloc: Global) -> Result<Rows, AllocError>
+        ensures { IfOk result (λ rows. rows ≡ []) }
     {
         Ok(Rows {
             full: Vec::new(alloc),
@@ -85,10 +85,9 @@ impl Rows {
         })
     }
 
-    /// Puts a row behind them. The only fault is `NoMemory`.
-    pub(crate) fn put(&mut self, alloc: Global, row: Row) -> Result<(), TableFault>
-        ensures ok { OnOk result (self.new ≡ self.old ++ row ∷ []) }
-        ensures faults { IfErr result (λ e. e ≡ TableFault.NoMemory) }
+    /// Puts a row behind them.
+    pub(crate) fn put(&mut self, alloc: Global, row: Row) -> Result<(), AllocError>
+        ensures { OnOk result (self.new ≡ self.old ++ row ∷ []) }
     {
         if self.last.len() == BLOCK {
             let block = mem::replace(&mut self.last, Vec::with_capacity(alloc, BLOCK)?);

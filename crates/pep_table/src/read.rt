@@ -64,18 +64,6 @@ impl<T: Drop> From<AllocFailed<T>> for Halt<'_> {
     }
 }
 
-// No call that reading makes has another fault than want of memory.
-impl From<TableFault> for Halt<'_> {
-    ghost use Rattle.std.specs.Prelude.{◌≡◌};
-    ghost use Rattle.pep_table.specs.declared.read.Halt.TheVariants.{NoMemory};
-
-    ghost from_gives = { λ _ e. e ≡ NoMemory };
-
-    fn from(_: TableFault) -> Self {
-        Halt::NoMemory
-    }
-}
-
 // The verdict of a word.
 fn verdict_of(word: &str) -> Option<Verdict>
     ensures some { IfSome result (λ verdict. verdict_word verdict ≡ word.now) }
@@ -174,7 +162,7 @@ fn read_judged<'a>(
         ⊎ IsBehind AreIndented parts.now rest)) }
 {
     let (entry, behind) = read_parts(alloc, parts)?;
-    if entry.verdict(alloc)? != verdict {
+    if entry.verdict(alloc).map_err(|_| AllocError)? != verdict {
         return Err(wrong_verdict(alloc, name, text, behind));
     }
     Ok((entry, behind))
@@ -333,15 +321,11 @@ fn header_in<'a>(
     alloc: Global,
     text: &'a str,
     environment: &Environment,
-) -> Result<HeaderIn<'a>, TableFault>
+) -> Result<HeaderIn<'a>, AllocError>
     ensures found { IfOk result (FindsHeader environment.now text.now) }
     ensures environment { IsEnvironment environment.now }
-    ensures faults { IfErr result (λ e. e ≡ TableFault.NoMemory) }
 {
-    match environment.header_in(alloc, text) {
-        Ok(found) => Ok(found),
-        Err(_) => Err(TableFault::NoMemory),
-    }
+    environment.header_in(alloc, text).map_err(|_| AllocError)
 }
 
 // The lines with which the text ends of a table in the environment: those behind its header, or all.
@@ -399,7 +383,7 @@ impl Table {
     {
         let lines = lines_to_read(alloc, text, environment)?;
         match read_wanted(alloc, lines, Some(name)) {
-            Ok(found) => Table::alone(alloc, name, found),
+            Ok(found) => Ok(Table::alone(alloc, name, found)?),
             Err(halt) => Err(halted(text, halt)),
         }
     }

@@ -14,7 +14,7 @@ use crate::gathering::Gathering;
 use demands::{Entry, Join, Kept, TableFault};
 use pep_marker::{Environment, MarkerFault, Name};
 use pep_require::Requirement;
-use std::alloc::Global;
+use std::alloc::{AllocError, Global};
 use std::marker::Model;
 
 /// What is demanded of each package, by its name.
@@ -63,21 +63,20 @@ impl Table {
         Table { entries }
     }
 
-    /// The table of one name with its entry, or of nothing. The only fault is `NoMemory`, 42.
+    /// The table of one name with its entry, or of nothing.
     pub(crate) fn alone(
         alloc: Global,
         name: &Name,
         entry: Option<Entry>,
-    ) -> Result<Table, TableFault>
+    ) -> Result<Table, AllocError>
         requires { IsValidTable (entry_alone name.now entry) }
-        ensures same { IfOk result (λ t. t ≡ entry_alone name.now entry) }
-        ensures faults { IfErr result (λ e. e ≡ TableFault.NoMemory) }
+        ensures { IfOk result (λ t. t ≡ entry_alone name.now entry) }
     {
         let Some(entry) = entry else {
             return Ok(Table::empty(alloc));
         };
         let mut entries = Vec::with_capacity(alloc, 1)?;
-        entries.push((name.kept(alloc)?, entry))?;
+        entries.push((name.kept(alloc).map_err(|_| AllocError)?, entry))?;
         Ok(Table::of_entries(entries))
     }
 

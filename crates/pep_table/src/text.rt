@@ -34,7 +34,7 @@ use demands::{Entry, Finished, Kept, KeptRanges, OtherTexts, TableFault, Verdict
 use pep_clause::Range;
 use pep_marker::{Environment, Name};
 use places::Bounds;
-use std::alloc::Global;
+use std::alloc::{AllocError, Global};
 use std::cmp::Ordering;
 use texts::{Arena, TextOut};
 
@@ -143,13 +143,12 @@ pub(crate) fn push_entry(
     text: &mut String,
     name: &Name,
     entry: &Entry,
-) -> Result<(), TableFault>
-    ensures ok { OnOk result ((verdict : Verdict) × Shows entry.now verdict
+) -> Result<(), AllocError>
+    ensures { OnOk result ((verdict : Verdict) × Shows entry.now verdict
         × (string_bytes text.new ≡ string_bytes text.old
         ++ entry_text name.now verdict entry.now)) }
-    ensures faults { IfErr result (λ e. e ≡ TableFault.NoMemory) }
 {
-    let verdict = entry.verdict(alloc)?;
+    let verdict = entry.verdict(alloc).map_err(|_| AllocError)?;
     put_lines(text, name, verdict, entry)?;
     Ok(())
 }
@@ -251,14 +250,10 @@ pub(crate) fn put_finished<T: TextOut>(
 }
 
 /// The header of the environment.
-pub(crate) fn header_of(alloc: Global, environment: &Environment) -> Result<String, TableFault>
-    ensures text { IfOk result (λ text. string_bytes text ≡ header environment.now) }
-    ensures faults { IfErr result (λ e. e ≡ TableFault.NoMemory) }
+pub(crate) fn header_of(alloc: Global, environment: &Environment) -> Result<String, AllocError>
+    ensures { IfOk result (λ text. string_bytes text ≡ header environment.now) }
 {
-    match environment.header(alloc) {
-        Ok(text) => Ok(text),
-        Err(_) => Err(TableFault::NoMemory),
-    }
+    environment.header(alloc).map_err(|_| AllocError)
 }
 
 impl Table {

@@ -32,9 +32,9 @@ ghost use Rattle.pep_table.specs.Way.ReadText.{AreKindLines, HaltsAt, IsBehind};
 ghost use Rattle.pep_table.specs.Way.TextLines.{may_stand};
 
 use crate::read::Halt;
-use demands::{Kept, Sorted, TableFault};
+use demands::{Kept, Sorted};
 use pep_marker::{MarkerFault, Name};
-use std::alloc::Global;
+use std::alloc::{AllocError, Global};
 use texts::is_clause_byte;
 
 /// A kind of lines.
@@ -55,11 +55,10 @@ pub(crate) trait LineKind {
         ensures { result.now ≡ kind_front (word self.now) };
 
     /// The item of a text, if it may stand there.
-    fn item(&self, alloc: Global, text: &str) -> Result<Option<Self::Item>, TableFault>
+    fn item(&self, alloc: Global, text: &str) -> Result<Option<Self::Item>, AllocError>
         ensures some { IfOk result (λ r. IfSome r (λ x.
             (Self.Item.text x ≡ text.now) × is_item self.now text.now)) }
-        ensures none { IfOk result (λ r. r ≡ None → ¬ is_item self.now text.now) }
-        ensures faults { IfErr result (λ e. e ≡ TableFault.NoMemory) };
+        ensures none { IfOk result (λ r. r ≡ None → ¬ is_item self.now text.now) };
 }
 
 /// The lines of extras.
@@ -76,14 +75,13 @@ pub(crate) enum TextLines {
 }
 
 /// The name whose text this is.
-pub(crate) fn listed_name(alloc: Global, text: &str) -> Result<Option<Name>, TableFault>
+pub(crate) fn listed_name(alloc: Global, text: &str) -> Result<Option<Name>, AllocError>
     ensures some { IfOk result (λ r. IfSome r (λ x. (x ≡ text.now) × IsNormalName text.now)) }
     ensures none { IfOk result (λ r. r ≡ None → ¬ IsNormalName text.now) }
-    ensures faults { IfErr result (λ e. e ≡ TableFault.NoMemory) }
 {
     match Name::read(alloc, text) {
         Ok(name) if name.text() == text => Ok(Some(name)),
-        Err(MarkerFault::NoMemory) => Err(TableFault::NoMemory),
+        Err(MarkerFault::NoMemory) => Err(AllocError),
         _ => Ok(None),
     }
 }
@@ -102,7 +100,7 @@ impl LineKind for Extras {
         "  extra "
     }
 
-    fn item(&self, alloc: Global, text: &str) -> Result<Option<Name>, TableFault> {
+    fn item(&self, alloc: Global, text: &str) -> Result<Option<Name>, AllocError> {
         listed_name(alloc, text)
     }
 }
@@ -162,7 +160,7 @@ impl LineKind for TextLines {
         }
     }
 
-    fn item(&self, alloc: Global, text: &str) -> Result<Option<String>, TableFault> {
+    fn item(&self, alloc: Global, text: &str) -> Result<Option<String>, AllocError> {
         if self.may_stand(text) {
             Ok(Some(String::from_str(alloc, text)?))
         } else {

@@ -9,20 +9,15 @@ ghost use Rattle.pep_table.specs.Way.ReadText.{AreKindLines, HaltsAt, IsBehind};
 ghost use Rattle.pep_table.specs.TableText.{range_text};
 
 use crate::read::Halt;
-use demands::TableFault;
 use pep_clause::{Cut, Range, VersionSet};
-use std::alloc::Global;
+use std::alloc::{AllocError, Global};
 
-fn cut_of(alloc: Global, text: &str) -> Result<Option<Cut>, TableFault>
+fn cut_of(alloc: Global, text: &str) -> Result<Option<Cut>, AllocError>
     ensures read { IfOk result (λ read. (c : Cut) → IsCut c
         → ((read ≡ Some c) ↔ (cut_text c ≡ text.now))) }
     ensures spelled { IfOk result (λ read. IfSome read (λ c. IsCut c)) }
-    ensures faults { IfErr result (λ e. e ≡ TableFault.NoMemory) }
 {
-    match Cut::read(alloc, text) {
-        Ok(cut) => Ok(cut),
-        Err(_) => Err(TableFault::NoMemory),
-    }
+    Cut::read(alloc, text).map_err(|_| AllocError)
 }
 
 // The texts of the two cuts: in front of the third space, with "to" behind the second, and behind
@@ -41,12 +36,11 @@ fn cut_texts(text: &str) -> Option<(&str, &str)>
 }
 
 // The range of a text, if it is one's.
-fn range_of(alloc: Global, text: &str) -> Result<Option<Range>, TableFault>
+fn range_of(alloc: Global, text: &str) -> Result<Option<Range>, AllocError>
     ensures some { IfOk result (λ read. IfSome read (λ r.
         (range_text r ≡ text.now) × IsRange r)) }
     ensures none { IfOk result (λ read. read ≡ None → (r : Range) → IsRange r
         → ¬ (range_text r ≡ text.now)) }
-    ensures faults { IfErr result (λ e. e ≡ TableFault.NoMemory) }
 {
     let Some((low, high)) = cut_texts(text) else {
         return Ok(None);
@@ -74,9 +68,8 @@ fn is_behind(ranges: &[Range], range: &Range) -> bool
 }
 
 // The range goes to the end of the list. Most lists have one, and room for no more.
-fn append_range(ranges: &mut Vec<Range>, range: Range) -> Result<(), TableFault>
-    ensures ok { OnOk result (ranges.new.items ≡ ranges.old.items ++ range ∷ []) }
-    ensures faults { IfErr result (λ e. e ≡ TableFault.NoMemory) }
+fn append_range(ranges: &mut Vec<Range>, range: Range) -> Result<(), AllocError>
+    ensures { OnOk result (ranges.new.items ≡ ranges.old.items ++ range ∷ []) }
 {
     if ranges.is_empty() {
         ranges.reserve_exact(1)?;

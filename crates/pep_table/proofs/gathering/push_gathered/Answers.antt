@@ -3,8 +3,8 @@ use Rattle.demands.specs.Table.{EntryParts}
 use Rattle.pep_table.specs.TableText.{Shows, entry_text}
 use Rattle.pep_table.proofs.gathering.push_gathered.Goals as goal
 
-pub returns-clause-ok : goal.returns-clause-ok
-returns-clause-ok c =
+pub returns : goal.returns
+returns c =
     let made = c.in_ok-row.ensures in
     let w = c.in_ok-row.row.verdict in (
       w,

@@ -11,7 +11,7 @@ returns-in_err-entry-clause-refused c =
 
 pub returns-then-ne-clause-refused : goal.returns-then-ne-clause-refused
 returns-then-ne-clause-refused c =
-    let right = c.in_ok-verdict.field-0 in
+    let right = c.in_ok-map_err.field-0 in
     let shows : Shows c.in_ok-entry.entry right = search rules in
     let other : ¬ (right ≡ c.args.verdict) = search rules in
     inr (inr (
@@ -25,8 +25,8 @@ returns-then-ne-clause-refused c =
 
 pub returns-clause-ok : goal.returns-clause-ok
 returns-clause-ok c =
-    let shows : Shows c.in_ok-entry.entry c.in_ok-verdict.field-0 = search rules in
-    let same : c.in_ok-verdict.field-0 ≡ c.args.verdict = search rules in
+    let shows : Shows c.in_ok-entry.entry c.in_ok-map_err.field-0 = search rules in
+    let same : c.in_ok-map_err.field-0 ≡ c.args.verdict = search rules in
     (c.in_ok-entry.ensures.ok, subst (Shows c.in_ok-entry.entry) same shows)
 
 pub returns-in_err-entry-clause-stops : goal.returns-in_err-entry-clause-stops

@@ -11,7 +11,7 @@ loop-name-init c =
     let t = c.args.self in
     let same : c.into_iter-name-iterator.result ≡ t = search rules in (
       subst (λ (l : TableParts). RowsUpTo t l c.in_ok-rows.rows) (sym same)
-          (subst (λ (rows : List Row). RowsUpTo t t rows) (sym c.in_ok-rows.ensures.none) (no_rows t)),
+          (subst (λ (rows : List Row). RowsUpTo t t rows) (sym c.in_ok-rows.ensures) (no_rows t)),
       subst (λ (l : TableParts). All (λ p. IsValidEntry p.1) l) (sym same) (search rules),
     )
 
@@ -30,7 +30,7 @@ loop-name-preserved c =
     let split : left ≡ (c.in-Some.name, c.in-Some.gathered) ∷ more = search rules in
     let made = c.in_ok-row.ensures in (
       one_row_more c.args.self left more c.loop-name.rows c.put.new.self (c.in-Some.name, c.in-Some.gathered)
-          c.in_ok-row.row c.loop-name.invariant.0 split made.name made.same made.shows c.in_ok-put.ensures.ok,
+          c.in_ok-row.row c.loop-name.invariant.0 split made.name made.same made.shows c.in_ok-put.ensures,
       All-tail (λ p. IsValidEntry p.1) (c.in-Some.name, c.in-Some.gathered) more
           (subst (All (λ p. IsValidEntry p.1)) split c.loop-name.invariant.1),
     )
@@ -39,4 +39,4 @@ pub returns-clause-text : goal.returns-clause-text
 returns-clause-text c =
     all_rows c.args.environment.now c.args.self c.loop-name.name-iterator c.loop-name.rows
     (string_bytes c.in_ok-header.header) c.of_rows.result c.loop-name.invariant.0 (search rules)
-    c.in_ok-header.ensures.text c.of_rows.ensures
+    c.in_ok-header.ensures c.of_rows.ensures

@@ -28,7 +28,7 @@ loop-name-preserved c =
     ap (λ (l : TableParts). done ++ l) (sym steps) ∙ at.invariant.0 ∙ search rules in (
       append_assoc done (p ∷ []) more ∙ ap (λ (l : TableParts). done ++ l) (sym steps) ∙ at.invariant.0,
       joins_next c.args.self at.all c.in_ok-all.all done (done ++ p ∷ []) more p at.invariant.1
-          c.in_ok-all.ensures.joined refl
+          c.in_ok-all.ensures refl
           (subst (λ (s : TableParts). IsAscending (names s)) (sym whole)
           c.entries.ensures.valid.names.0),
       let was = at.invariant.2 in

@@ -12,7 +12,7 @@ loop-name-init c =
       subst (λ (l : TableParts). PrintsUpTo c.args.environment.now c.args.self l
           (string_bytes c.in_ok-text.text)) (sym same)
           (none_printed c.args.environment.now c.args.self (string_bytes c.in_ok-text.text)
-          c.in_ok-text.ensures.text),
+          c.in_ok-text.ensures),
       subst (λ (l : TableParts). All (λ p. IsValidEntry p.1) l) (sym same) (search rules),
     )
 
@@ -32,7 +32,7 @@ one_more c =
     let left : TableParts = c.loop-name.name-iterator in
     let more : TableParts = c.next.new.self in
     let split : left ≡ (c.in-Some.name, c.in-Some.gathered) ∷ more = search rules in
-    let (verdict, shows, text) = c.in_ok-push_gathered.ensures.ok in (
+    let (verdict, shows, text) = c.in_ok-push_gathered.ensures in (
       one_printed c.args.environment.now c.args.self left more (string_bytes c.loop-name.text)
           (string_bytes c.push_gathered.new.text) (c.in-Some.name, c.in-Some.gathered) verdict
           c.loop-name.invariant.0 split shows text,

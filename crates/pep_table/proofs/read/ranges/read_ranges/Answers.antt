@@ -74,7 +74,7 @@ loop-line-preserved c =
     let more = item_more (codes "range") AreRanges ranges_fit c.args.text.now (map range_text rs)
     c.loop-line.rest.now c.loop-line.invariant.1 item behind cut.0 cut.1
     (rs ++ r ∷ [], sym kept, told) in
-    let all = c.in_ok-append_range.ensures.ok in (
+    let all = c.in_ok-append_range.ensures in (
       search rules,
       subst (λ l. LinesSoFar (codes "range") AreRanges c.args.text.now (map range_text l) behind)
           (sym all)

@@ -10,7 +10,7 @@ loop-name-preserved c =
     let t : TableParts = c.entries-name-items.result.now in
     let i = c.loop-name.name-index in
     let p = c.loop-name-item.result in
-    let (verdict, shows, text) = c.in_ok-push_entry.ensures.ok in
+    let (verdict, shows, text) = c.in_ok-push_entry.ensures in
     one_printed c.args.environment.now t (drop i t) (drop (i + 1) t) (string_bytes c.loop-name.text)
     (string_bytes c.push_entry.new.text) p verdict c.loop-name.invariant
     (drop_more t i p c.loop-name-test.true ∙ ap (λ q. q ∷ drop (i + 1) t) (sym c.loop-name-item.is))
