@@ -168,8 +168,8 @@ class Tables(unittest.TestCase):
             ({"extras": "dev"}, TypeError, "extras must be a list"),
             ({"extras": [1]}, TypeError, "extras must have names"),
             ({"extras": ["-"]}, InvalidName, "62 21"),
-            ({"extras": ["a"], "environment": {**STANDARD, "extra": "b"}}, ValueError, "has an extra"),
-            ({"extras": ["a"], "environment": "\n".join(f"{name} = '{text}'" for name, text in {**STANDARD, "extra": "b"}.items())}, ValueError, "has an extra"),
+            ({"extras": ["a"], "environment": {**STANDARD, "extra": "b"}}, ValueError, "the environment has one too"),
+            ({"extras": ["a"], "environment": "\n".join(f"{name} = '{text}'" for name, text in {**STANDARD, "extra": "b"}.items())}, ValueError, "the environment has one too"),
             ({"extras": ["a", "b"], "lists": ["c", "d<"]}, Refused, "input 2, line 1"),
             ({"extras": ["a", "b"], "lists": ["c"], "tables": ["d open\n  range before 1 to end\n", "e"]}, Refused, "input 3, line 1"),
         ]

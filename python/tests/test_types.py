@@ -101,7 +101,9 @@ class Types(unittest.TestCase):
         for text in (">=1,", ">=1,>=1"):
             with self.subTest(text), self.assertRaises(InvalidSpecifier):
                 Specifier(text)
-        self.assertFalse(Specifier(">=1") == "abc" or SpecifierSet(">=1") == "abc" or SpecifierSet(">=1") == 5)
+        self.assertFalse(Specifier(">=1") == "abc" or SpecifierSet(">=1") == 5)
+        with self.assertRaises(InvalidSpecifier):
+            _ = SpecifierSet(">=1") == "abc"
         self.assertTrue(SpecifierSet(">=1") == Specifier(">=1.0") and Specifier(">=1") == ">=1.0")
         with self.assertRaises(ValueError):
             Cut("past 1.0a1")

@@ -47,7 +47,7 @@ class Audit(NamedTuple):
         refused: packages of which another version is installed than is required.
         clashes: packages of which no version whatever meets all requirements, or of which two different URLs are required, installed or not. Each has the
             requirements that clash together, as `why` tells them.
-        unread: requirements that can't be read, with the distributions that have them, and versions that are none.
+        unread: requirements that can't be read, with the distributions that have them, and texts that stand for versions and aren't valid ones.
     """
 
     distributions: int

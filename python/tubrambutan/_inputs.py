@@ -35,7 +35,7 @@ def of_path(path: object) -> tuple[int, bytes, str]:
     return _kind_of(name), _file(name), name
 
 
-_TWO_EXTRAS = "the environment has an extra beside those of extras (--extra): leave it out there, and write all of them in extras (by --extra)"
+_TWO_EXTRAS = "extras are given (--extra), and the environment has one too: give all of them in extras (--extra), and none in the environment"
 # How the file with a name is read where a text is wanted, by the argument.
 _READS = {"environment": "environment=pathlib.Path({!r})", "split": "pathlib.Path({!r}).read_text()"}
 # Where a list stands in an object that isn't one.

@@ -125,7 +125,7 @@ class SpecifierSet:
         return self.contains(item)
 
     def filter(self, iterable: Iterable[AnyVersion], prereleases: Optional[bool] = None) -> Iterator[AnyVersion]:
-        """Returns the versions that the set contains, in their order, all asked of in one call of the library.
+        """Returns the versions that the set contains, in their order. One call of the library answers for all of them.
 
         Raises:
             InvalidVersion: one of them isn't a version.
@@ -155,10 +155,7 @@ class SpecifierSet:
 
     def __eq__(self, other: object) -> bool:
         if isinstance(other, (str, Specifier)):
-            try:
-                other = SpecifierSet(str(other))
-            except InvalidSpecifier:
-                return NotImplemented
+            other = SpecifierSet(str(other))
         if not isinstance(other, SpecifierSet):
             return NotImplemented
         return self._clauses == other._clauses or self._canonical() == other._canonical()

@@ -122,7 +122,7 @@ class Package(_Unchanged):
         return next(_admitted(self._inputs, [(self.name, version)], prereleases))
 
     def filter(self, versions: Iterable[AnyVersion], prereleases: bool = False) -> Iterator[AnyVersion]:
-        """Returns the versions that are admitted, in their order, all asked of in one call of the library.
+        """Returns the versions that are admitted, in their order. One call of the library answers for all of them.
 
         >>> import tubrambutan
         >>> demo = tubrambutan.merge(lists=["demo~=1.4", "demo!=1.5"])["demo"]
@@ -245,7 +245,8 @@ class Table(_Unchanged, Mapping[str, Package]):
 
     def admits_each(self, versions: Iterable[tuple[str, Union[Version, str]]], prereleases: bool = False) -> list[bool]:
         """Returns of each name with a version whether the version meets all that is demanded of the package, and is no pre-release unless these are
-        wanted. All are asked of in one call of the library, which reads the table once. Where nothing is demanded, all versions do.
+        wanted. One call of the library answers for all of them, and reads the table once. A package of which nothing is demanded admits every version
+        but pre-releases, and with `prereleases` these too.
 
         >>> import tubrambutan
         >>> table = tubrambutan.merge(lists=["demo~=1.4"])

@@ -11,8 +11,8 @@ use Rattle.pep_require.specs.LineParts.{BoundFrom}
 use Rattle.pep_require.specs.Reads.{IsBound}
 use Rattle.pep_require.proofs.BoundPieces.{bound_read, bound_whole, found_piece}
 use Rattle.demands.specs.Way.LineDemands.{DemandsRanges}
-use Rattle.clause_memory.specs.Way.Demand.{KnowsDemand, ReadsDemand, demanded_ranges}
-use Rattle.clause_memory.specs.declared.demand.Demand.{Demand}
+use Rattle.clause_memory.specs.Way.PackedClause.{KnowsDemand, ReadsDemand, demanded_ranges}
+use Rattle.clause_memory.specs.declared.packed_clause.PackedClause.{PackedClause}
 
 -- a clause that all of a text is
 pub whole_clause : (x rest : List ℕ) (c : Clause) (ranges : List Range) → BoundFrom x c rest → rest ≡ [] →
@@ -27,7 +27,7 @@ whole_clause x rest c ranges found nothing demands =
       demands = demands;
     }
 
-pub demanded_here : (x rest : List ℕ) (c : Clause) (found : Option Demand) → BoundFrom x c rest → {b : Bool} →
+pub demanded_here : (x rest : List ℕ) (c : Clause) (found : Option PackedClause) → BoundFrom x c rest → {b : Bool} →
     b ≡ (length rest == 0) → b ≡ true → IfSome found (λ d. DemandsRanges c (demanded_ranges d)) →
     KnowsDemand x found
 demanded_here x rest c None here tests empty h = tt
@@ -35,13 +35,13 @@ demanded_here x rest c (Some d) here tests empty h =
     whole_clause x rest c (demanded_ranges d) here (nothing_in rest (sym tests ∙ empty)) h
 
 -- the ranges of what leaves versions out, and of what doesn't
-pub outside_ranges : (d : Demand) → d.outside ≡ true → demanded_ranges d ≡ outside d.bounds.low d.bounds.high
+pub outside_ranges : (d : PackedClause) → d.outside ≡ true → demanded_ranges d ≡ outside d.bounds.low d.bounds.high
 outside_ranges d e = rw e refl
 
-pub inside_ranges : (d : Demand) → d.outside ≡ false → demanded_ranges d ≡ range d.bounds.low d.bounds.high
+pub inside_ranges : (d : PackedClause) → d.outside ≡ false → demanded_ranges d ≡ range d.bounds.low d.bounds.high
 inside_ranges d e = rw e refl
 
 -- .. of a clause are in order
-pub outside_normal : (d : Demand) → d.outside ≡ true → (c : Clause) × DemandsRanges c (demanded_ranges d) →
+pub outside_normal : (d : PackedClause) → d.outside ≡ true → (c : Clause) × DemandsRanges c (demanded_ranges d) →
     IsNormal (outside d.bounds.low d.bounds.high)
 outside_normal d e (c, h) = subst IsNormal (sym h.versions ∙ outside_ranges d e) (IsNormal-set_of c h.valid)

@@ -21,8 +21,8 @@ use Rattle.pep_require.proofs.BoundPieces.{bound_found}
 use Rattle.demands.specs.Way.LineDemands.{AddsClause, DemandsRanges}
 use Rattle.demands.specs.Table.{EntryParts}
 use Rattle.clause_memory.specs.Way.Taken.{DemandsFront, TakesFront, goes_on}
-use Rattle.clause_memory.specs.Way.Demand.{KnowsDemand, ReadsDemand, demanded_ranges}
-use Rattle.clause_memory.specs.declared.demand.Demand.{Demand}
+use Rattle.clause_memory.specs.Way.PackedClause.{KnowsDemand, ReadsDemand, demanded_ranges}
+use Rattle.clause_memory.specs.declared.packed_clause.PackedClause.{PackedClause}
 
 -- ---- where a clause ends
 
@@ -63,7 +63,7 @@ demand_here left piece rest n ranges count front back d =
     let cut = front_bound left piece rest d.clause whole stops d.read in
     record { clause = d.clause; found = cut; demands = d.demands }
 
-pub found_here : (left piece rest : List ℕ) (n : ℕ) (found : Option Demand) → n ≡ prefix_len goes_on left →
+pub found_here : (left piece rest : List ℕ) (n : ℕ) (found : Option PackedClause) → n ≡ prefix_len goes_on left →
     piece ≡ take n left → rest ≡ drop n left → KnowsDemand piece found →
     IfSome found (λ d. DemandsFront left (demanded_ranges d) rest)
 found_here left piece rest n None count front back h = tt

@@ -38,14 +38,14 @@ use Rattle.pep_clause.specs.OperatorTable.{set_of}
 use Rattle.pep_require.specs.LineParts.{after_operator}
 use Rattle.pep_require.specs.Reads.{IsBound}
 use Rattle.pep_require.proofs.BlankLemmas.{leading, leading_blank, leading_whole}
-use Rattle.places.specs.Way.Bounds.{HoldsPrefix, HoldsRelease}
-use Rattle.places.specs.Place.{release_alone}
-use Rattle.places.specs.declared.bounds.Bounds.{Bounds}
+use Rattle.packed_cuts.specs.Way.PackedRange.{HoldsPrefix, HoldsRelease}
+use Rattle.packed_cuts.specs.PackedCut.{release_alone}
+use Rattle.packed_cuts.specs.declared.packed_range.PackedRange.{PackedRange}
 use Rattle.clause_memory.specs.Way.Taken.{DemandsFront, goes_on}
-use Rattle.clause_memory.specs.Way.Demand.{demanded_ranges}
+use Rattle.clause_memory.specs.Way.PackedClause.{demanded_ranges}
 use Rattle.clause_memory.specs.Way.Plain.{MakesClause, MakesDemand, NumberFrom, OperandFrom, is_release_byte, star_text}
 use Rattle.specifiers.specs.Way.OperatorEnds.{leaves_out}
-use Rattle.clause_memory.specs.declared.demand.Demand.{Demand}
+use Rattle.clause_memory.specs.declared.packed_clause.PackedClause.{PackedClause}
 use Rattle.clause_memory.proofs.FrontClauses.{front_bound}
 
 -- ---- bytes
@@ -366,7 +366,7 @@ release_end x operand after o ns starred found behind f =
           ∙ sym (left_to_right (leading x) (operator_text o) (leading tail) run after),
     )
 
-pub plain_read : (x operand after rest : List ℕ) (o : Op) (ns : List ℕ) (starred : Bool) (d : Demand) →
+pub plain_read : (x operand after rest : List ℕ) (o : Op) (ns : List ℕ) (starred : Bool) (d : PackedClause) →
     operator_of (without_leading_blanks x) ≡ Some o → operand ≡ after_operator o (without_leading_blanks x) →
     OperandFrom operand ns starred after → rest ≡ without_leading_blanks after → begins goes_on rest ≡ false →
     MakesDemand o ns starred d → DemandsFront x (demanded_ranges d) rest
@@ -406,7 +406,7 @@ plain_read x operand after rest o ns starred d found behind f stripped stops m =
 
 -- ---- what it demands
 
-pub makes_release : (o : Op) (r : List ℕ) (b : Bounds) (t : Bool) → t ≡ leaves_out o → HoldsRelease o r b →
+pub makes_release : (o : Op) (r : List ℕ) (b : PackedRange) (t : Bool) → t ≡ leaves_out o → HoldsRelease o r b →
     MakesDemand o r false (record { bounds = b; outside = t })
 makes_release o r b t out h = record {
   clause = h.clause;
@@ -415,7 +415,7 @@ makes_release o r b t out h = record {
       h.between;
 }
 
-pub makes_prefix : (o : Op) (r : List ℕ) (b : Bounds) (t : Bool) → t ≡ leaves_out o → HoldsPrefix o r b →
+pub makes_prefix : (o : Op) (r : List ℕ) (b : PackedRange) (t : Bool) → t ≡ leaves_out o → HoldsPrefix o r b →
     MakesDemand o r true (record { bounds = b; outside = t })
 makes_prefix o r b t out h = record {
   clause = h.clause;

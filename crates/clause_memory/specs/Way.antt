@@ -1,4 +1,4 @@
 -- Definitions that say how the code goes. No promise rests on them.
-pub mod Demand
+pub mod PackedClause
 pub mod Plain
 pub mod Taken

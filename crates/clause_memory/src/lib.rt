@@ -3,8 +3,8 @@
 //! and so are markers.
 #![tactic(auto)]
 
-mod demand;
 mod memory;
+mod packed_clause;
 mod plain;
 mod sink;
 mod taking;

@@ -1,10 +1,10 @@
 //! A memory of clauses by their texts.
 
 ghost use Rattle.std.specs.Prelude.{◌≡◌, IfOk, IfSome, Some, length, take};
-ghost use Rattle.clause_memory.specs.Way.Demand.{IsRemembered, KnowsDemand, remembered_demand};
+ghost use Rattle.clause_memory.specs.Way.PackedClause.{IsRemembered, KnowsDemand, remembered_demand};
 
-use crate::demand::{Demand, demand_in};
-use places::{Bounds, Place};
+use crate::packed_clause::{PackedClause, demand_in};
+use packed_cuts::{PackedCut, PackedRange};
 use std::alloc::{AllocError, Global};
 use std::marker::Model;
 use text_memory::{OfText, TextMemory};
@@ -17,7 +17,7 @@ const MOST: usize = 16_384;
 /// The text of a clause, with its length, and what it demands, where that is known: else the line goes the whole way.
 #[derive(Clone, Copy)]
 pub(crate) struct Remembered {
-    bounds: Bounds,
+    bounds: PackedRange,
     outside: bool,
     is_known: bool,
     len: u8,
@@ -39,16 +39,16 @@ fn kept_bytes(text: &[u8]) -> Option<[u8; LONGEST]>
 
 impl Remembered {
     // A text with what it demands, if it isn't too long.
-    fn of(text: &[u8], found: &Option<Demand>) -> Option<Remembered>
+    fn of(text: &[u8], found: &Option<PackedClause>) -> Option<Remembered>
         requires { KnowsDemand text.now found.now }
         ensures { IfSome result (λ it. IsRemembered (Some it)) }
     {
         let len = u8::try_from(text.len()).ok()?;
         let kept = kept_bytes(text)?;
         let unknown = Remembered {
-            bounds: Bounds {
-                low: Place::least(),
-                high: Place::end(),
+            bounds: PackedRange {
+                low: PackedCut::least(),
+                high: PackedCut::end(),
             },
             outside: false,
             is_known: false,
@@ -66,13 +66,13 @@ impl Remembered {
         }
     }
 
-    fn demand(&self) -> Option<Demand>
+    fn demand(&self) -> Option<PackedClause>
         ensures { result ≡ remembered_demand self.now }
     {
         if !self.is_known {
             return None;
         }
-        Some(Demand {
+        Some(PackedClause {
             bounds: self.bounds,
             outside: self.outside,
         })
@@ -80,7 +80,7 @@ impl Remembered {
 }
 
 impl OfText for Remembered {
-    ghost use Rattle.clause_memory.specs.Way.Demand.{remembered_text};
+    ghost use Rattle.clause_memory.specs.Way.PackedClause.{remembered_text};
 
     ghost text = { remembered_text };
 
@@ -99,7 +99,7 @@ pub(crate) struct ClauseMemory {
 
 impl Model for ClauseMemory {
     ghost use Rattle.std.specs.Prelude.{All, ⊤};
-    ghost use Rattle.clause_memory.specs.Way.Demand.{IsRemembered};
+    ghost use Rattle.clause_memory.specs.Way.PackedClause.{IsRemembered};
 
     ghost Value = { ⊤ };
 
@@ -117,8 +117,12 @@ impl ClauseMemory {
     }
 
     /// What the clause demands that the text is, white space round it apart. `None` where it is no clause, or one that
-    /// demands a text, or versions without places.
-    pub(crate) fn demand(&mut self, alloc: Global, text: &str) -> Result<Option<Demand>, AllocError>
+    /// demands a text, or versions without packed cuts.
+    pub(crate) fn demand(
+        &mut self,
+        alloc: Global,
+        text: &str,
+    ) -> Result<Option<PackedClause>, AllocError>
         ensures { IfOk result (KnowsDemand text.now) }
     {
         if text.len() > LONGEST {
@@ -137,7 +141,7 @@ impl ClauseMemory {
         &mut self,
         alloc: Global,
         text: &str,
-        found: &Option<Demand>,
+        found: &Option<PackedClause>,
     ) -> Result<(), AllocError>
         requires { KnowsDemand text.now found.now }
     {

@@ -3,19 +3,19 @@
 ghost use Rattle.std.specs.Prelude.{◌≡◌, ◌<◌, ◌≤◌, ◌++◌, ◌∷◌, IfSome, List, ℕ, false, length};
 ghost use Rattle.texts.specs.Runs.{begins, without_leading_blanks};
 ghost use Rattle.clause_memory.specs.Way.Taken.{DemandsFront, goes_on};
-ghost use Rattle.clause_memory.specs.Way.Demand.{demanded_ranges};
+ghost use Rattle.clause_memory.specs.Way.PackedClause.{demanded_ranges};
 ghost use Rattle.clause_memory.specs.Way.Plain.{MakesDemand, NumberFrom, ReadsOperand};
 
-use crate::demand::Demand;
+use crate::packed_clause::PackedClause;
 use crate::taking::goes_on;
+use packed_cuts::PackedRange;
 use pep_clause::Op;
-use places::Bounds;
 use texts::without_leading_blanks;
 
-// How many numbers a release has at most of which there are places.
+// How many numbers a release has at most of which there are packed cuts.
 const MOST_NUMBERS: usize = 4;
 
-// Numbers of places are smaller; one digit behind such a number still fits.
+// Numbers of packed cuts are smaller; one digit behind such a number still fits.
 const LARGE: u64 = 1 << 32;
 
 // A release, and what stands behind it.
@@ -32,7 +32,7 @@ struct Release<'a> {
 #[derive(Clone, Copy)]
 enum Operand<'a> {
     Release(Release<'a>),
-    // A release of more numbers than places have.
+    // A release of more numbers than packed cuts have.
     Long,
     Other,
 }
@@ -107,17 +107,17 @@ fn operand_at(text: &[u8]) -> Operand<'_>
     }
 }
 
-// What the clause of this operator and release demands, where it has places.
-fn release_demand(operator: Op, release: &[u64], starred: bool) -> Option<Demand>
+// What the clause of this operator and release demands, where it has packed cuts.
+fn release_demand(operator: Op, release: &[u64], starred: bool) -> Option<PackedClause>
     ensures { IfSome result (MakesDemand operator release.now starred) }
 {
     let outside = operator.leaves_out();
     if starred {
-        let bounds = Bounds::of_prefix(operator, release)?;
-        return Some(Demand { bounds, outside });
+        let bounds = PackedRange::of_prefix(operator, release)?;
+        return Some(PackedClause { bounds, outside });
     }
-    let bounds = Bounds::of_release(operator, release)?;
-    Some(Demand { bounds, outside })
+    let bounds = PackedRange::of_release(operator, release)?;
+    Some(PackedClause { bounds, outside })
 }
 
 // Whether the text goes on with a byte that ends no clause.
@@ -147,9 +147,9 @@ fn left_behind<'a>(text: &'a str, last: &[u8]) -> Option<&'a str>
 }
 
 /// What the clause demands that stands in front of the text, where its version is a release (PEP 440, "Final
-/// releases"), perhaps with `.*` behind it, and what stands behind it. No demand where the clause has no places, or may
-/// be none, so that its line goes the whole way; `None` where nothing is told of the text.
-pub(crate) fn plain_demand(text: &str) -> Option<(Option<Demand>, &str)>
+/// releases"), perhaps with `.*` behind it, and what stands behind it. No demand where the clause has no packed cuts,
+/// or may be none, so that its line goes the whole way; `None` where nothing is told of the text.
+pub(crate) fn plain_demand(text: &str) -> Option<(Option<PackedClause>, &str)>
     ensures demand { IfSome result (λ found. IfSome found.0 (λ demand.
         DemandsFront text.now (demanded_ranges demand) found.1.now)) }
     ensures shorter { IfSome result (λ found. length found.1.now ≤ length text.now) }

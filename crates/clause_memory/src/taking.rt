@@ -5,11 +5,11 @@ ghost use Rattle.std.specs.List.{prefix_len};
 ghost use Rattle.specifiers.specs.Clause.{Clause};
 ghost use Rattle.pep_require.specs.LineParts.{RefusesBound};
 ghost use Rattle.demands.specs.Way.LineDemands.{AddsClause, DemandsRanges};
-ghost use Rattle.clause_memory.specs.Way.Demand.{demanded_ranges};
+ghost use Rattle.clause_memory.specs.Way.PackedClause.{demanded_ranges};
 ghost use Rattle.clause_memory.specs.Way.Taken.{TakesFront, goes_on};
 
-use crate::demand::{Demand, demand_of};
 use crate::memory::ClauseMemory;
+use crate::packed_clause::{PackedClause, demand_of};
 use crate::plain::plain_demand;
 use crate::text::text_at;
 use demands::LineDemands;
@@ -33,7 +33,7 @@ pub(crate) fn goes_on(b: u8) -> bool
 }
 
 // Keeps what a clause demands.
-fn keep(demand: Demand, demands: &mut LineDemands) -> Result<(), AllocError>
+fn keep(demand: PackedClause, demands: &mut LineDemands) -> Result<(), AllocError>
     requires { (c : Clause) × DemandsRanges c (demanded_ranges demand) }
     ensures { OnOk result ((c : Clause) → DemandsRanges c (demanded_ranges demand)
         → AddsClause c demands.old demands.new) }
@@ -77,7 +77,7 @@ fn take_whole<'a>(
     Ok(rest)
 }
 
-// The same of a clause that has no places, or may be none.
+// The same of a clause that has no packed cuts, or may be none.
 fn take_unplaced<'a>(
     alloc: Global,
     text: &'a str,

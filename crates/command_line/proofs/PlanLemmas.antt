@@ -93,7 +93,7 @@ none-taken : (words : List Text) → 0 < length words → fault_of program words
 none-taken [] some fault = absurd (omega arith)
 none-taken (word ∷ rest) some fault = λ r h. fault h.0
 
--- an error that isn't want of memory has a kind
+-- an error that isn't lack of memory has a kind
 kinds-error : (kinds : Kinds) (e : Error) → HasKind kinds e → kind_of e ≢ OutOfMemory →
     kinds ≢ []
 kinds-error kinds e (inl memory) other = λ _. other memory
@@ -122,7 +122,7 @@ none-command a words m same some matches met =
     (ap (option_and_then request_of) (ap (λ (b : App). subcommand_of b words) (sym same)
     ∙ sym (matches exact).1) ∙ met)
 
--- an error that isn't want of memory tells that they ask for nothing
+-- an error that isn't lack of memory tells that they ask for nothing
 pub none-error : (a : App) (words : List Text) (e : Error) → a ≡ program → 0 < length words
     → (is_simple_and_free a ≡ true → HasKind (fault_of a words) e) → kind_of e ≢ OutOfMemory →
     AskNothing words

@@ -11,8 +11,8 @@ use Rattle.demands.specs.Way.Finished.{ranges_entry}
 use Rattle.demands.specs.Table.{EntryDemands, IsValidEntry}
 use Rattle.demands.specs.Verdict.{IsVerdict}
 use Rattle.demands.specs.declared.verdict.Verdict.TheVariants.{Possible, Nothing}
-use Rattle.places.specs.Way.LeftOut.{spans}
-use Rattle.places.specs.declared.bounds.Bounds.{Bounds}
+use Rattle.packed_cuts.specs.Way.LeftOut.{spans}
+use Rattle.packed_cuts.specs.declared.packed_range.PackedRange.{PackedRange}
 use Rattle.demands.proofs.ValidEntries.{bare_valid}
 use Rattle.demands.proofs.Verdicts.{verdict_of_entry}
 
@@ -34,13 +34,13 @@ pub nothing_in : (ranges : List Range) → IsNormal ranges → ranges ≡ [] →
 nothing_in ranges n none =
     verdict_of_entry (ranges_entry ranges) Nothing (ranges_valid ranges n) (omega arith, inl none)
 
--- ---- by the places of the ranges
+-- ---- by the packed cuts of the ranges
 
-pub no_spans : (bounds : List Bounds) → length bounds ≡ 0 → spans bounds ≡ []
+pub no_spans : (bounds : List PackedRange) → length bounds ≡ 0 → spans bounds ≡ []
 no_spans [] e = refl
 no_spans (b ∷ rest) e = absurd (omega (arith, e))
 
-pub some_spans : (bounds : List Bounds) → length bounds ≢ 0 → spans bounds ≢ []
+pub some_spans : (bounds : List PackedRange) → length bounds ≢ 0 → spans bounds ≢ []
 some_spans [] other e = other refl
 some_spans (b ∷ rest) other e = cc e
 

@@ -1,4 +1,4 @@
--- The versions that are kept between two places and beside them: moved inwards, met with one set more, and as ranges.
+-- The versions that are kept between two packed cuts and beside them: moved inwards, met with one set more, and as ranges.
 use Rattle.std.proofs.Common.{◌≡◌, ◌&&◌, Bool, true, false, List, [], ◌∷◌, refl, sym, ap, ◌∙◌}
 use Rattle.std.proofs.Common.{arith, length, subst}
 use Rattle.std.proofs.Math.Bool.{and_assoc}
@@ -27,7 +27,7 @@ last_two true false true = refl
 last_two true false false = refl
 last_two false b j = refl
 
--- where the places move inwards
+-- where the packed cuts move inwards
 pub narrowed-kept : (l h m n x y : Cut) (s : List Range) → AreKept l h s → IsCut m →
     IsCut n → x ≡ later cut_cmp l m → y ≡ earlier cut_cmp h n → AreKept x y s
 narrowed-kept l h m n x y s k f g e d = record {
@@ -104,7 +104,7 @@ sets-more left t sets new n are i = record {
 
 -- ---- as ranges
 
--- where nothing is beside the places
+-- where nothing is beside the packed cuts
 pub kept-bare : (l h : Cut) → IsCut l → IsCut h → range l h ≡ kept_versions l h all_versions
 kept-bare l h f g =
     same_points (range l h) (joined (range l h) all_versions) (IsNormal-range l h f g)

@@ -12,7 +12,7 @@ use Rattle.pep_clause.specs.Way.Joined.{joined}
 use Rattle.pep_clause.specs.VersionSet.{IsNormal, Range, all_versions, is_point}
 use Rattle.pep_clause.proofs.JoinedPoints.{is_point-joined}
 use Rattle.pep_clause.proofs.LeastCut.{point-all_versions}
-use Rattle.places.specs.declared.bounds.Bounds.{Bounds}
+use Rattle.packed_cuts.specs.declared.packed_range.PackedRange.{PackedRange}
 use Rattle.pep_require.specs.Requirement.{IsAscending}
 use Rattle.demands.specs.Gathering.{bare_entry}
 use Rattle.demands.specs.Join.{IsIntersection, IsUnion}
@@ -41,13 +41,13 @@ normal_more (x ∷ xs) ys t h n = (h.0, normal_more xs ys t h.1 n)
 
 -- ---- what one more leaves out
 
-pub left-normal : (outs new : List Bounds) (b : Bounds) (sets : List (List Range)) → new ≡ outs ++ b ∷ [] →
+pub left-normal : (outs new : List PackedRange) (b : PackedRange) (sets : List (List Range)) → new ≡ outs ++ b ∷ [] →
     AreNormal (line_sets outs sets) → IsNormal (left_by b) → AreNormal (line_sets new sets)
 left-normal outs new b sets e h n =
     subst (λ l. AreNormal (l ++ sets)) (sym (ap (map left_by) e ∙ map_push left_by outs b))
     (normal_more (map left_by outs) sets (left_by b) h n)
 
-pub left-met : (outs new : List Bounds) (b : Bounds) (sets : List (List Range)) → new ≡ outs ++ b ∷ [] →
+pub left-met : (outs new : List PackedRange) (b : PackedRange) (sets : List (List Range)) → new ≡ outs ++ b ∷ [] →
     AreNormal (line_sets outs sets) → IsNormal (left_by b) →
     IsIntersection (joined_sets (line_sets outs sets)) (left_by b) (joined_sets (line_sets new sets))
 left-met outs new b sets e h n = record {
@@ -63,13 +63,13 @@ left-met outs new b sets e h n = record {
 
 -- ---- one set more
 
-pub set-normal : (outs : List Bounds) (sets new : List (List Range)) (t : List Range) → new ≡ sets ++ t ∷ [] →
+pub set-normal : (outs : List PackedRange) (sets new : List (List Range)) (t : List Range) → new ≡ sets ++ t ∷ [] →
     AreNormal (line_sets outs sets) → IsNormal t → AreNormal (line_sets outs new)
 set-normal outs sets new t e h n =
     subst AreNormal (append_assoc (map left_by outs) sets (t ∷ []) ∙ ap (λ l. map left_by outs ++ l) (sym e))
     (normal_behind (line_sets outs sets) t h n)
 
-pub set-met : (outs : List Bounds) (sets new : List (List Range)) (t : List Range) → new ≡ sets ++ t ∷ [] →
+pub set-met : (outs : List PackedRange) (sets new : List (List Range)) (t : List Range) → new ≡ sets ++ t ∷ [] →
     AreNormal (line_sets outs sets) → IsNormal t →
     IsIntersection (joined_sets (line_sets outs sets)) t (joined_sets (line_sets outs new))
 set-met outs sets new t e h n = record {
@@ -86,7 +86,7 @@ normal_front : (xs ys : List (List Range)) → AreNormal (xs ++ ys) → AreNorma
 normal_front [] ys h = tt
 normal_front (x ∷ xs) ys h = (h.0, normal_front xs ys h.1)
 
-pub fewer_sets : (b : Bounds) (outs : List Bounds) (sets left moved : List (List Range)) → sets ≡ left ++ moved →
+pub fewer_sets : (b : PackedRange) (outs : List PackedRange) (sets left moved : List (List Range)) → sets ≡ left ++ moved →
     AreLineSets b outs sets → AreLineSets b outs left
 fewer_sets b outs sets left moved e h =
     let n : AreNormal (line_sets outs left) =
@@ -136,8 +136,8 @@ meets_last_set a b d t left more h g e = record {
       (sym (ap (λ l. is_point (joined_sets l) cut) e ∙ points_behind left t cut));
 }
 
--- .. with the places, what they leave out, and the sets
-pub meets_line : (a b d f range : List Range) (outs : List Bounds) (sets : List (List Range)) →
+-- .. with the packed cuts, what they leave out, and the sets
+pub meets_line : (a b d f range : List Range) (outs : List PackedRange) (sets : List (List Range)) →
     IsIntersection a range b → IsIntersection b (joined_sets (map left_by outs)) d →
     IsIntersection d (joined_sets sets) f →
     IsIntersection a (joined range (joined_sets (line_sets outs sets))) f
@@ -155,14 +155,14 @@ meets_line a b d f range outs sets h g k = record {
 
 -- ---- a line that demands nothing
 
-pub nothing_kept : (b : Bounds) (outs : List Bounds) (sets : List (List Range)) (o : OtherParts) → b.low ≡ least →
+pub nothing_kept : (b : PackedRange) (outs : List PackedRange) (sets : List (List Range)) (o : OtherParts) → b.low ≡ least →
     b.high ≡ end → outs ≡ [] → sets ≡ [] → o ≡ no_others → entry_with o (line_versions b outs sets) ≡ bare_entry
 nothing_kept b outs sets o low high none no_set bare =
     λ i. entry_with (bare i) (kept_versions (low i) (high i) (joined_sets (line_sets (none i) (no_set i))))
 
 -- ---- all of it may stand in a table
 
-pub line_valid : (b : Bounds) (outs : List Bounds) (sets : List (List Range)) (o : OtherParts) →
+pub line_valid : (b : PackedRange) (outs : List PackedRange) (sets : List (List Range)) (o : OtherParts) →
     AreLineSets b outs sets → AreValidOthers o → IsAscending o.extras → IsAscending o.urls → IsAscending o.texts →
     IsValidEntry (entry_with o (line_versions b outs sets))
 line_valid b outs sets o are valid e u t = record {
@@ -172,8 +172,8 @@ line_valid b outs sets o are valid e u t = record {
   versions = kept-normal b.low b.high (joined_sets (line_sets outs sets)) are.kept;
 }
 
--- with other sets beside the places
-pub other_sets : (b : Bounds) (outs new : List Bounds) (sets more : List (List Range)) → AreLineSets b outs sets →
+-- with other sets beside the packed cuts
+pub other_sets : (b : PackedRange) (outs new : List PackedRange) (sets more : List (List Range)) → AreLineSets b outs sets →
     AreNormal (line_sets new more) → AreLineSets b new more
 other_sets b outs new sets more are normal = record {
   kept = record { low = are.kept.low; high = are.kept.high; beside = normal_sets (line_sets new more) normal };

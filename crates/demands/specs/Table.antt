@@ -1,11 +1,11 @@
 -- The table of a set of demands: what is demanded of each package, by its name.
-use Rattle.std.specs.Prelude.{◌≡◌, ℕ, ◌↔◌, ⊤, Bool, ◌&&◌, nat_lt, IsTrue, List, length, map, All}
+use Rattle.std.specs.Prelude.{◌≡◌, ℕ, ◌↔◌, ⊤, Bool, true, false, ◌&&◌, nat_lt, IsTrue, List, length, map, All}
 use Rattle.std.specs.Prelude.{Contains, bytes_eq, find, Option, Some, option_map, IsSome, IfSome}
 use Rattle.std.specs.List.{list_all}
+use Rattle.std.specs.declared.cmp.Ordering.TheVariants.{Less}
 use Rattle.pep_version.specs.Version.{Version, IsVersion}
 use Rattle.specifiers.specs.Clause.{demanded, is_demanded_text}
-use Rattle.pep_clause.specs.Cut.{Cut, IsCut}
-use Rattle.pep_clause.specs.OperatorTable.{set_of}
+use Rattle.pep_clause.specs.Cut.{Cut, IsCut, cut_cmp, is_under}
 use Rattle.pep_clause.specs.VersionSet.{Range, In, IsNormal, IsPoint, all_versions}
 use Rattle.pep_marker.specs.Name.{IsNormalName}
 use Rattle.pep_require.specs.Reads.{is_url_byte}
@@ -68,11 +68,10 @@ pub record IsTable (Q : Demands) (t : TableParts) : Type 0 where
 
 -- ---- the same by cuts
 
--- the cut is a point of what the demand admits
+-- the cut is a point of what the demand admits: all versions from this cut up to some cut above it
 abbrev pub AdmitsPoint : Demand → Cut → Type 0
-AdmitsPoint (clause c) cut = IsPoint (set_of c) cut
-AdmitsPoint (ranges l) cut = IsPoint l cut
-AdmitsPoint _ cut = ⊤
+AdmitsPoint d cut = (high : Cut) × IsCut high × (cut_cmp cut high ≡ Less)
+    × ((v : Version) → IsVersion v → is_under cut v ≡ false → is_under high v ≡ true → AdmitsBesideTexts d v)
 
 -- Each entry has just the points that all its demands have. Two tables of one set with this are
 -- equal.

@@ -1,4 +1,4 @@
-//! What is kept of the versions of a package beside two places.
+//! What is kept of the versions of a package beside two packed cuts.
 
 ghost use Rattle.std.specs.Prelude.{◌≡◌, IfOk, IsTrue, OnOk};
 ghost use Rattle.pep_clause.specs.Cut.{end, least};
@@ -10,13 +10,13 @@ ghost use Rattle.demands.specs.Join.{IsIntersection};
 
 use crate::kept_ranges::{KeptRanges, set_of};
 use crate::partial_joins::{common, joined_of, narrow};
+use packed_cuts::{LeftOut, PackedCut, PackedRange, PackedRanges};
 use pep_clause::VersionSet;
-use places::{Bounds, LeftOut, Place, PlaceRanges};
 use std::alloc::{AllocError, Global};
 use std::marker::Model;
 
-/// Versions that are left out between two places at a time, and sets, in each of which a version has to be. Clauses
-/// see the ranges of the versions that are left.
+/// Versions that are left out between two packed cuts at a time, and sets, in each of which a version has to be.
+/// Clauses see the ranges of the versions that are left.
 #[derive(Drop)]
 pub(crate) struct Beside {
     left_out: LeftOut,
@@ -36,18 +36,22 @@ impl Model for Beside {
     ghost invariant = { λ v. IsNormal v.left_out × AreNormal v.sets.items };
 }
 
-// The versions between two places that are left over.
-fn left_between(alloc: Global, left_out: LeftOut, bounds: Bounds) -> Result<PlaceRanges, AllocError>
+// The versions between two packed cuts that are left over.
+fn left_between(
+    alloc: Global,
+    left_out: LeftOut,
+    bounds: PackedRange,
+) -> Result<PackedRanges, AllocError>
     ensures { IfOk result (λ r. r ≡ joined (range bounds.low bounds.high) left_out) }
 {
     left_out.between(alloc, bounds).map_err(|_| AllocError)
 }
 
-// Whether the two places bound nothing.
-fn is_unbounded(bounds: &Bounds) -> bool
+// Whether the two packed cuts bound nothing.
+fn is_unbounded(bounds: &PackedRange) -> bool
     ensures { IsTrue result → (bounds.now.low ≡ least) × (bounds.now.high ≡ end) }
 {
-    bounds.low == Place::least() && bounds.high == Place::end()
+    bounds.low == PackedCut::least() && bounds.high == PackedCut::end()
 }
 
 impl Beside {
@@ -63,7 +67,7 @@ impl Beside {
     }
 
     /// Keeps the versions that don't lie between the bounds.
-    pub(crate) fn leave_out(&mut self, alloc: Global, bounds: Bounds) -> Result<(), AllocError>
+    pub(crate) fn leave_out(&mut self, alloc: Global, bounds: PackedRange) -> Result<(), AllocError>
         ensures ok { OnOk result (IsIntersection self.old (outside bounds.low bounds.high) self.new) }
         ensures normal { IsNormal self.new }
     {
@@ -81,8 +85,12 @@ impl Beside {
         narrow(alloc, &mut self.sets, others)
     }
 
-    /// The versions between two places that are kept.
-    pub(crate) fn between(self, alloc: Global, bounds: Bounds) -> Result<KeptRanges, AllocError>
+    /// The versions between two packed cuts that are kept.
+    pub(crate) fn between(
+        self,
+        alloc: Global,
+        bounds: PackedRange,
+    ) -> Result<KeptRanges, AllocError>
         ensures { IfOk result (λ k. kept_ranges k
             ≡ joined (range bounds.low bounds.high) self) }
     {
@@ -90,7 +98,7 @@ impl Beside {
         let _ = bounds.low.cmp(&bounds.high);
         let Beside { left_out, sets } = self;
         if sets.is_empty() {
-            return Ok(KeptRanges::Placed(left_between(alloc, left_out, bounds)?));
+            return Ok(KeptRanges::Packed(left_between(alloc, left_out, bounds)?));
         }
         let joined = joined_of(alloc, sets)?;
         if left_out.is_none() && is_unbounded(&bounds) {

@@ -5,24 +5,24 @@ ghost use Rattle.pep_clause.specs.OperatorTable.{range};
 ghost use Rattle.demands.specs.Way.Finished.{kept_ranges};
 
 use crate::entry::versions_copied;
+use packed_cuts::{PackedRange, PackedRanges};
 use pep_clause::{Range, VersionSet};
-use places::{Bounds, PlaceRanges};
 use std::alloc::{AllocError, Global};
 use std::cmp::Ordering;
 
 /// The versions that are kept, in the form that holds them. Public for the crate of tables.
 #[derive(Drop)]
 pub enum KeptRanges {
-    /// Those between two places.
-    Bounded(Bounds),
-    /// Those in ranges between places.
-    Placed(PlaceRanges),
+    /// Those between two packed cuts.
+    Bounded(PackedRange),
+    /// Those in ranges between packed cuts.
+    Packed(PackedRanges),
     /// Those of a set.
     Set(VersionSet),
 }
 
-// The set of the versions between two places.
-fn set_between(alloc: Global, bounds: Bounds) -> Result<VersionSet, AllocError>
+// The set of the versions between two packed cuts.
+fn set_between(alloc: Global, bounds: PackedRange) -> Result<VersionSet, AllocError>
     ensures { IfOk result (λ s. s ≡ range bounds.low bounds.high) }
 {
     let (Ok(low), Ok(high)) = (bounds.low.cut(alloc), bounds.high.cut(alloc)) else {
@@ -37,8 +37,8 @@ fn set_between(alloc: Global, bounds: Bounds) -> Result<VersionSet, AllocError>
     }
 }
 
-/// The versions in some ranges between places as a set.
-pub(crate) fn set_of(alloc: Global, ranges: &PlaceRanges) -> Result<VersionSet, AllocError>
+/// The versions in some ranges between packed cuts as a set.
+pub(crate) fn set_of(alloc: Global, ranges: &PackedRanges) -> Result<VersionSet, AllocError>
     ensures { IfOk result (λ s. s ≡ ranges.now) }
 {
     ranges.to_set(alloc).map_err(|_| AllocError)
@@ -51,7 +51,7 @@ impl KeptRanges {
     {
         match self {
             KeptRanges::Bounded(bounds) => bounds.low.cmp(&bounds.high) != Ordering::Less,
-            KeptRanges::Placed(ranges) => ranges.as_slice().is_empty(),
+            KeptRanges::Packed(ranges) => ranges.as_slice().is_empty(),
             KeptRanges::Set(versions) => versions.is_empty(),
         }
     }
@@ -62,7 +62,7 @@ impl KeptRanges {
     {
         match self {
             KeptRanges::Bounded(bounds) => set_between(alloc, bounds),
-            KeptRanges::Placed(ranges) => set_of(alloc, &ranges),
+            KeptRanges::Packed(ranges) => set_of(alloc, &ranges),
             KeptRanges::Set(versions) => Ok(versions),
         }
     }
@@ -73,7 +73,7 @@ impl KeptRanges {
     {
         match self {
             KeptRanges::Bounded(bounds) => set_between(alloc, *bounds),
-            KeptRanges::Placed(ranges) => set_of(alloc, ranges),
+            KeptRanges::Packed(ranges) => set_of(alloc, ranges),
             KeptRanges::Set(versions) => versions_copied(alloc, versions),
         }
     }

@@ -15,18 +15,18 @@ ghost use Rattle.demands.specs.Way.PartialJoins.{beside_versions, joined_sets};
 use crate::beside::Beside;
 use crate::kept_ranges::KeptRanges;
 use crate::line_demands::LineDemands;
+use packed_cuts::{PackedCut, PackedRange};
 use pep_clause::{Clause, VersionSet};
 use pep_require::Target;
-use places::{Bounds, Place};
 use std::alloc::{AllocError, Global};
 use std::marker::Model;
 
-/// The versions between two places, which move inwards clause by clause, that are kept beside them too: what `!=`
-/// leaves over, and the sets of clauses without places and of tables. Clauses see the ranges of all this.
+/// The versions between two packed cuts, which move inwards clause by clause, that are kept beside them too: what `!=`
+/// leaves over, and the sets of clauses without packed cuts and of tables. Clauses see the ranges of all this.
 #[derive(Drop)]
 pub(crate) struct KeptVersions {
-    low: Place,
-    high: Place,
+    low: PackedCut,
+    high: PackedCut,
     // All versions, where it is `None`.
     beside: Option<Box<Beside>>,
 }
@@ -45,8 +45,8 @@ impl Model for KeptVersions {
         (beside_versions (option_map (λ b. b.value) v.beside)) };
 }
 
-// What is kept beside two places: all versions, where there was nothing.
-fn taken(alloc: Global, beside: Option<Box<Beside>>) -> Result<Box<Beside>, AllocError>
+// What is kept beside two packed cuts: all versions, where there was nothing.
+fn beside_or_all(alloc: Global, beside: Option<Box<Beside>>) -> Result<Box<Beside>, AllocError>
     ensures { IfOk result (λ b. b.value ≡ beside_versions (option_map (λ b. b.value) beside)) }
 {
     match beside {
@@ -61,14 +61,14 @@ impl KeptVersions {
         ensures { result ≡ all_versions }
     {
         KeptVersions {
-            low: Place::least(),
-            high: Place::end(),
+            low: PackedCut::least(),
+            high: PackedCut::end(),
             beside: None,
         }
     }
 
     // Keeps the versions between the bounds.
-    fn narrow_to(&mut self, bounds: Bounds)
+    fn narrow_to(&mut self, bounds: PackedRange)
         requires low { IsCut bounds.low }
         requires high { IsCut bounds.high }
         ensures { IsIntersection self.old (range bounds.low bounds.high) self.new }
@@ -78,7 +78,7 @@ impl KeptVersions {
     }
 
     /// Keeps the versions that a line demands too, whose sets are moved. Where the line leaves none out, and each of
-    /// its clauses has places, nothing is allocated.
+    /// its clauses has packed cuts, nothing is allocated.
     #[inline(always)]
     pub(crate) fn meet_line(
         &mut self,
@@ -92,8 +92,8 @@ impl KeptVersions {
         self.meet_all(alloc, &mut line.sets)
     }
 
-    // Keeps the versions that lie between none of these places.
-    fn leave_out_all(&mut self, alloc: Global, left_out: &[Bounds]) -> Result<(), AllocError>
+    // Keeps the versions that lie between none of these packed cuts.
+    fn leave_out_all(&mut self, alloc: Global, left_out: &[PackedRange]) -> Result<(), AllocError>
         ensures { OnOk result
             (IsIntersection self.old (joined_sets (map left_by left_out.now)) self.new) }
     {
@@ -123,17 +123,17 @@ impl KeptVersions {
     pub(crate) fn meet(&mut self, alloc: Global, others: VersionSet) -> Result<(), AllocError>
         ensures { OnOk result (IsIntersection self.old others self.new) }
     {
-        let mut beside = taken(alloc, self.beside.take())?;
+        let mut beside = beside_or_all(alloc, self.beside.take())?;
         beside.meet(alloc, others)?;
         self.beside = Some(beside);
         Ok(())
     }
 
     // Keeps the versions that don't lie between the bounds.
-    fn leave_out(&mut self, alloc: Global, bounds: Bounds) -> Result<(), AllocError>
+    fn leave_out(&mut self, alloc: Global, bounds: PackedRange) -> Result<(), AllocError>
         ensures { OnOk result (IsIntersection self.old (outside bounds.low bounds.high) self.new) }
     {
-        let mut beside = taken(alloc, self.beside.take())?;
+        let mut beside = beside_or_all(alloc, self.beside.take())?;
         beside.leave_out(alloc, bounds)?;
         self.beside = Some(beside);
         Ok(())
@@ -154,7 +154,7 @@ impl KeptVersions {
     {
         // Its clause tells that the clause is valid.
         let _ = clause.op();
-        match Bounds::of(clause) {
+        match PackedRange::of(clause) {
             Some(bounds) if clause.op().leaves_out() => self.leave_out(alloc, bounds),
             Some(bounds) => {
                 self.narrow_to(bounds);
@@ -197,7 +197,7 @@ impl KeptVersions {
         ensures { IfOk result (λ k. kept_ranges k ≡ self) }
     {
         let KeptVersions { low, high, beside } = self;
-        let bounds = Bounds { low, high };
+        let bounds = PackedRange { low, high };
         match beside {
             Some(beside) => Box::into_inner(beside).between(alloc, bounds),
             None => Ok(KeptRanges::Bounded(bounds)),

@@ -11,9 +11,9 @@ ghost use Rattle.demands.specs.Way.LineDemands.{AddsClause, AddsExtra, AddsUrl, 
 ghost use Rattle.demands.specs.Table.{IsValidEntry, is_url_text};
 
 use crate::others::Others;
+use packed_cuts::{PackedCut, PackedRange};
 use pep_clause::VersionSet;
 use pep_marker::Name;
-use places::{Bounds, Place};
 use std::alloc::{AllocError, Global};
 use std::marker::Model;
 
@@ -24,10 +24,10 @@ use std::marker::Model;
 /// is cleared before it is used again.
 #[derive(Drop)]
 pub struct LineDemands {
-    pub(crate) bounds: Bounds,
+    pub(crate) bounds: PackedRange,
     // What `!=` leaves out.
-    pub(crate) left_out: Vec<Bounds>,
-    // What clauses whose versions have no places admit.
+    pub(crate) left_out: Vec<PackedRange>,
+    // What clauses whose versions have no packed cuts admit.
     pub(crate) sets: Vec<VersionSet>,
     pub(crate) others: Others,
 }
@@ -54,14 +54,14 @@ fn empty<T: Drop>(list: &mut Vec<T>)
     }
 }
 
-// The places between which all versions lie.
-fn unbounded() -> Bounds
+// The packed cuts between which all versions lie.
+fn unbounded() -> PackedRange
     ensures low { result.low ≡ least }
     ensures high { result.high ≡ end }
 {
-    Bounds {
-        low: Place::least(),
-        high: Place::end(),
+    PackedRange {
+        low: PackedCut::least(),
+        high: PackedCut::end(),
     }
 }
 
@@ -98,7 +98,7 @@ impl LineDemands {
 
     /// The versions between the bounds are demanded, by a clause that admits just these.
     #[inline(always)]
-    pub fn meet(&mut self, bounds: Bounds)
+    pub fn meet(&mut self, bounds: PackedRange)
         ensures { (c : Clause) → DemandsRanges c (range bounds.low bounds.high)
             → AddsClause c self.old self.new }
     {
@@ -110,7 +110,7 @@ impl LineDemands {
 
     /// The versions that don't lie between the bounds are demanded, by a clause with `!=` that admits just these (PEP
     /// 440, "Version exclusion").
-    pub fn leave_out(&mut self, bounds: Bounds) -> Result<(), AllocError>
+    pub fn leave_out(&mut self, bounds: PackedRange) -> Result<(), AllocError>
         requires { IsNormal (outside bounds.low bounds.high) }
         ensures { OnOk result ((c : Clause) → DemandsRanges c (outside bounds.low bounds.high)
             → AddsClause c self.old self.new) }

@@ -2,7 +2,7 @@
 use Rattle.std.specs.Prelude.{ℕ, Bool, true, List, Option, None}
 
 -- the bytes of a file and the identity of its device, where they are told, and whether opening it
--- may succeed, and may fail, want of memory apart
+-- may succeed, and may fail, lack of memory apart
 pub record KnownFile : Type 0 where
   pub bytes : Option (List ℕ)
   pub identity : Option (List ℕ)

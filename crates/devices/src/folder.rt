@@ -31,7 +31,7 @@ pub trait Folder {
     ghost file_at: { Self → List ℕ → KnownFile } = { λ _. unknown_files };
 
     /// Opens the file with this path, to be read from its beginning, only where that may succeed.
-    /// It is `CannotOpen` only where that may fail, and `NoMemory` for want of memory.
+    /// It is `CannotOpen` only where that may fail, and `NoMemory` for lack of memory.
     fn open(&self, path: &str) -> Result<Self::File, OpenFault>
         ensures fresh { IfOk result (λ file. IsFresh (Self.File.device file)) }
         ensures bytes { IfOk result
@@ -58,7 +58,7 @@ impl<'a, R: Files> Folder for Disk<'a, R> {
     }
 }
 
-// Only want of memory is told apart.
+// Only lack of memory is told apart.
 fn open_fault(kind: ErrorKind) -> OpenFault
     ensures { result ≡ OpenFault.NoMemory ↔ kind ≡ ErrorKind.OutOfMemory }
 {

@@ -1,4 +1,4 @@
--- Want of memory, or another cause; and where a fault with a cause lies: want of memory nowhere.
+-- Lack of memory, or another cause; and where a fault with a cause lies: lack of memory nowhere.
 use Rattle.std.proofs.Common.{◌≡◌, ◌≢◌, ◌⊎◌, refl, sym, subst, inl, inr}
 use Rattle.pep_require.specs.declared.fault.RequireFault.{RequireFault}
 use Rattle.pep_require.specs.declared.fault.RequireFault.TheVariants as require
@@ -16,7 +16,7 @@ pub memory_or_other : (c : Cause) → (c ≡ cause.NoMemory) ⊎ (c ≢ cause.No
 memory_or_other cause.NoMemory = inl refl
 memory_or_other c = inr (λ e. cc e)
 
--- what is true of the cause, unless it is want of memory, is true of the fault in its place
+-- what is true of the cause, unless it is lack of memory, is true of the fault in its place
 pub placed : (P : Cause → Type 0) (p : Place) (c : Cause) (f : Fault) →
     (c ≡ cause.NoMemory) ⊎ P c → f.cause ≡ c → (c ≡ cause.NoMemory → f ≡ no_memory) →
     (c ≢ cause.NoMemory → f.place ≡ p) → (f ≡ no_memory) ⊎ ((f.place ≡ p) × P f.cause)

@@ -18,7 +18,7 @@ use toml::Table;
 /// The fault lies in the environment, and is that of the first check that fails: 56 for more bytes;
 /// 51 where they aren't UTF-8; 52 where they nest too deep (see [`project_of`](crate::project_of)) or
 /// are no TOML document; 55 where a value is no text; 59 with the fault of the keys and texts, in the
-/// order of the keys' bytes, as [`Environment::of`] has it. Want of memory, 60, has no place.
+/// order of the keys' bytes, as [`Environment::of`] has it. Lack of memory, 60, has no place.
 pub fn environment_of(alloc: Global, bytes: &[u8]) -> Result<Environment, Fault>
     ensures ok { IfOk result (λ environment. environment_file bytes.now ≡ Ok environment) }
     ensures refused { IfErr result (λ fault. (fault ≡ no_memory)

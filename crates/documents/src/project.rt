@@ -66,7 +66,7 @@ use toml::Table;
 /// it is included first: 55 for a value that is neither a text nor a table whose one key is
 /// `include-group`, with a name; 65 for a group that isn't there; 67 for one that is being gone
 /// through. Last, with and without a group, 57 with the fault of a text, counted from 1 in the order of
-/// the texts (see [`Requirement::read`]). Want of memory, 60, has no place.
+/// the texts (see [`Requirement::read`]). Lack of memory, 60, has no place.
 pub fn project_of(
     alloc: Global,
     bytes: &[u8],
@@ -87,7 +87,7 @@ pub fn project_of(
 }
 
 /// The requirements of a project file, read and refused as by [`project_of`], with the cause of the
-/// fault alone; want of memory is 60. Public for the crate above alone.
+/// fault alone; lack of memory is 60. Public for the crate above alone.
 pub fn project_requirements(
     alloc: Global,
     bytes: &[u8],
@@ -114,7 +114,7 @@ pub struct ProjectFile {
 
 impl ProjectFile {
     /// The document that the bytes are, which are refused as by [`project_of`] where they are none: 56, 51 or 52,
-    /// and want of memory is 60. Public for the crates above alone.
+    /// and lack of memory is 60. Public for the crates above alone.
     pub fn read(alloc: Global, bytes: &[u8]) -> Result<ProjectFile, Cause>
         ensures ok { IfOk result (λ file. document_of bytes.now ≡ Ok (table_view file.document)) }
         ensures refused { IfErr result (λ cause. (cause ≡ Cause.NoMemory)
@@ -126,7 +126,7 @@ impl ProjectFile {
 
     /// The texts that the document is asked for: those of the group, or where none is asked for, those of its
     /// dependencies and of the extra. They are refused by the further checks of [`project_of`], but for whether each
-    /// text is a requirement; want of memory is 60. Public for the crates above alone.
+    /// text is a requirement; lack of memory is 60. Public for the crates above alone.
     pub fn texts<'a>(
         &'a self,
         alloc: Global,

@@ -1,4 +1,4 @@
--- The fault of the program for a fault of an argument. Want of memory has no place.
+-- The fault of the program for a fault of an argument. Lack of memory has no place.
 use Rattle.pep_marker.specs.declared.fault.MarkerFault.TheVariants as marker
 use Rattle.pep_version.specs.declared.fault.VersionFault.TheVariants as version
 use Rattle.faults.specs.declared.fault.ArgumentFault.{ArgumentFault}

@@ -277,7 +277,7 @@ impl Fault {
     ghost use Rattle.faults.specs.declared.fault.Cause.TheVariants.{NoMemory};
     ghost use Rattle.faults.specs.declared.fault.Place.TheVariants.{Nowhere};
 
-    /// Want of memory, which has no place.
+    /// Lack of memory, which has no place.
     pub fn no_memory() -> Fault
         ensures { result ≡ record { place = Nowhere; cause = NoMemory } }
     {
@@ -288,7 +288,7 @@ impl Fault {
     }
 
     /// A version or a name on the command line that can't be read: 62, in no place, with the code
-    /// of the fault behind it. Want of memory, 3 or 29, is that of [`Fault::no_memory`].
+    /// of the fault behind it. Lack of memory, 3 or 29, is that of [`Fault::no_memory`].
     pub fn of_argument(fault: ArgumentFault) -> Fault
         ensures { result ≡ fault_of_argument fault }
     {
@@ -306,7 +306,7 @@ impl Fault {
     /// codes from the outermost to the innermost. Behind the line of refused words comes the text
     /// that tells why.
     ///
-    /// Its one refusal is want of memory, 60.
+    /// Its one refusal is `NoMemory`, 60.
     pub fn text(&self, alloc: Global) -> Result<String, Fault>
         ensures line { IfOk result (λ text. string_bytes text ≡ fault_line self.now) }
         ensures faults { IfErr result
@@ -324,7 +324,7 @@ impl Fault {
     }
 }
 
-/// The cause of a fault of the line or text with this number, counted from 1. Want of memory has no
+/// The cause of a fault of the line or text with this number, counted from 1. Lack of memory has no
 /// number. Public for the crates above alone.
 pub fn line_cause(number: u64, fault: LineFault) -> Cause
     ensures memory { fault ≡ LineFault.Requirement RequireFault.NoMemory → result ≡ Cause.NoMemory }
@@ -338,7 +338,7 @@ pub fn line_cause(number: u64, fault: LineFault) -> Cause
     }
 }
 
-/// The fault with this cause in this place. Want of memory has no place. Public for the crates above
+/// The fault with this cause in this place. Lack of memory has no place. Public for the crates above
 /// alone.
 pub fn fault_in(place: Place, cause: Cause) -> Fault
     ensures cause { result.cause ≡ cause }

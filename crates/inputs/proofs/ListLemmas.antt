@@ -95,7 +95,7 @@ refused_list bytes c rs told (by_line number line f at refused e) s =
     spoiled line f (λ over. told (number, e ∙ ap (cause.Line number) over)) refused
     (line_of_list {reads = Reads} bytes at.before line at.behind rs at.whole s)
 
--- a fault of a line is no want of memory, whatever a line is refused for
+-- a fault of a line is no lack of memory, whatever a line is refused for
 pub line_known : (line : List ℕ) (f : LineFault) →
     IsRefusedLine line f → f ≢ line_fault.Requirement fault.NoMemory
 line_known line f (no_line (by_length long e)) memory = cc (e, memory)

@@ -109,7 +109,7 @@ pub record BlamesInput (e : EnvironmentParts) (inputs : List Input) (fault : Fau
   pub refused : IsRefused e input.kind input.group input.bytes.items fault.cause
   pub not_accepted : ¬ IsOverflow fault.cause → ¬ IsAccepted e input
 
--- Why inputs are refused with this fault: one of them is at fault, or memory is wanting, of which
+-- Why inputs are refused with this fault: one of them is at fault, or memory ran out, of which
 -- nothing is said.
 abbrev pub RefusesInputs : EnvironmentParts → List Input → Fault → Type 0
 RefusesInputs e inputs fault = (fault ≡ no_memory) ⊎ BlamesInput e inputs fault

@@ -1,6 +1,6 @@
 -- What a list is whose bytes come from a reader, in whatever pieces.
 use Rattle.std.specs.Prelude.{◌≡◌, ℕ, ◌+◌, ◌≤◌, ◌⊎◌, IsTrue, false, List, [], ◌∷◌, ◌++◌, All, length}
-use Rattle.std.specs.Prelude.{IsUtf8, Option, None}
+use Rattle.std.specs.Prelude.{IsUtf8, Option, None, Result, ◌↔◌, IfErr, IfOk, IsErrOf, OnOk}
 use Rattle.std.specs.Io.KnownBytes.{Consumes, IsAtEnd}
 use Rattle.devices.specs.Device.{Device}
 use Rattle.texts.specs.Limits.{line_limit}
@@ -15,7 +15,7 @@ use Rattle.documents.specs.RefusedProject.{IsOverflow}
 use Rattle.inputs.specs.declared.input.Kind.TheVariants as kind
 use Rattle.inputs.specs.Gathered.{AcceptsBytes, BytesDemand}
 use Rattle.inputs.specs.Lists.{content, input_limit, is_skipped, lines_of}
-use Rattle.inputs.specs.Refusal.{IsRefused}
+use Rattle.inputs.specs.Refusal.{IsRefused, no_memory}
 
 -- of a reader that tells its bytes: at most so many of them were read
 abbrev pub ReadsUpTo : ℕ → Option (List ℕ) → Option (List ℕ) → Type 0
@@ -96,3 +96,17 @@ pub data RefusesReading (e : EnvironmentParts) (left after : Option (List ℕ)) 
       RefusesReading e left after source fault
   by_bytes : source.failed ≡ false → RefusesRead e left after fault →
       RefusesReading e left after source fault
+
+-- ---- reading a list
+
+-- What comes of reading a list from a source: the table of what it demands, or why it is refused. It
+-- fails with 58 exactly if a read failed. At most the bytes of the largest list are read and one
+-- more, by at most as many calls.
+pub record ReadsList (e : EnvironmentParts) (left after : Option (List ℕ)) (source : Device)
+    (result : Result TableParts Fault) : Type 0 where
+  pub table : IfOk result (ReadsTable e left after)
+  pub no_failure : OnOk result (source.failed ≡ false)
+  pub refused : IfErr result (λ fault. (fault ≡ no_memory) ⊎ RefusesReading e left after source fault)
+  pub failed : IsTrue source.failed ↔ IsErrOf result failed_read
+  pub bytes : ReadsUpTo (input_limit + 1) left after
+  pub calls : source.calls ≤ input_limit + 1

@@ -57,8 +57,8 @@ impl Taker for RequirementTaker {
 ///
 /// The fault is that of input 1, in the order of the bytes: 57 with 38 at the 65,537th byte of a
 /// line, and at its end 57 with 51 where the line isn't UTF-8, else with the fault of its
-/// requirement (see [`Requirement::read`]); 56 at the 16,777,217th byte, which is the fault where
-/// both fall on one byte. Want of memory, 60, has no place.
+/// requirement (see [`Requirement::read`]); 56 at the 16,777,217th byte, before any 57 on
+/// the same byte. Lack of memory, 60, has no place.
 pub fn list_of(alloc: Global, bytes: &[u8]) -> Result<Vec<Requirement>, Fault>
     ensures ok { IfOk result (λ requirements.
         IsRequirementList bytes.now (map requirement_parts requirements.items)) }
@@ -97,7 +97,7 @@ fn push_requirement(
     }
 }
 
-/// The text of each requirement and a line feed. The only fault is want of memory.
+/// The text of each requirement and a line feed. The only fault is `NoMemory`.
 pub fn lines_text(alloc: Global, requirements: &[Requirement]) -> Result<String, Fault>
     ensures text { IfOk result (λ text.
         string_bytes text ≡ listed_text (map requirement_parts requirements.now)) }

@@ -37,7 +37,7 @@ fn text_of(alloc: Global, gathering: Gathering, environment: &Environment) -> Re
 /// it has more than 16,777,216 bytes; 51 to 55, or with a group 65 to 67, for a project file that
 /// fails a check (see [`project_of`](crate::project_of)); 51 for a table file that isn't UTF-8; 57 for a line of a
 /// list or of a table file, or a text of a project file (see [`gather`]). The first fault of the
-/// first such input is answered. Want of memory is 60, without a place.
+/// first such input is answered. Lack of memory is 60, without a place.
 pub fn merge_bytes(
     alloc: Global,
     inputs: &[Input],
@@ -52,7 +52,7 @@ pub fn merge_bytes(
 }
 
 /// The text of the table of what is demanded in the environment, yet to be written (see
-/// [`Gathering::printout`]). The only fault is want of memory, 60.
+/// [`Gathering::printout`]). The only fault is `NoMemory`, 60.
 pub fn printout_of(
     alloc: Global,
     gathering: Gathering,

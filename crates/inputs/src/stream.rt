@@ -1,8 +1,6 @@
 //! A list that is merged while it is read.
 
 ghost use Rattle.std.specs.Prelude.{
-  ◌≡◌,
-  ◌⊎◌,
   ◌↔◌,
   ◌≤◌,
   ◌+◌,
@@ -10,14 +8,11 @@ ghost use Rattle.std.specs.Prelude.{
   IfOk,
   IsErrOf,
   IsTrue,
-  OnOk,
-  false,
 };
 ghost use Rattle.devices.specs.Device.{IsFresh};
 ghost use Rattle.inputs.specs.Lists.{input_limit};
 ghost use Rattle.inputs.specs.Way.LineReading.{RefusesSource, TakesSource};
-ghost use Rattle.inputs.specs.Refusal.{no_memory};
-ghost use Rattle.inputs.specs.Streams.{ReadsTable, ReadsUpTo, RefusesReading, failed_read};
+ghost use Rattle.inputs.specs.Streams.{ReadsList, ReadsUpTo};
 
 use crate::gathering::DemandTaker;
 use crate::lines::{LinesSoFar, Taker, refused_over, take_last, take_piece};
@@ -73,23 +68,16 @@ fn take_source<T: Taker, S: Source>(
 /// bytes come. At most 16,777,217 bytes are read, by at most as many calls.
 ///
 /// A fault is that of input 1, the first in the order of the bytes: those of a list, see `gather`,
-/// or 58 where a read failed and no line before it is at fault. Behind a fault the reader isn't
-/// called again. Want of memory is 60, without a place.
+/// or 58 where a read failed and no line before it is at fault. Lack of memory is 60, without a
+/// place.
 pub fn gather_reader<S: Source>(
     alloc: Global,
     source: &mut S,
     environment: &Environment,
 ) -> Result<Gathering, Fault>
     requires { IsFresh (S.device source.old) }
-    ensures table { IfOk result (ReadsTable environment.now (S.left source.old)
-        (S.left source.new)) }
-    ensures no_failure { OnOk result ((S.device source.new).failed ≡ false) }
-    ensures refused { IfErr result (λ fault. (fault ≡ no_memory)
-        ⊎ RefusesReading environment.now (S.left source.old) (S.left source.new)
-        (S.device source.new) fault) }
-    ensures failed { IsTrue (S.device source.new).failed ↔ IsErrOf result failed_read }
-    ensures bytes { ReadsUpTo (input_limit + 1) (S.left source.old) (S.left source.new) }
-    ensures calls { (S.device source.new).calls ≤ input_limit + 1 }
+    ensures reads { ReadsList environment.now (S.left source.old) (S.left source.new)
+        (S.device source.new) result }
 {
     let mut taker = DemandTaker::new(alloc, environment, None);
     let nothing = Gathering::new(alloc);
@@ -107,15 +95,8 @@ pub fn merge_reader<S: Source>(
     environment: &Environment,
 ) -> Result<Table, Fault>
     requires { IsFresh (S.device source.old) }
-    ensures table { IfOk result (ReadsTable environment.now (S.left source.old)
-        (S.left source.new)) }
-    ensures no_failure { OnOk result ((S.device source.new).failed ≡ false) }
-    ensures refused { IfErr result (λ fault. (fault ≡ no_memory)
-        ⊎ RefusesReading environment.now (S.left source.old) (S.left source.new)
-        (S.device source.new) fault) }
-    ensures failed { IsTrue (S.device source.new).failed ↔ IsErrOf result failed_read }
-    ensures bytes { ReadsUpTo (input_limit + 1) (S.left source.old) (S.left source.new) }
-    ensures calls { (S.device source.new).calls ≤ input_limit + 1 }
+    ensures reads { ReadsList environment.now (S.left source.old) (S.left source.new)
+        (S.device source.new) result }
 {
     let gathering = gather_reader(alloc, source, environment)?;
     match gathering.finish(alloc) {

@@ -52,7 +52,7 @@ fn read_part(
 /// lines of: of the wanted name alone, where there is one. The causes of a refusal, in this order: 56
 /// where there are more bytes; 51 where they aren't UTF-8; 57 with 43 for the text of a table in
 /// another environment, and the first line that differs, or with 41 for the first line that can't stand
-/// in a table behind those before it (see [`Table::read`]). Want of memory is 60.
+/// in a table behind those before it (see [`Table::read`]). Lack of memory is 60.
 pub(crate) fn table_in(
     alloc: Global,
     bytes: &[u8],

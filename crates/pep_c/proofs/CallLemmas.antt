@@ -58,7 +58,7 @@ kept_answer Yes x e = kept x (answer_number Yes) e refl
 kept_answer No x e = kept x (answer_number No) e refl
 kept_answer Conflict x e = kept x (answer_number Conflict) e refl
 
--- ---- want of memory
+-- ---- lack of memory
 
 pub fault_line-no_memory : fault_line no_memory ≡ codes "refused code 60\n"
 unfolding digits

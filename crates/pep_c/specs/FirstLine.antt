@@ -12,7 +12,7 @@ use Rattle.faults.specs.declared.fault.Place.TheVariants as place
 abbrev pub first_line : LineFault → Fault
 first_line f = record { place = place.Input 1; cause = cause.Line 1 f }
 
--- .. and want of memory without a place
+-- .. and lack of memory without a place
 abbrev pub refused_line : RequireFault → Fault
 refused_line require.NoMemory = no_memory
 refused_line f = first_line (line_fault.Requirement f)

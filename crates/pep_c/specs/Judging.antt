@@ -15,7 +15,7 @@ use Rattle.faults.specs.declared.fault.Place.TheVariants as place
 use Rattle.pep_c.specs.FirstLine.{first_line}
 use Rattle.pep_c.specs.Versions.{truth_number}
 
--- a fault of a marker as one of the first line, and want of memory without a place
+-- a fault of a marker as one of the first line, and lack of memory without a place
 abbrev pub marker_fault : MarkerFault → Fault
 marker_fault marker.NoMemory = no_memory
 marker_fault marker.Undefined = first_line line_fault.Undefined

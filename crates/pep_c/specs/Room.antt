@@ -16,7 +16,7 @@ pub record GoesOut (text : List ℕ) (size : ℕ) (old new : List ℕ) : Type 0 
 abbrev pub GivesText : (List ℕ → Type 0) → ℕ → List ℕ → List ℕ → Type 0
 GivesText Is size old new = (text : List ℕ) × Is text × GoesOut text size old new
 
--- the line of such a refusal goes out, or that of want of memory
+-- the line of such a refusal goes out, or that of lack of memory
 abbrev pub TellsRefusal : (Fault → Type 0) → ℕ → List ℕ → List ℕ → Type 0
 TellsRefusal refuses size old new =
     (fault : Fault) × ((fault ≡ no_memory) ⊎ refuses fault) × GoesOut (fault_line fault) size old new

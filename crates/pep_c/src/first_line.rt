@@ -16,7 +16,7 @@ pub(crate) fn first_line(fault: LineFault) -> Fault
     }
 }
 
-/// Why the text is refused as a requirement or a part of one. Want of memory has no place.
+/// Why the text is refused as a requirement or a part of one. Lack of memory has no place.
 pub(crate) fn refused_line(fault: RequireFault) -> Fault
     ensures { result ≡ refused_line fault }
 {

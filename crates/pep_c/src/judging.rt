@@ -15,7 +15,7 @@ use pep_marker::{Environment, Marker, MarkerFault};
 use pep_require::RequireFault;
 use std::alloc::Global;
 
-// Why there is no truth, as a fault of the first line. Want of memory has no place.
+// Why there is no truth, as a fault of the first line. Lack of memory has no place.
 fn marker_fault(fault: MarkerFault) -> Fault
     ensures { result ≡ marker_fault fault }
 {

@@ -1,5 +1,5 @@
-//! The library for C, and for all that calls C: each export calls one function of the crates below
-//! and states its clauses again.
+//! The library for C, and for all that calls C: each export answers by functions of the crates below,
+//! and has a contract of its own.
 //!
 //! Bytes come in as slices. A text goes out into the room that the caller gives, where it fits, and
 //! its length always: so no memory changes hands. `include/tubrambutan.h` declares the exports and

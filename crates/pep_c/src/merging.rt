@@ -68,8 +68,8 @@ fn checked(
 /// It is `MISCUT` where a part has a kind that is none, or asks for a dependency group of a list or a
 /// table, or where the sizes of the parts together aren't the number of bytes. A refusal is that of the
 /// text of a group that is no name, 62 with 21; or else that of the environment, 51, 52, 55, 56 or 59; or
-/// that of an input, 51 to 57, or with a group 65 to 67; or 60. The parts are looked at in their order: the
-/// first that is miscut, or whose group is no name, decides.
+/// that of an input, 51 to 57, or with a group 65 to 67; or 60. Where a part is
+/// miscut and a group is no name, it is either of these.
 #[unsafe(no_mangle)]
 pub extern "C" fn tubrambutan_merge(
     alloc: Global,

@@ -19,7 +19,7 @@ pub const MISCUT: u32 = 1;
 /// The call was refused, and the line of the refusal went out.
 pub const REFUSED: u32 = 2;
 
-// The line of want of memory, where there is no memory for it.
+// The line of lack of memory, where there is no memory for it.
 const NO_MEMORY_LINE: &str = "refused code 60\n";
 
 /// What a call gives back beside the text that goes out.
@@ -63,7 +63,7 @@ fn put_numbers(numbers: &[u64], room: &mut [u64]) -> usize
     numbers.len()
 }
 
-// Puts the line of a fault in front of the room where it fits, or that of want of memory where there is
+// Puts the line of a fault in front of the room where it fits, or that of lack of memory where there is
 // none for it, and answers how many bytes it has.
 fn put_line(alloc: Global, fault: &Fault, room: &mut [u8]) -> usize
     ensures { TellsRefusal (λ f. f ≡ fault.now) result room.old room.new }

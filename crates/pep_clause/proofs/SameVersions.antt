@@ -12,7 +12,8 @@ use Rattle.std.specs.declared.cmp.Ordering.TheVariants.{Less, Equal, Greater}
 use Rattle.pep_clause.proofs.Between.{below-earlier, below-not_above, earlier-keeps, is_between}
 use Rattle.pep_clause.proofs.Between.{less_told}
 use Rattle.pep_clause.specs.Way.Joined.{earlier}
-use Rattle.pep_clause.specs.Cut.{Cut, IsCut, before, cut_cmp}
+use Rattle.pep_version.specs.Version.{IsVersion, Version}
+use Rattle.pep_clause.specs.Cut.{Cut, IsCut, before, cut_cmp, is_under}
 use Rattle.pep_clause.proofs.Density.{between_cuts}
 use Rattle.pep_clause.specs.SetEquality.{SameVersions, same_range, same_ranges, same_ranges-equiv}
 use Rattle.pep_clause.specs.Laws.{cut_total}
@@ -97,6 +98,38 @@ until_low (r ∷ rest) c h s k e n =
                 (and_left (below p r.high) (not (below p r.low)) past) others.1,
           ),
     ))
+
+-- ---- points by versions
+
+-- a point of a normal list: up to some cut above it, the list has all versions
+pub point-versions : (ranges : List Range) (c : Cut) → IsNormal ranges → is_point ranges c ≡ true
+    → (h : Cut) × IsCut h × (cut_cmp c h ≡ Less)
+    × ((v : Version) → is_under c v ≡ false → is_under h v ≡ true → is_in ranges v ≡ true)
+point-versions ranges c h e =
+    let inside = until_high ranges c (IsNormal-spelled ranges h) e in (
+      inside.0,
+      inside.1,
+      less_told (cut_cmp c inside.0) inside.2,
+      λ v a b. is_in-is_point ranges v
+          ∙ inside.3 (before v) (sym (is_under-cut_cmp c v) ∙ a) (sym (is_under-cut_cmp inside.0 v) ∙ b),
+    )
+
+-- .. and only a point has them
+pub versions-point : (ranges : List Range) (c h : Cut) → IsNormal ranges → IsCut c → IsCut h → cut_cmp c h ≡ Less
+    → ((v : Version) → IsVersion v → is_under c v ≡ false → is_under h v ≡ true → is_in ranges v ≡ true)
+    → is_point ranges c ≡ true
+versions-point ranges c h normal is high less all =
+    by_answer (is_point ranges c) (λ t. t) (λ f.
+    let outside = until_low ranges c h (IsNormal-spelled ranges normal) high (ap is_lt less) f in
+    let found = between_cuts c outside.0 is outside.1 (less_told (cut_cmp c outside.0) outside.2) in
+    let not_below : below (before found.0) c ≡ false = sym (is_under-cut_cmp c found.0) ∙ found.2 in
+    let under : below (before found.0) outside.0 ≡ true =
+    sym (is_under-cut_cmp outside.0 found.0) ∙ found.3 in
+    let none = outside.3 (before found.0) not_below under in
+    let some = all found.0 found.1 found.2 (is_under-cut_cmp h found.0 ∙ none.0) in
+    absurd (cc (sym some ∙ is_in-is_point ranges found.0 ∙ none.1)))
+
+-- ---- one list
 
 -- a cut is no point of the one list alone: a version is between it and the next place where a list
 -- changes

@@ -1,6 +1,6 @@
 -- What the ranges of a clause hold.
 use Rattle.std.proofs.Common.{◌≡◌, ◌==◌, ◌↔◌, Bool, false, length, List, [], ◌∷◌, None}
-use Rattle.std.proofs.Common.{IsSome, ◌&&◌, ◌||◌, not, refl, ◌∙◌, sym, subst, is_ge}
+use Rattle.std.proofs.Common.{IsSome, ◌&&◌, ◌||◌, not, refl, ◌∙◌, sym, is_ge}
 use Rattle.std.specs.Prelude.{IsTrue}
 use Rattle.std.specs.declared.cmp.Ordering.{Ordering}
 use Rattle.std.specs.declared.cmp.Ordering.TheVariants.{Less, Equal, Greater}

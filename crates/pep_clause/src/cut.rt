@@ -1,4 +1,4 @@
-// Cuts: places in the order of versions.
+// Cuts: positions in the order of versions.
 
 mod read;
 mod text;

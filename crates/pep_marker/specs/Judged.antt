@@ -11,8 +11,8 @@ use Rattle.pep_marker.specs.declared.judged.Judged.{Judged}
 abbrev pub TextSays : EnvironmentParts → List ℕ → Truth → Type 0
 TextSays e x truth = (m : MarkerParts) × IsMarker x m × Evaluates e m truth
 
--- why there is no truth: the marker is undefined in the environment, or the text is none; of want of
--- memory nothing is known
+-- why there is no truth: the marker is undefined in the environment, or the text is none; where
+-- memory runs out, nothing is known
 abbrev pub RefusesText : EnvironmentParts → List ℕ → MarkerFault → Type 0
 RefusesText e x f =
     (f ≡ NoMemory)

@@ -49,7 +49,7 @@ impl<'a> ComparedText<'a> {
         }
     }
 
-    /// The normal form of the text, by the rule of names. The only fault is want of memory, 29.
+    /// The normal form of the text, by the rule of names. The only fault is `NoMemory`, 29.
     pub(crate) fn normal(self, alloc: Global) -> Result<Normal<'a>, MarkerFault>
         ensures value { IfOk result (λ n. normal_bytes n ≡ normalized (compared_bytes self.entry)) }
         ensures faults { IfErr result (λ e. e ≡ MarkerFault.NoMemory) }
@@ -60,8 +60,8 @@ impl<'a> ComparedText<'a> {
         }
     }
 
-    /// What the clause says of the text; nothing where it is no version. The only fault is want of
-    /// memory, 29.
+    /// What the clause says of the text; nothing where it is no version. The only fault is
+    /// `NoMemory`, 29.
     pub(crate) fn admitted_by(
         self,
         alloc: Global,
@@ -83,8 +83,8 @@ impl<'a> ComparedText<'a> {
     }
 
     /// What the operator says of the version that the text spells, and of what stands in this clause
-    /// of `==`; nothing where it spells none, and where they make no clause. The only fault is want
-    /// of memory, 29.
+    /// of `==`; nothing where it spells none, and where they make no clause. The only fault is
+    /// `NoMemory`, 29.
     pub(crate) fn admitted_as(
         self,
         alloc: Global,

@@ -129,7 +129,7 @@ impl Environment {
     /// `UnknownVariable`) and no earlier pair's (24 `RepeatedVariable`), and then for its text,
     /// which holds none of the characters U+0000 to U+001F and no U+007F (25 `BadValue`). Then
     /// each variable but `extra` has to be given (23 `MissingVariable`, with the first that is
-    /// not, in the order of `Variable`). There may be want of memory, 29.
+    /// not, in the order of `Variable`). Memory may run out, 29.
     pub fn of(alloc: Global, pairs: &[(&str, &str)]) -> Result<Environment, MarkerFault>
         ensures accepted { IfOk result (λ e. pairs_fault (pair_texts pairs.now) ≡ None) }
         ensures value { IfOk result (λ e. e ≡ environment_of (pair_texts pairs.now)) }

@@ -96,7 +96,7 @@ impl Environment {
     /// The lines that stand in front of the text of a table that was made in the environment, each
     /// ended by a line feed: `pep-table 2`, then for each variable in the order of `Variable`
     /// `env NAME=TEXT`. Of `extra` the text is its normal form (PEP 503, "Normalized Names"), which
-    /// is all that markers see of it. The only fault is want of memory, 29.
+    /// is all that markers see of it. The only fault is `NoMemory`, 29.
     pub fn header(&self, alloc: Global) -> Result<String, MarkerFault>
         ensures text { IfOk result (λ text. string_bytes text ≡ header self.now) }
         ensures faults { IfErr result (λ e. e ≡ MarkerFault.NoMemory) }
@@ -140,7 +140,7 @@ impl Environment {
 
     /// What stands in front of a text: see [`HeaderIn`]. The text of a table in an environment has
     /// that environment's header there, and the lines of a table alone have none. The only fault is
-    /// want of memory, 29. Public for the crate of tables.
+    /// lack of memory, 29. Public for the crate of tables.
     pub fn header_in<'a>(&self, alloc: Global, text: &'a str) -> Result<HeaderIn<'a>, MarkerFault>
         ensures found { IfOk result (FindsHeader self.now text.now) }
         ensures environment { IsEnvironment self.now }

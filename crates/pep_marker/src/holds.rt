@@ -34,8 +34,8 @@ impl Marker {
     /// are compared as versions where the right one makes a clause with the operator and the left
     /// one is a version, and as texts, by their bytes, where not; `===` compares texts in lower
     /// case, and `in` and `not in` ask for a part of a text. `~=` has no meaning for texts, and a
-    /// marker with such a comparison is `Undefined`, 28: both sides of `and` and `or` count. There
-    /// may be want of memory, 29.
+    /// marker with such a comparison is `Undefined`, 28: both sides of `and` and `or` count. Memory
+    /// may run out, 29.
     pub fn holds(&self, alloc: Global, environment: &Environment) -> Result<bool, MarkerFault>
         ensures value { IfOk result (λ b. Evaluates environment.now (marker_parts self.now)
             (Some b)) }

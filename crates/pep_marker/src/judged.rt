@@ -75,7 +75,7 @@ impl<'a> JudgedMarkers<'a> {
     /// remembered.
     ///
     /// A text that is no marker is `BadMarker`, 26, or `TooDeep`, 27; a marker that is undefined
-    /// there is `Undefined`, 28. There may be want of memory, 29.
+    /// there is `Undefined`, 28. Memory may run out, 29.
     pub fn judge(&mut self, alloc: Global, text: &str) -> Result<bool, MarkerFault>
         ensures environment { self.new ≡ self.old }
         ensures value { IfOk result (λ b. TextSays self.old text.now (Some b)) }
@@ -92,7 +92,7 @@ impl<'a> JudgedMarkers<'a> {
         Ok(truth)
     }
 
-    // Remembers the text, and whether it is true. The only fault is want of memory.
+    // Remembers the text, and whether it is true. The only fault is `NoMemory`.
     fn remember(&mut self, alloc: Global, text: &str, truth: bool) -> Result<(), MarkerFault>
         requires { TextSays self.old text.now (Some truth) }
         ensures environment { self.new ≡ self.old }

@@ -18,7 +18,7 @@ pub(crate) enum NameText {
 }
 
 impl NameText {
-    /// The text in a value of its own. The only fault is want of memory.
+    /// The text in a value of its own. The only fault is `NoMemory`.
     pub(crate) fn of(alloc: Global, text: &str) -> Result<NameText, MarkerFault>
         ensures ok { IfOk result (λ t. name_bytes t ≡ text.now) }
         ensures faults { IfErr result (λ e. e ≡ MarkerFault.NoMemory) }
@@ -29,7 +29,7 @@ impl NameText {
         }
     }
 
-    /// The same text in another value. The only fault is want of memory.
+    /// The same text in another value. The only fault is `NoMemory`.
     pub(crate) fn copied(&self, alloc: Global) -> Result<NameText, MarkerFault>
         ensures ok { IfOk result (λ t. name_bytes t ≡ name_bytes self.now) }
         ensures faults { IfErr result (λ e. e ≡ MarkerFault.NoMemory) }

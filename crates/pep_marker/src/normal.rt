@@ -16,7 +16,7 @@ pub(crate) enum Normal<'a> {
 }
 
 impl<'a> Normal<'a> {
-    // The normal form of the text. The only fault is want of memory, 29.
+    // The normal form of the text. The only fault is `NoMemory`, 29.
     pub(crate) fn of(alloc: Global, text: &'a str) -> Result<Normal<'a>, MarkerFault>
         ensures value { IfOk result (λ n. normal_bytes n ≡ normalized text.now) }
         ensures faults { IfErr result (λ e. e ≡ MarkerFault.NoMemory) }

@@ -216,7 +216,7 @@ fn past_blanks(text: &str, place: usize) -> usize
     place + blank_run(rest)
 }
 
-// The tokens of a marker's text. The only fault is want of memory, 29.
+// The tokens of a marker's text. The only fault is `NoMemory`, 29.
 pub(crate) fn tokens_of(alloc: Global, text: &str) -> Result<Tokens<'_>, MarkerFault>
     ensures whole { IfOk result (λ found. IsTrue found.whole
         → HasTokens text.now (map token_of found.items.items)) }

@@ -39,7 +39,7 @@ impl Model for Value {
 }
 
 impl Value {
-    /// The value with this text. The only fault is want of memory, 29.
+    /// The value with this text. The only fault is `NoMemory`, 29.
     pub(crate) fn of(alloc: Global, text: &str) -> Result<Value, MarkerFault>
         ensures value { IfOk result (λ v. v ≡ text.now) }
         ensures faults { IfErr result (λ e. e ≡ MarkerFault.NoMemory) }
@@ -85,7 +85,7 @@ impl Value {
     }
 }
 
-/// The version that the text spells, if it spells one. The only fault is want of memory, 29.
+/// The version that the text spells, if it spells one. The only fault is `NoMemory`, 29.
 pub(crate) fn version_of(alloc: Global, text: &str) -> Result<Option<Version>, MarkerFault>
     ensures value { IfOk result (λ found. MatchOption found
         ((v : version.Version) → ¬ Spells text.now v) (λ v. Spells text.now v)) }
@@ -100,7 +100,7 @@ pub(crate) fn version_of(alloc: Global, text: &str) -> Result<Option<Version>, M
     }
 }
 
-/// The clause of the operator and the text, if they make one. The only fault is want of memory, 29.
+/// The clause of the operator and the text, if they make one. The only fault is `NoMemory`, 29.
 pub(crate) fn clause_of(alloc: Global, op: Op, text: &str) -> Result<Option<Clause>, MarkerFault>
     ensures value { IfOk result (λ found. MatchOption found
         ((c : clause.Clause) → ¬ ClauseOf op text.now (Ok c)) (λ c. ClauseOf op text.now (Ok c))) }

@@ -1,4 +1,4 @@
--- The fault of a line for a fault inside it. Want of memory is the line's own.
+-- The fault of a line for a fault inside it. Lack of memory is the line's own.
 use Rattle.specifiers.specs.declared.fault.ClauseFault.{ClauseFault}
 use Rattle.specifiers.specs.declared.fault.ClauseFault.TheVariants as clause
 use Rattle.pep_marker.specs.declared.fault.MarkerFault.{MarkerFault}

@@ -181,8 +181,8 @@ pub record LineParts (x : List ℕ) (r : RequirementParts) : Type 0 where
   pub target : TargetFrom (without_leading_blanks after_extras) r.target after_target
   pub marker : ReadsMarker (without_leading_blanks after_target) r.marker
 
--- The line is refused with this fault: that of the first of its parts that is at fault. Of want of
--- memory nothing is known.
+-- The line is refused with this fault: that of the first of its parts that is at fault. Where
+-- memory runs out, nothing is known.
 pub data RefusesLine (x : List ℕ) (f : RequireFault) : Type 0 where
   bad_beginning : beginning_fault x ≡ Some f → RefusesLine x f
   bad_extras : beginning_fault x ≡ None → RefusesExtras (after_name x) f → RefusesLine x f

@@ -38,7 +38,7 @@ fn is_end(closed: bool, text: &str) -> bool
 
 /// The clause in front of the text, and what stands behind it, without white space before that (PEP 508, "Grammar").
 /// The clause takes the longest run of characters that one may hold. The refusals are `BadClause`, 33, with the
-/// clause's fault, and want of memory, 40. Public for those alone who remember clauses by their texts.
+/// clause's fault, and lack of memory, 40. Public for those alone who remember clauses by their texts.
 pub fn clause_at<'a>(alloc: Global, text: &'a str) -> Result<(Clause, &'a str), RequireFault>
     ensures read { IfOk result (λ found. BoundFrom text.now found.0 found.1.now) }
     ensures refused { IfErr result (λ e. (e ≡ RequireFault.NoMemory) ⊎ RefusesBound text.now e) }

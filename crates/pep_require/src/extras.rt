@@ -44,7 +44,7 @@ fn extra(alloc: Global, piece: &str) -> Result<Name, RequireFault>
     match Name::read(alloc, written) {
         Ok(name) => Ok(name),
         Err(MarkerFault::BadName) => Err(RequireFault::BadExtras),
-        // The only other fault is want of memory.
+        // The only other fault is lack of memory.
         Err(_) => Err(RequireFault::NoMemory),
     }
 }

@@ -24,16 +24,15 @@ pub fn one_requirement()
     ensures { (line : List ℕ) (r s : RequirementParts) → Reads line r → Reads line s → r ≡ s }
 {}
 
-/// A line that is refused is no requirement. Of want of memory, and of an overflow of the reader of
-/// URLs, nothing is known.
+/// A line that is refused is no requirement, unless memory ran out or the reader of URLs overflowed.
 pub fn refused_is_not_read()
     ensures { (line : List ℕ) (r : RequirementParts) (fault : RequireFault)
         → fault ≢ RequireFault.NoMemory → fault ≢ RequireFault.UrlOverflow
         → RefusesLine line fault → ¬ Reads line r }
 {}
 
-/// A line has one fault, that of the first check that fails, but for which fault its marker has. Of
-/// want of memory, and of an overflow of the reader of URLs, nothing is known.
+/// A line has one fault, that of the first check that fails, but for which fault its marker has. That
+/// says nothing where memory ran out or the reader of URLs overflowed.
 pub fn one_fault()
     ensures { (line : List ℕ) (fault other : RequireFault)
         → fault ≢ RequireFault.NoMemory → fault ≢ RequireFault.UrlOverflow

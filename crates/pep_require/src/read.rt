@@ -28,7 +28,7 @@ impl Requirement {
     /// does; `BadExtras`, 32; for the target `BadClause`, 33, with the fault of the first clause
     /// that is none, `BadUrl`, 34, or `UrlOverflow`, 39, of the reader of URLs, and `Trailing`,
     /// 36, for a missing `)`; `BadMarker`, 35, with the marker's fault; `Trailing`, 36, where
-    /// something else stands behind the target. There may be want of memory, 40.
+    /// something else stands behind the target. Memory may run out, 40.
     pub fn read(alloc: Global, line: &str) -> Result<Requirement, RequireFault>
         ensures ok { IfOk result (λ r. Reads line.now (requirement_parts r)) }
         ensures refused { IfErr result (RefusesLine line.now) }

@@ -60,7 +60,7 @@ impl Requirement {
 
     /// Whether the requirement applies in the environment: where it has no marker, or the marker is
     /// true there (PEP 508, "Environment Markers"). A marker that is undefined there is
-    /// `Undefined`, 28, and there may be want of memory, 29: see [`Marker::holds`].
+    /// `Undefined`, 28. Memory may run out, 29: see [`Marker::holds`].
     pub fn applies(&self, alloc: Global, environment: &Environment) -> Result<bool, MarkerFault>
         ensures value { IfOk result (λ b.
             MarkerSays environment.now (requirement_parts self.now).marker (Some b)) }

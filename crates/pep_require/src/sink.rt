@@ -47,7 +47,7 @@ pub trait LineSink {
         ensures begun { (name : List ℕ) → holds self.old line.new (with_name name) };
 
     /// One more extra (PEP 508, "Extras"), in the order of the line, in which one may stand twice. The only refusal is
-    /// want of memory, 40.
+    /// lack of memory, 40.
     fn extra(&mut self, line: &mut Self::Line, name: Name) -> Result<(), RequireFault>
         ensures same { self.new ≡ self.old }
         ensures ok { OnOk result (Adds (holds self.old line.old) (holds self.old line.new)
@@ -64,7 +64,7 @@ pub trait LineSink {
         ensures refused { IfErr result (λ e. (e ≡ RequireFault.NoMemory) ⊎ RefusesBound text.now e) };
 
     /// The URL that is written so (PEP 508, "Grammar"), in place of clauses. The refusals are `BadUrl`, 34,
-    /// `UrlOverflow`, 39, and want of memory, 40: see [`UrlText::read`](crate::UrlText::read).
+    /// `UrlOverflow`, 39, and lack of memory, 40: see [`UrlText::read`](crate::UrlText::read).
     fn url(&mut self, line: &mut Self::Line, written: &str) -> Result<(), RequireFault>
         ensures same { self.new ≡ self.old }
         ensures ok { OnOk result ((u : UrlParts) × ReadsUrl written.now u

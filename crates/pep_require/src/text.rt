@@ -26,7 +26,7 @@ impl Requirement {
 
     /// The requirement as one line (PEP 508, "Grammar"): the name, the extras in `[` `]`, the
     /// clauses joined by `,`, or ` @ ` and the URL as it was written, and ` ; ` and the marker. The
-    /// only fault is want of memory, 40.
+    /// only fault is lack of memory, 40.
     pub fn text(&self, alloc: Global) -> Result<String, RequireFault>
         ensures text { IfOk result (λ t. string_bytes t
             ≡ requirement_text (requirement_parts self.now)) }

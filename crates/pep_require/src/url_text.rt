@@ -56,7 +56,7 @@ impl UrlText {
     /// alone.
     ///
     /// Any other text is `BadUrl`, 34. Where the reader of URLs answers its own overflow for a text
-    /// without spaces and such characters it is `UrlOverflow`, 39, and there may be want of memory, 40. A URL of the
+    /// that has no byte below U+0021, it is `UrlOverflow`, 39. Memory may run out, 40. A URL of the
     /// common form (see [`common_url_is_its_text`](crate::laws::common_url_is_its_text)) is refused only as 40.
     pub fn read(alloc: Global, written: &str) -> Result<UrlText, RequireFault>
         ensures ok { IfOk result (λ u. ReadsUrl written.now u) }

@@ -14,14 +14,16 @@ use Rattle.pep_clause.proofs.SetLemmas.{is_in-place_of}
 use Rattle.pep_clause.proofs.UnderCut.{is_in-is_point}
 use Rattle.specifiers.specs.Clause.{demanded}
 use Rattle.pep_clause.specs.Cut.{Cut, IsCut, before}
-use Rattle.pep_clause.specs.VersionSet.{IsPoint, Range, all_versions, is_in, is_point}
+use Rattle.pep_clause.specs.VersionSet.{IsNormal, IsPoint, Range, all_versions, is_in, is_point}
+use Rattle.pep_table.proofs.AdmittedPoints.{admitted_point, every_point, point_admitted}
+use Rattle.pep_table.specs.OneText.{valid_at}
 use Rattle.pep_table.specs.TableLaws.{right_kept}
 use Rattle.demands.proofs.OwnEntry.{own_entry}
 use Rattle.demands.specs.Demand.{AdmitsBesideTexts, Demand, Demands, Together, presence, extra}
 use Rattle.demands.specs.Demand.{url, clause, ranges}
 use Rattle.demands.specs.Join.{IsIntersection, JoinsAt, JoinsEntries, JoinsTables}
 use Rattle.demands.specs.Table.{AdmitsPoint, EntryDemands, EntryParts, HasExactPoints, IsEntry}
-use Rattle.demands.specs.Table.{IsTable, IsValidTable, TableDemands, TableParts, entry_at}
+use Rattle.demands.specs.Table.{IsTable, IsValidEntry, IsValidTable, TableDemands, TableParts, entry_at}
 
 -- ---- what a table says of one name
 
@@ -213,36 +215,38 @@ table_at Q t name h g =
 
 -- ---- a table's own demands
 
-own_point : (e : EntryParts) (cut : Cut) → IsPoint all_versions cut → IsPoint e.versions cut →
-    (d : Demand) → EntryDemands e d → AdmitsPoint d cut
-own_point e cut all m (clause (demanded t)) q = all
-own_point e cut all m (clause c) q = absurd q
-own_point e cut all m (ranges l) q = subst (λ (k : List Range). IsPoint k cut) q m
-own_point e cut all m presence q = tt
-own_point e cut all m (extra x) q = tt
-own_point e cut all m (url u) q = tt
+own_point : (e : EntryParts) (cut : Cut) → IsNormal e.versions → IsPoint all_versions cut →
+    IsPoint e.versions cut → (d : Demand) → EntryDemands e d → AdmitsPoint d cut
+own_point e cut normal all m (clause (demanded t)) q = every_point (clause (demanded t)) cut all (λ v. tt)
+own_point e cut normal all m (clause c) q = absurd q
+own_point e cut normal all m (ranges l) q =
+    subst (λ (k : List Range). AdmitsPoint (ranges k) cut) q
+    (point_admitted (ranges e.versions) e.versions cut normal m (λ v is k. k))
+own_point e cut normal all m presence q = every_point presence cut all (λ v. tt)
+own_point e cut normal all m (extra x) q = every_point (extra x) cut all (λ v. tt)
+own_point e cut normal all m (url u) q = every_point (url u) cut all (λ v. tt)
 
-own_points : (e : EntryParts) → ExactEntry (EntryDemands e) e
-own_points e = λ cut is. (
-  λ m. let all = point-all_versions e.versions cut m in (all, own_point e cut all m),
-  λ f. f.1 (ranges e.versions) refl,
+own_points : (e : EntryParts) → IsNormal e.versions → ExactEntry (EntryDemands e) e
+own_points e normal = λ cut is. (
+  λ m. let all = point-all_versions e.versions cut m in (all, own_point e cut normal all m),
+  λ f. admitted_point (ranges e.versions) e.versions cut normal is (λ v k m. m) (f.1 (ranges e.versions) refl),
 )
 
 abbrev OwnDemands : Option EntryParts → Demand → Type 0
 OwnDemands o d = (e : EntryParts) × (o ≡ Some e) × EntryDemands e d
 
-own_at : (o : Option EntryParts) → HasEntry (OwnDemands o) o
-own_at None = record {
+own_at : (o : Option EntryParts) → ((e : EntryParts) → o ≡ Some e → IsValidEntry e) → HasEntry (OwnDemands o) o
+own_at None valid = record {
   named = ((λ s. cc s), λ q. cc q.1.1);
   entry = tt;
   points = tt;
 }
-own_at (Some e) =
+own_at (Some e) valid =
     same_at (EntryDemands e) (OwnDemands (Some e)) (Some e) (λ d. (λ q. (e, refl, q), back d))
     (record {
       named = ((λ s. (presence, tt)), λ q. refl);
       entry = own_entry e;
-      points = own_points e;
+      points = own_points e (valid e refl).versions;
     })
   where
     back : (d : Demand) → OwnDemands (Some e) d → EntryDemands e d
@@ -255,8 +259,11 @@ pub own_table : (t : TableParts) → IsValidTable t →
 own_table t valid = (
   record {
     valid = valid;
-    names = λ name. (own_at (entry_at t name)).named;
-    entries = λ name. (own_at (entry_at t name)).entry;
+    names = λ name. (own name).named;
+    entries = λ name. (own name).entry;
   },
-  λ name. (own_at (entry_at t name)).points,
+  λ name. (own name).points,
 )
+  where
+    own : (name : List ℕ) → HasEntry (OwnDemands (entry_at t name)) (entry_at t name)
+    own name = own_at (entry_at t name) (λ e at. valid_at t name e valid.entries at)

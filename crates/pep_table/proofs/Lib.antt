@@ -2,6 +2,7 @@ pub mod NamedEntries
 pub mod EntryPlaces
 pub mod FirstFault
 pub mod AllJoined
+pub mod AdmittedPoints
 pub mod JoinedDemands
 pub mod NameDemands
 pub mod TableAnswers

@@ -9,13 +9,14 @@ use Rattle.texts.proofs.Connectives.{and_from, and_parts}
 use Rattle.pep_version.proofs.PlaceLemmas.{place-of-place, place-version}
 use Rattle.pep_version.specs.Order.{place_of}
 use Rattle.pep_version.specs.Version.{IsVersion, Version}
-use Rattle.pep_clause.proofs.SetLemmas.{In-all_versions, is_in-set_of}
+use Rattle.pep_clause.proofs.SetLemmas.{In-all_versions, IsNormal-set_of, is_in-set_of}
 use Rattle.specifiers.specs.Admits.{admits}
 use Rattle.specifiers.specs.Clause.{Clause, demanded, demanded_text}
-use Rattle.pep_clause.specs.Cut.{Cut, before}
+use Rattle.pep_clause.specs.Cut.{Cut, IsCut, before}
 use Rattle.pep_clause.specs.OperatorTable.{set_of}
 use Rattle.specifiers.specs.Valid.{IsValidClause}
-use Rattle.pep_clause.specs.VersionSet.{In, Range, is_in, is_point}
+use Rattle.pep_clause.specs.VersionSet.{In, IsPoint, Range, all_versions, is_in, is_point}
+use Rattle.pep_table.proofs.AdmittedPoints.{admitted_point, every_point, point_admitted}
 use Rattle.pep_marker.proofs.MarkerTruth.{evaluates_one}
 use Rattle.pep_marker.specs.Environment.{EnvironmentParts}
 use Rattle.pep_marker.specs.Holds.{Truth}
@@ -179,23 +180,35 @@ own_meets r v told is f =
     ∙ beside_in c v (All-contains HasToldSet (target_clauses r.target) c told m) is
     (f (clause c) (refl, clause_demanded r.target c m)))
 
-own_points : (r : RequirementParts) (cut : Cut) →
-    list_all (λ c. is_point (set_of c) cut) (target_clauses r.target) ≡ true →
-    (d : Demand) → OwnDemands r d → AdmitsPoint d cut
-own_points r cut h presence q = tt
-own_points r cut h (extra x) q = tt
-own_points r cut h (url u) q = tt
-own_points r cut h (ranges l) q = absurd (no_ranges r.target l q.1)
-own_points r cut h (clause c) q =
-    passes_of (λ k. is_point (set_of k) cut) (target_clauses r.target) c h
-    (clause_there r.target c q.1)
+-- the points of a clause's set are those that the clause admits
+clause_point : (c : Clause) (cut : Cut) → IsValidClause c → IsCut cut →
+    IsPoint (set_of c) cut ↔ AdmitsPoint (clause c) cut
+clause_point c cut valid is = (
+  λ m. point_admitted (clause c) (set_of c) cut (IsNormal-set_of c valid) m (λ v k.
+      in_beside c v (is_in-set_of c valid) k),
+  λ a. admitted_point (clause c) (set_of c) cut (IsNormal-set_of c valid) is (λ v k.
+      beside_in c v (is_in-set_of c valid) k) a,
+)
 
-points_own : (r : RequirementParts) (cut : Cut) →
+own_points : (r : RequirementParts) (cut : Cut) → All IsValidClause (target_clauses r.target) → IsCut cut →
+    IsPoint all_versions cut → list_all (λ c. is_point (set_of c) cut) (target_clauses r.target) ≡ true →
+    (d : Demand) → OwnDemands r d → AdmitsPoint d cut
+own_points r cut valid is all h presence q = every_point presence cut all (λ v. tt)
+own_points r cut valid is all h (extra x) q = every_point (extra x) cut all (λ v. tt)
+own_points r cut valid is all h (url u) q = every_point (url u) cut all (λ v. tt)
+own_points r cut valid is all h (ranges l) q = absurd (no_ranges r.target l q.1)
+own_points r cut valid is all h (clause c) q =
+    let there = clause_there r.target c q.1 in
+    (clause_point c cut (All-contains IsValidClause (target_clauses r.target) c valid there) is).0
+    (passes_of (λ k. is_point (set_of k) cut) (target_clauses r.target) c h there)
+
+points_own : (r : RequirementParts) (cut : Cut) → All IsValidClause (target_clauses r.target) → IsCut cut →
     ((d : Demand) → OwnDemands r d → AdmitsPoint d cut) →
     list_all (λ c. is_point (set_of c) cut) (target_clauses r.target) ≡ true
-points_own r cut f =
+points_own r cut valid is f =
     passes_from (λ k. is_point (set_of k) cut) (target_clauses r.target) (λ c m.
-    f (clause c) (refl, clause_demanded r.target c m))
+    (clause_point c cut (All-contains IsValidClause (target_clauses r.target) c valid m) is).1
+    (f (clause c) (refl, clause_demanded r.target c m)))
 
 pub taken_entry : (Q : Demand → Type 0) (a b : EntryParts) (r : RequirementParts) → IsEntry Q a →
     HasToldSets r → TakesEntry a r b → IsEntry (λ d. Q d ⊎ OwnDemands r d) b
@@ -220,19 +233,19 @@ taken_entry Q a b r h told k = record {
 }
 
 taken_points : (Q : Demand → Type 0) (a b : EntryParts) (r : RequirementParts) → ExactEntry Q a →
-    TakesEntry a r b → ExactEntry (λ d. Q d ⊎ OwnDemands r d) b
-taken_points Q a b r h k = λ cut is.
+    All IsValidClause (target_clauses r.target) → TakesEntry a r b → ExactEntry (λ d. Q d ⊎ OwnDemands r d) b
+taken_points Q a b r h valid k = λ cut is.
     let both = k.versions.points cut is in
     let pass = list_all (λ c. is_point (set_of c) cut) (target_clauses r.target) in (
       λ m. let parts = and_parts (is_point a.versions cut) pass (sym both ∙ m) in
           let first = (h cut is).0 parts.0 in (
             first.0,
             from_both Q (OwnDemands r) (λ d. AdmitsPoint d cut) first.1
-                (own_points r cut parts.1),
+                (own_points r cut valid is first.0 parts.1),
           ),
       λ f. both ∙ and_from (is_point a.versions cut) pass
           ((h cut is).1 (f.0, λ d q. f.1 d (inl q)))
-          (points_own r cut (λ d w. f.1 d (inr w))),
+          (points_own r cut valid is (λ d w. f.1 d (inr w))),
     )
 
 -- ---- the old entry, or the bare one where nothing is demanded
@@ -276,31 +289,31 @@ at_other Q s t r name differ k h =
     back d (inl q) = q
     back d (inr w) = absurd (differ (demand_name r name d w))
 
-at_own : (Q : Demands) (s t : TableParts) (r : RequirementParts) → HasToldSets r →
+at_own : (Q : Demands) (s t : TableParts) (r : RequirementParts) → All IsValidClause (target_clauses r.target) →
     TakesRequirement s r t → HasEntry (Q r.name) (entry_at s r.name) →
     HasEntry (Together Q (RequirementDemands r) r.name) (entry_at t r.name)
-at_own Q s t r told k h =
+at_own Q s t r valid k h =
     let old = old_entry (Q r.name) (entry_at s r.name) h in
     let a = unwrap_or (entry_at s r.name) bare_entry in
     let own : HasEntry (Together Q (RequirementDemands r) r.name) (Some k.own.0) = record {
       named = ((λ s. (presence, inr refl)), λ q. refl);
-      entry = taken_entry (Q r.name) a k.own.0 r old.0 told k.own.2;
-      points = taken_points (Q r.name) a k.own.0 r old.1 k.own.2;
+      entry = taken_entry (Q r.name) a k.own.0 r old.0 (told_sets r valid) k.own.2;
+      points = taken_points (Q r.name) a k.own.0 r old.1 valid k.own.2;
     } in
     subst (HasEntry (Together Q (RequirementDemands r) r.name)) (sym k.own.1) own
 
 at_name : (Q : Demands) (s t : TableParts) (r : RequirementParts) (name : List ℕ) →
-    HasToldSets r → TakesRequirement s r t →
+    All IsValidClause (target_clauses r.target) → TakesRequirement s r t →
     ((n : List ℕ) → HasEntry (Q n) (entry_at s n)) →
     HasEntry (Together Q (RequirementDemands r) name) (entry_at t name)
-at_name Q s t r name told k h = by (bytes_eq name r.name) refl
+at_name Q s t r name valid k h = by (bytes_eq name r.name) refl
   where
     by : (b : Bool) → bytes_eq name r.name ≡ b →
         HasEntry (Together Q (RequirementDemands r) name) (entry_at t name)
     by true e =
         let is : name ≡ r.name = (bytes_eq-Decides name r.name).0 e in
         subst (λ (n : List ℕ). HasEntry (Together Q (RequirementDemands r) n) (entry_at t n))
-        (sym is) (at_own Q s t r told k (h r.name))
+        (sym is) (at_own Q s t r valid k (h r.name))
     by false e =
         let differ : name ≢ r.name =
         λ is. let both : true ≡ false = sym ((bytes_eq-Decides name r.name).1 is) ∙ e in cc both in
@@ -313,7 +326,7 @@ pub taken_is_table : (Q : Demands) (s : TableParts) (r : RequirementParts) (t : 
     × HasExactPoints (Together Q (RequirementDemands r)) t
 taken_is_table Q s r t h g k =
     table_from_entries (Together Q (RequirementDemands r)) t k.valid (λ name.
-    at_name Q s t r name (told_sets r k.parts.clauses) k (λ n. table_at Q s n h g))
+    at_name Q s t r name k.parts.clauses k (λ n. table_at Q s n h g))
 
 -- ---- requirements that apply
 

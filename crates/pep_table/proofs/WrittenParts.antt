@@ -7,8 +7,8 @@ use Rattle.std.proofs.lemmas.List.Folds.{concat-append}
 use Rattle.std.specs.List.{concat}
 use Rattle.std.specs.Prelude.{Vec}
 use Rattle.std.specs.declared.alloc.Global.{Global}
-use Rattle.places.specs.Way.LeftOut.{span, spans}
-use Rattle.places.specs.declared.bounds.Bounds.{Bounds}
+use Rattle.packed_cuts.specs.Way.LeftOut.{span, spans}
+use Rattle.packed_cuts.specs.declared.packed_range.PackedRange.{PackedRange}
 use Rattle.pep_table.specs.Way.Printout.{in_blocks, row_text, rows_text}
 use Rattle.pep_table.specs.TableText.{kind_lines, line, range_text}
 use Rattle.pep_table.specs.declared.printout.Row.{Row}
@@ -45,8 +45,8 @@ lines_push kind f xs i d lt =
     ∙ ap (λ l. concat (map g l)) (sym (map-append f (take i xs) (x ∷ [])))
     ∙ ap (λ l. concat (map g (map f l))) (sym (take_more xs i d lt))
 
--- one line more of ranges between places
-pub spans_push : (bounds : List Bounds) (i : ℕ) (d : Bounds) → i < length bounds →
+-- one line more of ranges between packed cuts
+pub spans_push : (bounds : List PackedRange) (i : ℕ) (d : PackedRange) → i < length bounds →
     kind_lines (codes "range") (map range_text (spans (take i bounds)))
     ++ kind_line (codes "range") (range_text (span (get_or bounds i d)))
     ≡ kind_lines (codes "range") (map range_text (spans (take (i + 1) bounds)))

@@ -48,8 +48,7 @@ fn push_gathered(
         × (string_bytes text.new ≡ string_bytes text.old ++ entry_text name verdict gathered)) }
 {
     let row = Row::of(alloc, name, gathered)?;
-    row.put_text(text)?;
-    Ok(())
+    row.put_text(text)
 }
 
 impl Gathering {

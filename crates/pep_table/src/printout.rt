@@ -158,7 +158,7 @@ impl Printout {
         Printout { header, rows }
     }
 
-    /// Writes the text, wherever it goes. No memory is wanted for it.
+    /// Writes the text, wherever it goes. It needs no memory.
     pub fn put_text<T: TextOut>(&self, text: &mut T) -> Result<(), T::Fault>
         ensures ok { OnOk result (T.tells → T.written text.new ≡ T.written text.old ++ self.now) }
         ensures kept { OnErr result (T.tells → Extends (T.written text.old) (T.written text.new)) }

@@ -36,7 +36,7 @@ use demands::{Entry, TableFault, Verdict};
 use pep_marker::{Environment, HeaderIn, Name};
 use std::alloc::{AllocError, AllocFailed, Global};
 
-/// Why reading stops: memory is wanting, or the line in front of this text can't stand there.
+/// Why reading stops: memory ran out, or the line in front of this text can't stand there.
 pub(crate) enum Halt<'a> {
     NoMemory,
     At(&'a str),

@@ -33,8 +33,8 @@ impl Model for Table {
     ghost invariant = { λ t. IsValidTable t.entries.items };
 }
 
-// The fault of the requirement with this number, whose marker is undefined where memory isn't
-// wanting.
+// The fault of the requirement with this number, whose marker is undefined where memory didn't
+// run out.
 fn fault_at(fault: MarkerFault, number: usize) -> TableFault
     ensures memory { fault ≡ MarkerFault.NoMemory → result ≡ TableFault.NoMemory }
     ensures undefined { fault ≢ MarkerFault.NoMemory → result ≡ TableFault.Undefined number }

@@ -25,15 +25,15 @@ ghost use Rattle.pep_table.specs.TableText.{
 };
 ghost use Rattle.demands.specs.Way.Finished.{kept_ranges, other_parts};
 ghost use Rattle.demands.specs.Way.Others.{kept_others};
-ghost use Rattle.places.specs.Way.LeftOut.{spans};
+ghost use Rattle.packed_cuts.specs.Way.LeftOut.{spans};
 ghost use Rattle.demands.specs.Verdict.{verdict_word};
 ghost use Rattle.texts.specs.TextOut.{Extends};
 
 use crate::table::Table;
 use demands::{Entry, Finished, Kept, KeptRanges, OtherTexts, TableFault, Verdict};
+use packed_cuts::PackedRange;
 use pep_clause::Range;
 use pep_marker::{Environment, Name};
-use places::Bounds;
 use std::alloc::{AllocError, Global};
 use std::cmp::Ordering;
 use texts::{Arena, TextOut};
@@ -149,8 +149,7 @@ pub(crate) fn push_entry(
         ++ entry_text name.now verdict entry.now)) }
 {
     let verdict = entry.verdict(alloc).map_err(|_| AllocError)?;
-    put_lines(text, name, verdict, entry)?;
-    Ok(())
+    put_lines(text, name, verdict, entry)
 }
 
 /// The lines of the entry of a name, as they stand in the text of a table (see [`Table::text`]). The only fault is
@@ -165,8 +164,8 @@ pub fn entry_text(alloc: Global, name: &Name, entry: &Entry) -> Result<String, T
     Ok(lines)
 }
 
-// Writes the line of the range between two places.
-fn put_bounds<T: TextOut>(text: &mut T, bounds: Bounds) -> Result<(), T::Fault>
+// Writes the line of the range between two packed cuts.
+fn put_bounds<T: TextOut>(text: &mut T, bounds: PackedRange) -> Result<(), T::Fault>
     ensures ok { OnOk result (T.tells → T.written text.new ≡ T.written text.old
         ++ line (codes "  range " ++ range_text (record {
           low = bounds.low;
@@ -182,8 +181,8 @@ fn put_bounds<T: TextOut>(text: &mut T, bounds: Bounds) -> Result<(), T::Fault>
     Ok(())
 }
 
-// Writes the line of the range between two places, where a version lies between them.
-fn put_between<T: TextOut>(text: &mut T, bounds: Bounds) -> Result<(), T::Fault>
+// Writes the line of the range between two packed cuts, where a version lies between them.
+fn put_between<T: TextOut>(text: &mut T, bounds: PackedRange) -> Result<(), T::Fault>
     ensures ok { OnOk result (T.tells → T.written text.new ≡ T.written text.old
         ++ kind_lines (codes "range") (map range_text (range bounds.low bounds.high))) }
     ensures kept { OnErr result (T.tells → Extends (T.written text.old) (T.written text.new)) }
@@ -194,8 +193,8 @@ fn put_between<T: TextOut>(text: &mut T, bounds: Bounds) -> Result<(), T::Fault>
     put_bounds(text, bounds)
 }
 
-// Writes the lines of ranges between places.
-fn put_spans<T: TextOut>(text: &mut T, ranges: &[Bounds]) -> Result<(), T::Fault>
+// Writes the lines of ranges between packed cuts.
+fn put_spans<T: TextOut>(text: &mut T, ranges: &[PackedRange]) -> Result<(), T::Fault>
     ensures ok { OnOk result (T.tells → T.written text.new ≡ T.written text.old
         ++ kind_lines (codes "range") (map range_text (spans ranges.now))) }
     ensures kept { OnErr result (T.tells → Extends (T.written text.old) (T.written text.new)) }
@@ -214,7 +213,7 @@ fn put_kept<T: TextOut>(text: &mut T, versions: &KeptRanges) -> Result<(), T::Fa
 {
     match versions {
         KeptRanges::Bounded(bounds) => put_between(text, *bounds),
-        KeptRanges::Placed(ranges) => put_spans(text, ranges.as_slice()),
+        KeptRanges::Packed(ranges) => put_spans(text, ranges.as_slice()),
         KeptRanges::Set(versions) => put_ranges(text, versions.ranges()),
     }
 }

@@ -232,7 +232,7 @@ module _ {File : Type 0} (files : Text → KnownFile) (left_of : File → Option
       MergesFiles env group paths text × (status ≡ 0) × Keeps left after
   IsReply (check_version c) left after text status = TellsCheck c text status × Keeps left after
 
-  -- why what is asked for is refused, want of memory apart
+  -- why what is asked for is refused, lack of memory apart
   abbrev pub RefusesRequest : Request → Option (List ℕ) → Option (List ℕ) → Device → Fault → Type 0
   RefusesRequest standard left after input fault =
       RefusesReading standard_environment left after input fault

@@ -2,7 +2,6 @@
 
 ghost use Rattle.std.specs.Prelude.{
   ◌≡◌,
-  ◌≢◌,
   ◌≤◌,
   ◌+◌,
   IfOk,
@@ -19,7 +18,7 @@ ghost use Rattle.devices.specs.Folder.{unknown_files};
 ghost use Rattle.inputs.specs.Lists.{input_limit};
 ghost use Rattle.inputs.specs.Streams.{ReadsUpTo};
 ghost use Rattle.command_line.specs.Plan.{Asks, standard};
-ghost use Rattle.pep_tool.specs.Run.{PrintsReply, Refuses, Tells, TellsRefusal, WritesLine};
+ghost use Rattle.pep_tool.specs.Run.{PrintsReply, Refuses, Runs, Tells, WritesLine};
 
 mod body;
 mod reading;
@@ -76,7 +75,7 @@ const REFUSED: u8 = 2;
 /// - The refusals of [`environment_of`](crate::environment_of) and of
 ///   [`merge_bytes`](crate::merge_bytes); for `lines` those of [`list_of`](crate::list_of) and
 ///   [`project_of`](crate::project_of), and 64 for a table file, which has no requirements.
-/// - 60 for want of memory, and 63 where writing failed.
+/// - 60 for lack of memory, and 63 where writing failed.
 ///
 /// A failure to write to `faults` changes nothing.
 pub fn run<R: Files + AllocGlobal, I: Source, O: Sink, F: Sink>(
@@ -89,32 +88,10 @@ pub fn run<R: Files + AllocGlobal, I: Source, O: Sink, F: Sink>(
     requires input { IsFresh (I.device input.old) }
     requires output { IsFresh (O.device output.old) }
     requires faults { IsFresh (F.device faults.old) }
-    ensures status { result ≤ 2 }
-
-    // At status 0 and 1 what the words ask for was printed, and nothing was told.
-    ensures printed { result ≢ 2 → PrintsReply unknown_files
-        ⟦<Counted<R::File> as Source>⟧.left ⟦<Counted<R::File> as Source>⟧.device
-        (map string_bytes words.now) (I.left input.old) (I.left input.new) (O.written output.old)
-        (O.written output.new) result }
-    ensures no_failure { result ≢ 2
-        → ((I.device input.new).failed ≡ false) × ((O.device output.new).failed ≡ false) }
-    ensures quiet { result ≢ 2 → Keeps (F.written faults.old) (F.written faults.new) }
-
-    // Where the words don't ask for the table of the input, the input is as it was; of it at most
-    // the bytes of the largest list are read and one more, by at most as many calls.
-    ensures unread { ¬ Asks (map string_bytes words.now) standard → input.new ≡ input.old }
-    ensures bytes { ReadsUpTo (input_limit + 1) (I.left input.old) (I.left input.new) }
-    ensures calls { (I.device input.new).calls ≤ input_limit + 1 }
-
-    // At status 2 a fault was told, and nothing was printed; the output is as it was, unless writing
-    // the answer failed.
-    ensures told { result ≡ 2 → TellsRefusal unknown_files
-        ⟦<Counted<R::File> as Source>⟧.left ⟦<Counted<R::File> as Source>⟧.device
-        (map string_bytes words.now) (I.left input.old) (I.left input.new) (I.device input.new)
-        (O.device output.new) output.old output.new (F.written faults.old) (F.written faults.new)
-        (F.device faults.new) }
-    ensures silent { result ≡ 2 → (O.device output.new).failed ≡ false
-        → Keeps (O.written output.old) (O.written output.new) }
+    ensures runs { Runs unknown_files ⟦<Counted<R::File> as Source>⟧.left
+        ⟦<Counted<R::File> as Source>⟧.device I.left I.device O.written O.device F.written F.device
+        (map string_bytes words.now) input.old input.new output.old output.new faults.old faults.new
+        result }
 {
     run_in(rt.alloc(), &Disk(rt), words, input, output, faults)
 }
@@ -133,30 +110,9 @@ pub fn run_in<D: Folder, I: Source, O: Sink, F: Sink>(
     requires input { IsFresh (I.device input.old) }
     requires output { IsFresh (O.device output.old) }
     requires faults { IsFresh (F.device faults.old) }
-    ensures status { result ≤ 2 }
-
-    // At status 0 and 1 what the words ask for was printed, and nothing was told.
-    ensures printed { result ≢ 2 → PrintsReply (D.file_at folder.now) D.File.left D.File.device
-        (map string_bytes words.now) (I.left input.old) (I.left input.new) (O.written output.old)
-        (O.written output.new) result }
-    ensures no_failure { result ≢ 2
-        → ((I.device input.new).failed ≡ false) × ((O.device output.new).failed ≡ false) }
-    ensures quiet { result ≢ 2 → Keeps (F.written faults.old) (F.written faults.new) }
-
-    // Where the words don't ask for the table of the input, the input is as it was; of it at most
-    // the bytes of the largest list are read and one more, by at most as many calls.
-    ensures unread { ¬ Asks (map string_bytes words.now) standard → input.new ≡ input.old }
-    ensures bytes { ReadsUpTo (input_limit + 1) (I.left input.old) (I.left input.new) }
-    ensures calls { (I.device input.new).calls ≤ input_limit + 1 }
-
-    // At status 2 a fault was told, and nothing was printed; the output is as it was, unless writing
-    // the answer failed.
-    ensures told { result ≡ 2 → TellsRefusal (D.file_at folder.now) D.File.left D.File.device
-        (map string_bytes words.now) (I.left input.old) (I.left input.new) (I.device input.new)
-        (O.device output.new) output.old output.new (F.written faults.old) (F.written faults.new)
-        (F.device faults.new) }
-    ensures silent { result ≡ 2 → (O.device output.new).failed ≡ false
-        → Keeps (O.written output.old) (O.written output.new) }
+    ensures runs { Runs (D.file_at folder.now) D.File.left D.File.device I.left I.device O.written
+        O.device F.written F.device (map string_bytes words.now) input.old input.new output.old
+        output.new faults.old faults.new result }
 {
     match print_reply(alloc, folder, words, input, output) {
         Ok(status) => status,
@@ -199,7 +155,7 @@ fn print_reply<D: Folder, I: Source, O: Sink>(
     Ok(reply.status)
 }
 
-// Writes the line of a fault, or that of want of memory where there is none for it.
+// Writes the line of a fault, or that of lack of memory where there is none for it.
 fn tell<F: Sink>(alloc: Global, fault: &Fault, faults: &mut F)
     requires { IsFresh (F.device faults.old) }
     ensures { Tells fault.now (F.written faults.old) (F.written faults.new) (F.device faults.new) }

@@ -165,7 +165,7 @@ abbrev pub Spells : List ℕ → Version → Type 0
 Spells text v = SpellsAny text v × NumbersFit v
 
 -- What reading a text answers: the one version that it spells; a number too large, where it would
--- spell one but for the bound on numbers; else that it is no version. Of want of memory it says
+-- spell one but for the bound on numbers; else that it is no version. Of lack of memory it says
 -- nothing.
 abbrev pub Reads : List ℕ → Result Version VersionFault → Type 0
 Reads text (Ok v) = Spells text v × ((w : Version) → SpellsAny text w → w ≡ v)

@@ -162,7 +162,7 @@ pub fn push_public(
     Ok(())
 }
 
-/// The same as [`push_public`], wherever the text goes. Public for the crate of places.
+/// The same as [`push_public`], wherever the text goes. Public for the crate of packed cuts.
 pub fn put_public<T: TextOut>(
     text: &mut T,
     release: &[u64],

@@ -292,7 +292,7 @@ impl Trial<'_> {
 }
 
 /// Which of the claims on a name clash, by their indices: none where the verdict is open. The only
-/// fault is want of memory.
+/// fault is lack of memory.
 pub(crate) fn clash_of(
     alloc: Global,
     claims: &[PlacedClaim],

@@ -1,8 +1,8 @@
 //! What claims leave out, between cuts that are numbered in order.
 
 use crate::cover::Part;
+use packed_cuts::{PackedCut, PackedRange};
 use pep_clause::{Clause, ClauseFault, Cut, Range, VersionSet};
-use places::{Bounds, Place};
 use std::alloc::{AllocError, Global};
 
 /// What stands for a cut.
@@ -11,7 +11,7 @@ pub(crate) trait Standing: Ord + Drop {
     fn stands_for(&self, alloc: Global) -> Result<Cut, ClauseFault>;
 }
 
-impl Standing for Place {
+impl Standing for PackedCut {
     fn stands_for(&self, alloc: Global) -> Result<Cut, ClauseFault> {
         self.cut(alloc)
     }
@@ -175,22 +175,22 @@ impl<T: Standing> Numbered<T> {
     }
 }
 
-// ---- between places
+// ---- between packed cuts
 
-/// Puts what the clause leaves out behind the rest, and says whether places tell it.
-pub(crate) fn push_places(
-    ends: &mut Ends<Place>,
+/// Puts what the clause leaves out behind the rest, and says whether packed cuts tell it.
+pub(crate) fn push_packed(
+    ends: &mut Ends<PackedCut>,
     claim: usize,
     clause: &Clause,
 ) -> Result<bool, AllocError> {
-    let Some(bounds) = Bounds::of(clause) else {
+    let Some(bounds) = PackedRange::of(clause) else {
         return Ok(false);
     };
     if clause.op().leaves_out() {
         ends.push(claim, bounds.low, bounds.high)?;
     } else {
-        ends.push(claim, Place::least(), bounds.low)?;
-        ends.push(claim, bounds.high, Place::end())?;
+        ends.push(claim, PackedCut::least(), bounds.low)?;
+        ends.push(claim, bounds.high, PackedCut::end())?;
     }
     Ok(true)
 }

@@ -109,7 +109,7 @@ fn with_entries(
 }
 
 /// The packages with the claims of an accepted table file, which is the input with this number. Since
-/// the table was read before, nothing but memory can be wanting.
+/// the table was read before, only memory can run out.
 pub(crate) fn table_claims(
     alloc: Global,
     bytes: &[u8],

@@ -3,12 +3,12 @@
 use crate::apart::Point;
 use crate::claims::{Claim, PlacedClaim};
 use crate::cover::{Needed, covering};
-use crate::ends::{Ends, Numbered, Standing, push_cuts, push_others, push_places};
+use crate::ends::{Ends, Numbered, Standing, push_cuts, push_others, push_packed};
 use demands::Entry;
+use packed_cuts::{PackedCut, PackedRange};
 use pep_clause::{Clause, ClauseFault, Cut};
 use pep_require::Target;
 use pep_version::{Key, Version, VersionFault};
-use places::{Bounds, Place};
 use std::alloc::{AllocError, Global};
 
 /// A few claims that may clash by themselves, by their indices, and points that each of them may leave out alone.
@@ -29,12 +29,12 @@ impl Hint {
     }
 }
 
-// Between which places versions lie that all clauses admit, as far as places tell.
-fn between(clauses: &[Clause]) -> Bounds {
-    let mut low = Place::least();
-    let mut high = Place::end();
+// The packed cuts between which all clauses admit versions, as far as packed cuts tell.
+fn between(clauses: &[Clause]) -> PackedRange {
+    let mut low = PackedCut::least();
+    let mut high = PackedCut::end();
     for clause in clauses {
-        match Bounds::of(clause) {
+        match PackedRange::of(clause) {
             Some(own) if !clause.op().leaves_out() => {
                 low = low.later(own.low);
                 high = high.earlier(own.high);
@@ -42,11 +42,11 @@ fn between(clauses: &[Clause]) -> Bounds {
             _ => {}
         }
     }
-    Bounds { low, high }
+    PackedRange { low, high }
 }
 
 // The same of a claim. Of an entry no more is told than whether it admits a version.
-fn bounds_of(claim: &Claim) -> Bounds {
+fn bounds_of(claim: &Claim) -> PackedRange {
     match claim {
         Claim::Required(requirement) => match requirement.target() {
             Target::Bounds(clauses) => between(clauses.as_slice()),
@@ -54,9 +54,9 @@ fn bounds_of(claim: &Claim) -> Bounds {
         },
         Claim::Entered(_, entry) => {
             if entry.versions().is_empty() {
-                Bounds {
-                    low: Place::end(),
-                    high: Place::least(),
+                PackedRange {
+                    low: PackedCut::end(),
+                    high: PackedCut::least(),
                 }
             } else {
                 between(&[])
@@ -70,8 +70,8 @@ fn bounds_of(claim: &Claim) -> Bounds {
 fn narrowest(claims: &[PlacedClaim]) -> Option<(usize, usize)> {
     let mut first = 0;
     let mut last = 0;
-    let mut low = Place::least();
-    let mut high = Place::end();
+    let mut low = PackedCut::least();
+    let mut high = PackedCut::end();
     for (index, placed) in claims.iter().enumerate() {
         let own = bounds_of(&placed.claim);
         if own.low >= own.high {
@@ -219,23 +219,24 @@ fn text_apart(
 
 // ---- a cover of all versions by what claims leave out
 
-// Whether places tell all that the clauses leave out. It is put behind the rest as far as they do.
+// Whether packed cuts tell all that the clauses leave out. It is put behind the rest as far as they do.
 fn push_clauses(
-    ends: &mut Ends<Place>,
+    ends: &mut Ends<PackedCut>,
     index: usize,
     clauses: &[Clause],
 ) -> Result<bool, AllocError> {
     for clause in clauses {
-        if !push_places(ends, index, clause)? {
+        if !push_packed(ends, index, clause)? {
             return Ok(false);
         }
     }
     Ok(true)
 }
 
-// Puts what the claim leaves out behind the rest, if places tell it all: else a point of another one may be left out.
-fn push_claim_places(
-    ends: &mut Ends<Place>,
+// Puts what the claim leaves out behind the rest, if packed cuts tell it all: else a point of another one may be left
+// out.
+fn push_claim_packed(
+    ends: &mut Ends<PackedCut>,
     index: usize,
     claim: &Claim,
 ) -> Result<(), AllocError> {
@@ -252,13 +253,16 @@ fn push_claim_places(
     Ok(())
 }
 
-// What the claims leave out between places.
-fn between_places(alloc: Global, claims: &[PlacedClaim]) -> Result<Numbered<Place>, ClauseFault> {
+// What the claims leave out between packed cuts.
+fn between_packed(
+    alloc: Global,
+    claims: &[PlacedClaim],
+) -> Result<Numbered<PackedCut>, ClauseFault> {
     let mut ends = Ends::none(alloc);
     for (index, placed) in claims.iter().enumerate() {
-        push_claim_places(&mut ends, index, &placed.claim)?;
+        push_claim_packed(&mut ends, index, &placed.claim)?;
     }
-    Ok(ends.numbered(alloc, Place::least(), Place::end())?)
+    Ok(ends.numbered(alloc, PackedCut::least(), PackedCut::end())?)
 }
 
 fn push_claim_cuts(
@@ -333,9 +337,9 @@ fn hint_of<T: Standing>(
     Ok(Hint { few, points })
 }
 
-// Claims that leave out all versions together, none of which may be left away, where places or cuts tell.
+// Claims that leave out all versions together, none of which may be left away, where packed cuts or cuts tell.
 fn covered(alloc: Global, claims: &[PlacedClaim]) -> Result<Hint, ClauseFault> {
-    let hint = hint_of(alloc, &between_places(alloc, claims)?, claims.len())?;
+    let hint = hint_of(alloc, &between_packed(alloc, claims)?, claims.len())?;
     if !hint.few.is_empty() {
         return Ok(hint);
     }

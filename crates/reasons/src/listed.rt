@@ -56,7 +56,7 @@ fn counted(
 }
 
 // The requirement on a line of a list that is accepted, if it counts: the name is read first, and the
-// rest where its package is asked about. Since the list was read before, nothing but memory can be wanting.
+// rest where its package is asked about. Since the list was read before, only memory can run out.
 fn requirement_on(
     alloc: Global,
     line: &[u8],

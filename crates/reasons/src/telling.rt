@@ -75,8 +75,8 @@ fn claims_in(
     }
 }
 
-// The packages with the claims of inputs that are accepted: the second pass, in which nothing but
-// memory can be wanting.
+// The packages with the claims of inputs that are accepted: the second pass, in which only memory can
+// run out.
 fn claims_on(
     alloc: Global,
     inputs: &[Input],

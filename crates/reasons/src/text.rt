@@ -137,7 +137,7 @@ impl Claim {
 
     /// The normal text of the claim: of a requirement its line, without a line feed (see
     /// [`Requirement::text`](pep_require::Requirement::text)); of a table's entry its lines, each with its line feed
-    /// (see [`entry_text`]). The only fault is want of memory, 60.
+    /// (see [`entry_text`]). The only fault is `NoMemory`, 60.
     pub fn text(&self, alloc: Global) -> Result<String, Fault>
         ensures text { IfOk result (λ text. IsClaimText (claim_parts self.now) (string_bytes text)) }
         ensures faults { IfErr result (λ fault. fault ≡ no_memory) }
@@ -163,7 +163,7 @@ impl Reason {
 
     /// The reason as lines: the name and the word of the verdict; `claim I N TEXT` for each claim, with the number of
     /// its input, that of its line or text there, and its normal text, of a table's entry its name; and
-    /// `clash I N TEXT` for each claim that clashes. The only fault is want of memory, 60.
+    /// `clash I N TEXT` for each claim that clashes. The only fault is `NoMemory`, 60.
     pub fn text(&self, alloc: Global) -> Result<String, Fault>
         ensures text { IfOk result (λ text.
             string_bytes text ≡ reason_text (reason_parts self.now)) }
@@ -176,8 +176,8 @@ impl Reason {
     }
 }
 
-/// The lines of reasons, one reason behind the other: see [`Reason::text`]. The only fault is want of
-/// memory, 60.
+/// The lines of reasons, one reason behind the other: see [`Reason::text`]. The only fault is
+/// `NoMemory`, 60.
 pub fn reasons_text(alloc: Global, reasons: &[Reason]) -> Result<String, Fault>
     ensures text { IfOk result (λ text.
         string_bytes text ≡ reasons_text (map reason_parts reasons.now)) }

@@ -92,7 +92,7 @@ refused_here count number bytes line ahead shards f c h why is = record {
   is = is ∙ ap (λ n. cause.Line (n + 1) f) (sym h.counted);
 }
 
--- no line is refused for want of memory
+-- no line is refused for lack of memory
 known : (line : List ℕ) (f : LineFault) → HasNoShard line f → f ≢ line_fault.Requirement require.NoMemory
 known line f (no_line (by_length long is)) = λ e. cc (sym is ∙ e)
 known line f (no_line (by_encoding short none is)) = λ e. cc (sym is ∙ e)
@@ -100,7 +100,7 @@ known line f (no_name g short text kept begins is) =
     λ e. let both : line_fault.Requirement g ≡ line_fault.Requirement require.NoMemory = sym is ∙ e in
     no_memory_fault (content line) g begins (cc both)
 
--- .. or memory is wanting
+-- .. or memory ran out
 pub refused_or_none : (count number : ℕ) (bytes line : List ℕ) (ahead : List (List ℕ))
     (shards : List ℕ) (f : LineFault) (fault : Fault) (c : Cause) →
     SplitSoFar count (lines_of bytes) number (line ∷ ahead) shards →

@@ -1,4 +1,4 @@
--- An operator and a text have one answer at most, want of memory apart.
+-- An operator and a text have one answer at most, lack of memory apart.
 use Rattle.std.proofs.Common.{◌≡◌, ◌≢◌, ℕ, Bool, true, false, List, [], ◌∷◌, ◌++◌, ◌-◌, take}
 use Rattle.std.proofs.Common.{length, refl, sym, ap, ◌∙◌, Option, None, Result, Ok, Err}
 use Rattle.std.specs.Prelude.{MatchBool, codes, if◌then◌else◌, nat_eq, nat_lt}

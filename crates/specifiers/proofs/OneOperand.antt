@@ -32,7 +32,7 @@ said o text v (Ok c) h m = (c, h, refl)
 said o text v (Err e) h m =
     λ c g. ok_apart c e (one-answer o text (Ok c) (Err e) g h (ok_apart c fault.NoMemory) m)
 
--- ---- no clause is wanting for memory
+-- ---- no clause fails for lack of memory
 
 bounded : (t : Bool) (a : Result Clause ClauseFault) (e : ClauseFault) → a ≢ Err fault.NoMemory →
     e ≢ fault.NoMemory → (if t then a else Err e) ≢ Err fault.NoMemory

@@ -161,7 +161,7 @@ VersionAnswers o text answer = MatchBool (ends_with nat_eq text (codes ".*"))
     (ReadsThen text (version_answer o) answer)
 
 -- What an operator and the text behind it give, white space at the text's ends apart: the clause,
--- or the first check that fails. Of want of memory it says nothing.
+-- or the first check that fails. Of lack of memory it says nothing.
 abbrev pub TargetAnswers : Op → List ℕ → Result Clause ClauseFault → Type 0
 TargetAnswers o text (Err fault.NoMemory) = ⊤
 TargetAnswers op.Exact text answer = answer ≡ demanded_of text

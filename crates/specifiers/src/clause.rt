@@ -12,7 +12,7 @@ use std::alloc::Global;
 use std::marker::Model;
 
 /// What stands behind the operator of a clause: a version, an epoch and a release with `.*`, kept as the version that
-/// they are, or the text of `===`. Public for the crates of sets and places, which make ranges of it.
+/// they are, or the text of `===`. Public for the crates of sets and packed cuts, which make ranges of it.
 #[derive(Debug, Drop)]
 pub enum Operand {
     Version(Version),
@@ -62,7 +62,7 @@ impl Clause {
         self.op
     }
 
-    /// What stands behind the operator. Public for the crates of sets and places, as the operand is.
+    /// What stands behind the operator. Public for the crates of sets and packed cuts, as the operand is.
     pub fn operand(&self) -> &Operand
         ensures clause { clause_of (operator self.now) result.now ≡ self.now }
         ensures parts { operand_parts result.now ≡ operand self.now }

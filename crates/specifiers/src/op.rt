@@ -13,7 +13,7 @@ pub enum Op {
 }
 
 /// Where the versions begin that a clause of an operator and a version speaks of. Public for the crates of sets and
-/// places, as [`Op::begin`] is.
+/// packed cuts, as [`Op::begin`] is.
 #[derive(Clone, Copy, Debug, PartialEq, Eq)]
 pub enum Begin {
     /// Under all versions.
@@ -79,7 +79,7 @@ impl Op {
     }
 
     /// Where the versions begin that the clause of this operator and a version admits, or with `!=` leaves out (PEP
-    /// 440, "Version specifiers"). Public for the crates of sets and places, which make a cut of it.
+    /// 440, "Version specifiers"). Public for the crates of sets and packed cuts, which make a cut of it.
     #[inline(always)]
     pub fn begin(self) -> Begin
         ensures { result ≡ begin_of self }

@@ -27,7 +27,7 @@ fn main(rt: HostRuntime) -> ExitCode {
     ExitCode::from(status)
 }
 
-// Words that can't be had: memory is wanting, or one of them isn't UTF-8.
+// Words that can't be had: memory ran out, or one of them isn't UTF-8.
 fn refuse_words(rt: &impl Eprint, error: &io::Error) -> ExitCode {
     let line = if error.kind() == io::ErrorKind::OutOfMemory {
         "refused code 60"

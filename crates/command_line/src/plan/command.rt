@@ -29,11 +29,11 @@ const PROGRAM_HELP: &str =
     A file whose name ends in .toml is a project file (PEP 621), one whose name ends in .table a\n\
     printed table. Every other file is a list.\n\
     \n\
-    The status is 0, or 1 of a check that isn't `yes`, or 2 of whatever is refused.";
+    The status is 0, 1 for a check that isn't `yes`, or 2 for whatever is refused.";
 
 // .. and that of `check`.
 const CHECK_HELP: &str =
-    "The status is 0 of `yes`, 1 of `no` and `conflict`, and 2 of whatever is refused.";
+    "The status is 0 for `yes`, 1 for `no` and `conflict`, and 2 for whatever is refused.";
 
 // A text that has to be there.
 fn text_argument<'a>(alloc: Global, name: &'a str, help: &'a str) -> Arg<'a>

@@ -4,25 +4,25 @@ use Rattle.specifiers.specs.Clause.{is_demanded_text}
 use Rattle.pep_clause.specs.OperatorTable.{outside}
 use Rattle.pep_clause.specs.VersionSet.{Range}
 use Rattle.pep_marker.specs.Name.{IsNormalName}
-use Rattle.places.specs.declared.bounds.Bounds.{Bounds}
+use Rattle.packed_cuts.specs.declared.packed_range.PackedRange.{PackedRange}
 use Rattle.demands.specs.Way.Others.{OtherParts}
 use Rattle.demands.specs.Way.PartialJoins.{AreKept, AreNormal, joined_sets, kept_versions}
 use Rattle.demands.specs.Table.{is_url_text}
 
--- the versions that two places leave, which lie outside of them
-abbrev pub left_by : Bounds → List Range
+-- the versions that two packed cuts leave, which lie outside of them
+abbrev pub left_by : PackedRange → List Range
 left_by b = outside b.low b.high
 
--- the versions outside each pair of places, and the sets
-abbrev pub line_sets : List Bounds → List (List Range) → List (List Range)
+-- the versions outside each pair of packed cuts, and the sets
+abbrev pub line_sets : List PackedRange → List (List Range) → List (List Range)
 line_sets left_out sets = map left_by left_out ++ sets
 
--- the versions that lie between two places, outside each of these pairs, and in the sets
-abbrev pub line_versions : Bounds → List Bounds → List (List Range) → List Range
+-- the versions that lie between two packed cuts, outside each of these pairs, and in the sets
+abbrev pub line_versions : PackedRange → List PackedRange → List (List Range) → List Range
 line_versions b left_out sets = kept_versions b.low b.high (joined_sets (line_sets left_out sets))
 
 -- each part is in its one spelling
-pub record AreLineSets (b : Bounds) (left_out : List Bounds) (sets : List (List Range)) : Type 0 where
+pub record AreLineSets (b : PackedRange) (left_out : List PackedRange) (sets : List (List Range)) : Type 0 where
   pub kept : AreKept b.low b.high (joined_sets (line_sets left_out sets))
   pub normal : AreNormal (line_sets left_out sets)
 

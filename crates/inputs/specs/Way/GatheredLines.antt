@@ -32,7 +32,7 @@ GathersInputs e w (i ∷ inputs) old new =
     (mid : TableParts) × GathersBytes e w i.kind i.group i.bytes.items old mid
     × GathersInputs e w inputs mid new
 
--- why the bytes of an input are refused: want of memory, of which nothing is said, or a cause of
+-- why the bytes of an input are refused: lack of memory, of which nothing is said, or a cause of
 -- their own
 abbrev pub RefusesAsInput : EnvironmentParts → Kind → Option (List ℕ) → List ℕ → Cause → Type 0
 RefusesAsInput e k group bytes c = (c ≡ NoMemory) ⊎ IsRefused e k group bytes c
@@ -43,7 +43,7 @@ RefusesAsInput e k group bytes c = (c ≡ NoMemory) ⊎ IsRefused e k group byte
 abbrev pub AreRead : List (List ℕ) → Type 0
 AreRead texts = (rs : List RequirementParts) × AllZip Reads texts rs
 
--- why they are refused: want of memory, of which nothing is said, or one that is no requirement; or all are
+-- why they are refused: lack of memory, of which nothing is said, or one that is no requirement; or all are
 -- requirements, of which one has a marker that is undefined in the environment
 abbrev pub RefusesTexts : EnvironmentParts → List (List ℕ) → Cause → Type 0
 RefusesTexts e texts c =

@@ -65,12 +65,12 @@ pub record RefusesTextOn (refuses : List ℕ → LineFault → Type 0) (line : L
 abbrev pub RefusesLineBytes : (List ℕ → LineFault → Type 0) → List ℕ → LineFault → Type 0
 RefusesLineBytes refuses line f = IsRefusedLine line f ⊎ RefusesTextOn refuses line f
 
--- the cause of a fault of a line: want of memory has no place
+-- the cause of a fault of a line: lack of memory has no place
 pub record IsCauseOf (number : ℕ) (f : LineFault) (c : Cause) : Type 0 where
   pub memory : f ≡ line_fault.Requirement require.NoMemory → c ≡ cause.NoMemory
   pub told : f ≢ line_fault.Requirement require.NoMemory → c ≡ cause.Line number f
 
--- the cause names a line whose text is refused; of want of memory nothing is said
+-- the cause names a line whose text is refused; of lack of memory nothing is said
 pub record RefusesTextOf (refuses : List ℕ → LineFault → Type 0) (bytes : List ℕ) (c : Cause) :
     Type 0 where
   pub number : ℕ
@@ -80,7 +80,7 @@ pub record RefusesTextOf (refuses : List ℕ → LineFault → Type 0) (bytes : 
   pub refused : RefusesTextOn refuses line fault
   pub is : IsCauseOf number fault c
 
--- Why bytes are refused as a list: want of memory, of which nothing is said, or a fault of theirs.
+-- Why bytes are refused as a list: lack of memory, of which nothing is said, or a fault of theirs.
 abbrev pub RefusesList : (List ℕ → LineFault → Type 0) → List ℕ → Cause → Type 0
 RefusesList refuses bytes c =
     (c ≡ cause.NoMemory) ⊎ (IsRefusedList bytes c ⊎ RefusesTextOf refuses bytes c)
@@ -109,7 +109,7 @@ pub record HasTaken {A : Type 0} (takes : List ℕ → A → A → Type 0) (byte
   pub lines : SoFar takes bytes start number (held ∷ []) old new
   pub is_held : IsHeld held
 
--- why a line that has not ended can't grow to these bytes: want of memory, or their number
+-- why a line that has not ended can't grow to these bytes: lack of memory, or their number
 abbrev pub RefusesGrowth : List ℕ → LineFault → Type 0
 RefusesGrowth line f =
     (f ≡ line_fault.Requirement require.NoMemory)
@@ -149,7 +149,7 @@ pub record TakesSource {A : Type 0} (takes : List ℕ → A → A → Type 0)
   pub whole : IsAtEnd after
   pub taken : TakesLines takes bytes old new
 
--- Why the bytes of a source are refused as a list: want of memory; or a read failed, and the lines
+-- Why the bytes of a source are refused as a list: lack of memory; or a read failed, and the lines
 -- before are taken; or what was read, and all lists that begin so where the source goes on.
 pub data RefusesSource {A : Type 0} (takes : List ℕ → A → A → Type 0)
     (refuses : List ℕ → LineFault → Type 0) (left after : Option (List ℕ)) (failed : Bool) (old : A)

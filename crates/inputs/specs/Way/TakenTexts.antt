@@ -21,7 +21,7 @@ abbrev pub GathersText : EnvironmentParts → Option (List ℕ) → List ℕ →
 GathersText e w text old new =
     (r : RequirementParts) × Reads text r × TakesWanted e w old (r ∷ []) new
 
--- why a text is refused as a requirement: want of memory, or a fault of its own
+-- why a text is refused as a requirement: lack of memory, or a fault of its own
 abbrev pub RefusesText : List ℕ → LineFault → Type 0
 RefusesText text f =
     (f ≡ line_fault.Requirement require.NoMemory)

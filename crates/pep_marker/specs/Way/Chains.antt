@@ -101,7 +101,7 @@ abbrev pub NoChain : Link → ℕ → ℕ → List Token → Type 0
 NoChain link depth room ts = (m : MarkerParts) (rest : List Token) →
     ChainFrom link depth ts m rest → ends link rest ≡ true → room < comparisons m
 
--- The refusal is want of memory, or one of the grammar, and then this holds; it is too deep only where
+-- The refusal is lack of memory, or one of the grammar, and then this holds; it is too deep only where
 -- the tokens have more `(` than may be opened, or more operators than there is room for.
 abbrev pub Refuses : Type 0 → ℕ → ℕ → List Token → MarkerFault → Type 0
 Refuses why depth room ts fault =

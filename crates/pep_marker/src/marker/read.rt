@@ -26,10 +26,10 @@ impl Marker {
     /// variables and of texts in quotes. White space is spaces and tabs, between the tokens and at
     /// both ends.
     ///
-    /// A text that is no marker is refused as `BadMarker`, 26, or as `TooDeep`, 27, where from left
-    /// to right a 65th parenthesis is opened at once, or a 1,025th comparison read, before there is
-    /// another fault: only where it begins with tokens of which more than 64 are `(`, or more than
-    /// 1,024 operators. For a marker there may be want of memory, 29.
+    /// A text that is no marker is refused as `BadMarker`, 26, or as `TooDeep`, 27. It is `TooDeep`
+    /// where, from left to right, a 65th parenthesis is opened at once or a 1,025th comparison is
+    /// read before there is another fault: only where it begins with tokens that have more than 64
+    /// `(` or more than 1,024 operators. For a marker memory may run out, 29.
     pub fn read(alloc: Global, text: &str) -> Result<Marker, MarkerFault>
         ensures ok { IfOk result (λ m. IsMarker text.now (marker_parts m)) }
         ensures refused { IfErr result (λ e. (e ≡ MarkerFault.NoMemory) ⊎ IsNoMarker text.now e) }

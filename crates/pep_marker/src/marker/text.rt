@@ -25,7 +25,7 @@ impl Marker {
 
     /// The marker as it is written (PEP 508, "Grammar"): one space between tokens, texts in `"`, or
     /// in `'` where they hold a `"`, and parentheses only where it would else be read otherwise.
-    /// The only fault is want of memory, 29.
+    /// The only fault is `NoMemory`, 29.
     pub fn text(&self, alloc: Global) -> Result<String, MarkerFault>
         ensures text { IfOk result (λ t. string_bytes t ≡ marker_text (marker_parts self.now)) }
         ensures faults { IfErr result (λ e. e ≡ MarkerFault.NoMemory) }

@@ -1,4 +1,4 @@
-// The normal text of the version whose key bytes are, part by part. No version is made, and so no memory is wanted.
+// The normal text of the version whose key bytes are, part by part. No version is made, and so no memory is needed.
 
 ghost use Rattle.std.specs.Prelude.{
   ◌≡◌,

@@ -1,8 +1,8 @@
-//! Which clauses have bounds of two places, and which; and what is left over where some are left out.
+//! Which clauses have packed ranges, and which; and what is left over where some are left out.
 
 use crate::tests::lines::expect_row;
+use packed_cuts::{LeftOut, PackedCut, PackedRange, PackedRanges};
 use pep_clause::{Clause, ClauseFault, VersionSet};
-use places::{Bounds, LeftOut, Place, PlaceRanges};
 use std::alloc::Global;
 
 // The text, and the other one behind it where they differ.
@@ -14,44 +14,44 @@ fn one_text(alloc: Global, text: &str, other: &str) -> Result<String, ClauseFaul
     }
 }
 
-fn text_of_cut(alloc: Global, place: Place) -> Result<String, ClauseFault> {
-    place.cut(alloc)?.text(alloc)
+fn text_of_cut(alloc: Global, cut: PackedCut) -> Result<String, ClauseFault> {
+    cut.cut(alloc)?.text(alloc)
 }
 
-fn pushed(alloc: Global, place: Place) -> Result<String, ClauseFault> {
+fn pushed(alloc: Global, cut: PackedCut) -> Result<String, ClauseFault> {
     let mut pushed = String::new(alloc);
-    place.push_text(&mut pushed)?;
+    cut.push_text(&mut pushed)?;
     Ok(pushed)
 }
 
-// The text of a place's cut, by the cut and by the place.
-fn place_text(alloc: Global, place: Place) -> Result<String, ClauseFault> {
-    let text = text_of_cut(alloc, place)?;
-    one_text(alloc, text.as_str(), pushed(alloc, place)?.as_str())
+// The text of a packed cut, by its cut and by itself.
+fn cut_text(alloc: Global, cut: PackedCut) -> Result<String, ClauseFault> {
+    let text = text_of_cut(alloc, cut)?;
+    one_text(alloc, text.as_str(), pushed(alloc, cut)?.as_str())
 }
 
-// The two places.
-fn bounds_text(alloc: Global, bounds: Bounds) -> Result<String, ClauseFault> {
-    let low = place_text(alloc, bounds.low)?;
-    let high = place_text(alloc, bounds.high)?;
+// The two packed cuts.
+fn bounds_text(alloc: Global, bounds: PackedRange) -> Result<String, ClauseFault> {
+    let low = cut_text(alloc, bounds.low)?;
+    let high = cut_text(alloc, bounds.high)?;
     Ok(format!(in alloc; "{low} to {high}")?)
 }
 
-fn left_out_text(alloc: Global, bounds: Bounds) -> Result<String, ClauseFault> {
+fn left_out_text(alloc: Global, bounds: PackedRange) -> Result<String, ClauseFault> {
     let text = bounds_text(alloc, bounds)?;
     Ok(format!(in alloc; "not {text}")?)
 }
 
 // The bounds of the clause of a text, and whether it leaves out what lies between them.
-fn bounds_of(alloc: Global, text: &str) -> Result<Option<(Bounds, bool)>, ClauseFault> {
+fn bounds_of(alloc: Global, text: &str) -> Result<Option<(PackedRange, bool)>, ClauseFault> {
     let clause = Clause::read(alloc, text)?;
-    match Bounds::of(&clause) {
+    match PackedRange::of(&clause) {
         Some(bounds) => Ok(Some((bounds, clause.op().leaves_out()))),
         None => Ok(None),
     }
 }
 
-// The cuts between which the clause of this text admits versions, or leaves them out, where both have a place.
+// The cuts between which the clause of this text admits versions, or leaves them out, where both have a packed cut.
 fn bounds_line(alloc: Global, text: &str) -> Result<String, ClauseFault> {
     match bounds_of(alloc, text)? {
         Some((bounds, true)) => left_out_text(alloc, bounds),
@@ -60,7 +60,7 @@ fn bounds_line(alloc: Global, text: &str) -> Result<String, ClauseFault> {
     }
 }
 
-// Clauses, and the cuts between which they admit versions. No place is past a release, after a label, in another
+// Clauses, and the cuts between which they admit versions. No packed cut is past a release, after a label, in another
 // epoch, written with five numbers, of a number over 25 bits or of a digit over 7.
 const BOUNDS: [(&str, &str); 46] = [
     (">=1.2.3", "before 1.2.3 to end"),
@@ -138,7 +138,7 @@ fn left_over_by(alloc: Global, clauses: &[&str]) -> Result<LeftOut, ClauseFault>
 }
 
 // The cuts of each range.
-fn ranges_text(alloc: Global, ranges: &PlaceRanges) -> Result<String, ClauseFault> {
+fn ranges_text(alloc: Global, ranges: &PackedRanges) -> Result<String, ClauseFault> {
     let mut text = String::new(alloc);
     for bounds in ranges.as_slice() {
         let range = bounds_text(alloc, *bounds)?;
@@ -162,17 +162,17 @@ fn set_text(alloc: Global, set: &VersionSet) -> Result<String, ClauseFault> {
 fn ranges_between(
     alloc: Global,
     clauses: &[&str],
-    bounds: Bounds,
-) -> Result<PlaceRanges, ClauseFault> {
+    bounds: PackedRange,
+) -> Result<PackedRanges, ClauseFault> {
     left_over_by(alloc, clauses)?.between(alloc, bounds)
 }
 
-fn text_of_set(alloc: Global, ranges: PlaceRanges) -> Result<String, ClauseFault> {
+fn text_of_set(alloc: Global, ranges: PackedRanges) -> Result<String, ClauseFault> {
     set_text(alloc, &ranges.to_set(alloc)?)
 }
 
-// Ranges by their places, and by the set of them.
-fn ranges_line(alloc: Global, ranges: PlaceRanges) -> Result<String, ClauseFault> {
+// Ranges by their packed cuts, and by the set of them.
+fn ranges_line(alloc: Global, ranges: PackedRanges) -> Result<String, ClauseFault> {
     let text = ranges_text(alloc, &ranges)?;
     one_text(alloc, text.as_str(), text_of_set(alloc, ranges)?.as_str())
 }

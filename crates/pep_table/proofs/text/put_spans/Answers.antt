@@ -1,5 +1,5 @@
 use Rattle.std.proofs.Common.{◌∙◌, ◌++◌, ap, codes, map, take}
-use Rattle.places.specs.Way.LeftOut.{span, spans}
+use Rattle.packed_cuts.specs.Way.LeftOut.{span, spans}
 use Rattle.pep_table.proofs.WrittenParts.{one_more, spans_push}
 use Rattle.pep_table.specs.TableText.{kind_lines, line, range_text}
 use Rattle.pep_table.proofs.text.put_spans.Goals as goal

@@ -1,5 +1,5 @@
 use Rattle.std.proofs.Common.{◌≡◌, ◌++◌, codes, map, take}
-use Rattle.places.specs.Way.LeftOut.{spans}
+use Rattle.packed_cuts.specs.Way.LeftOut.{spans}
 use Rattle.pep_table.specs.TableText.{kind_lines, range_text}
 use Rattle.pep_table.proofs.text.put_spans.Given as goal
 

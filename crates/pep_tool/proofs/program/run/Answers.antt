@@ -1,7 +1,4 @@
 use Rattle.pep_tool.proofs.program.run.Goals as goal
 
-pub returns-clause-printed : goal.returns-clause-printed
-returns-clause-printed g c = c.run_in.ensures.printed
-
-pub returns-clause-told : goal.returns-clause-told
-returns-clause-told g c = c.run_in.ensures.told
+pub returns : goal.returns
+returns g c = record { runs = c.run_in.ensures.runs }

@@ -1,6 +1,6 @@
 use Rattle.std.proofs.Common.{subst}
 use Rattle.std.specs.Prelude.{IfSome}
-use Rattle.clause_memory.specs.Way.Demand.{demanded_ranges}
+use Rattle.clause_memory.specs.Way.PackedClause.{demanded_ranges}
 use Rattle.clause_memory.specs.Way.Taken.{DemandsFront}
 use Rattle.clause_memory.proofs.FrontClauses.{front_taken}
 use Rattle.clause_memory.proofs.memory.ClauseMemory.take.Goals as goal

@@ -1,6 +1,6 @@
 use Rattle.std.proofs.Common.{rules, subst}
 use Rattle.pep_require.proofs.FrontLemmas.{boundary-until}
-use Rattle.clause_memory.specs.Way.Demand.{KnowsDemand, demanded_ranges}
+use Rattle.clause_memory.specs.Way.PackedClause.{KnowsDemand, demanded_ranges}
 use Rattle.clause_memory.specs.Way.Taken.{goes_on}
 use Rattle.clause_memory.proofs.FrontClauses.{demand_here, front_taken, stop_small}
 use Rattle.clause_memory.proofs.memory.ClauseMemory.take_remembered.Goals as goal

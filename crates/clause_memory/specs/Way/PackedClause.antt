@@ -1,0 +1,36 @@
+-- What a clause demands of versions, and texts that are such clauses.
+use Rattle.std.specs.Prelude.{ℕ, List, Option, Some, None, IfSome, if◌then◌else◌, take, ⊤}
+use Rattle.specifiers.specs.Clause.{Clause}
+use Rattle.pep_clause.specs.Way.Ends.{between}
+use Rattle.pep_clause.specs.VersionSet.{Range}
+use Rattle.pep_require.specs.Reads.{IsBound}
+use Rattle.demands.specs.Way.LineDemands.{DemandsRanges}
+use Rattle.clause_memory.specs.declared.packed_clause.PackedClause.{PackedClause}
+use Rattle.clause_memory.specs.declared.memory.Remembered.{Remembered}
+
+-- the ranges in which the versions lie
+abbrev pub demanded_ranges : PackedClause → List Range
+demanded_ranges d = between d.outside d.bounds.low d.bounds.high
+
+-- the text is a clause, with white space round it, that demands the versions in these ranges, and no text
+pub record ReadsDemand (x : List ℕ) (ranges : List Range) : Type 0 where
+  pub clause : Clause
+  pub read : IsBound x clause
+  pub demands : DemandsRanges clause ranges
+
+-- what is known of a text: what it demands, or nothing
+abbrev pub KnowsDemand : List ℕ → Option PackedClause → Type 0
+KnowsDemand x found = IfSome found (λ d. ReadsDemand x (demanded_ranges d))
+
+-- the text that is remembered, and what is known of it
+abbrev pub remembered_text : Remembered → List ℕ
+remembered_text it = take it.len it.text
+
+abbrev pub remembered_demand : Remembered → Option PackedClause
+remembered_demand it =
+    if it.is_known then Some (record { bounds = it.bounds; outside = it.outside }) else None
+
+-- what is known of the text in a slot, if there is one
+abbrev pub IsRemembered : Option Remembered → Type 0
+IsRemembered None = ⊤
+IsRemembered (Some it) = KnowsDemand (remembered_text it) (remembered_demand it)

@@ -1,0 +1,2 @@
+pub mod PackedCut
+pub mod Way

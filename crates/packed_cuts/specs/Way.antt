@@ -1,0 +1,3 @@
+-- Definitions that say how the code goes. No promise rests on them.
+pub mod PackedRange
+pub mod LeftOut

@@ -1,0 +1,92 @@
+//! What clauses admit, or leave out, whose version is a release of epoch 0 alone, as that of most clauses is.
+
+ghost use Rattle.std.specs.Prelude.{◌≡◌, ◌↔◌, ◌<◌, length, IfSome, IsOk, IsSome, IsTrue};
+ghost use Rattle.specifiers.specs.Clause.{version_clause};
+ghost use Rattle.pep_clause.specs.Way.Ends.{begin_cut, end_cut};
+ghost use Rattle.packed_cuts.specs.Way.PackedRange.{
+  BeginsShort,
+  EndsShort,
+  HoldsPrefix,
+  HoldsRelease,
+  PrefixHasRange,
+  ReleaseHasRange,
+};
+ghost use Rattle.packed_cuts.specs.PackedCut.{release_alone};
+
+use crate::packed_cut::PackedCut;
+use crate::packed_range::{PackedRange, prefix_end, prefix_ends};
+use specifiers::{Begin, End, Op};
+
+// The packed cut where the versions begin that the clause of an operator and this release speaks of.
+fn packed_begin(begin: Begin, release: &[u64]) -> Option<PackedCut>
+    requires { 0 < length release.now }
+    ensures cut { IfSome result (λ p. p ≡ begin_cut begin (release_alone release.now)) }
+    ensures exactly { IsSome result ↔ BeginsShort begin (release_alone release.now) }
+{
+    match begin {
+        Begin::Least => Some(PackedCut::least()),
+        Begin::Version => PackedCut::before_release(release, None, None),
+        Begin::Greater => None,
+    }
+}
+
+// The packed cut where they end.
+fn packed_end(end: End, release: &[u64]) -> Option<PackedCut>
+    requires { 0 < length release.now }
+    ensures cut { IfSome result (λ p. p ≡ end_cut end (release_alone release.now)) }
+    ensures exactly { IsSome result ↔ EndsShort end (release_alone release.now) }
+{
+    match end {
+        End::Version | End::Matching => PackedCut::before_release(release, Some(0), Some(0)),
+        End::Less => PackedCut::before_release(release, None, Some(0)),
+        End::Prefix => prefix_end(0, &release[..release.len() - 1]),
+        End::All => Some(PackedCut::end()),
+    }
+}
+
+// Whether the operator and the release make a clause.
+fn makes_clause(operator: Op, release: &[u64]) -> bool
+    ensures { IsTrue result ↔ IsOk (version_clause operator (release_alone release.now)) }
+{
+    match operator {
+        Op::Exact => false,
+        Op::Compatible => release.len() > 1,
+        _ => true,
+    }
+}
+
+impl PackedRange {
+    /// What the clause of this operator and this release of epoch 0, with nothing behind it, admits, or with `!=`
+    /// leaves out, between two packed cuts (PEP 440, "Version specifiers"). `None` where [`PackedRange::of`] has none,
+    /// for `===`, for an empty release, and for `~=` and one number, which make no clause.
+    pub fn of_release(operator: Op, release: &[u64]) -> Option<PackedRange>
+        ensures clause { IfSome result (HoldsRelease operator release.now) }
+        ensures exactly { IsSome result
+            ↔ ((0 < length release.now) × ReleaseHasRange operator release.now) }
+    {
+        if release.is_empty() || !makes_clause(operator, release) {
+            return None;
+        }
+        let low = packed_begin(operator.begin(), release)?;
+        let high = packed_end(operator.end(), release)?;
+        Some(PackedRange { low, high })
+    }
+
+    /// What the clause of this operator and this release of epoch 0, with `.*` behind it, admits, or with `!=` leaves
+    /// out, between two packed cuts (PEP 440, "Version matching", "Version exclusion"). `None` where
+    /// [`PackedRange::of`] has none, for an empty release, and for other operators than `==` and `!=`, which take no
+    /// prefix.
+    pub fn of_prefix(operator: Op, release: &[u64]) -> Option<PackedRange>
+        ensures clause { IfSome result (HoldsPrefix operator release.now) }
+        ensures exactly { IsSome result
+            ↔ ((0 < length release.now) × PrefixHasRange operator release.now) }
+    {
+        if release.is_empty() {
+            return None;
+        }
+        match operator {
+            Op::Equal | Op::NotEqual => prefix_ends(0, release),
+            _ => None,
+        }
+    }
+}

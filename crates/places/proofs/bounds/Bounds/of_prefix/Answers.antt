@@ -1,7 +1,0 @@
-use Rattle.places.proofs.ReleaseBounds.{holds_release_prefix}
-use Rattle.places.proofs.bounds.Bounds.of_prefix.Goals as goal
-
-pub returns-in-Equal-clause-clause : goal.returns-in-Equal-clause-clause
-returns-in-Equal-clause-clause c =
-    holds_release_prefix c.args.operator c.args.release.now c.prefix_ends.result c.in-Equal.is c.prefix_ends.ensures.low
-    c.prefix_ends.ensures.high

@@ -1,9 +1,0 @@
-use Rattle.std.proofs.Common.{length}
-use Rattle.places.proofs.LeftOver.{JoinsParts}
-use Rattle.places.proofs.left_out.merged.Given as goal
-
-abbrev pub invariant-parts : goal.invariant-parts
-invariant-parts l = JoinsParts l.fn.parts.items l.joined.items l.left.items
-
-abbrev pub decreases-parts : goal.decreases-parts
-decreases-parts l = length l.left.items

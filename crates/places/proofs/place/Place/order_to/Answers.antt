@@ -1,9 +1,0 @@
-use Rattle.std.proofs.Common.{◌∙◌}
-use Rattle.pep_clause.specs.Cut.{cut_cmp}
-use Rattle.places.proofs.PlacesRead.{words-order}
-use Rattle.places.proofs.place.Place.order_to.Goals as goal
-
-pub returns-clause-order : goal.returns-clause-order
-returns-clause-order c =
-    c.cmp.ensures ∙ words-order _ _ c.self.invariant c.other.invariant
-    ∙ (λ i. cut_cmp (c.self.view_is i) (c.other.view_is i))
