@@ -7,7 +7,7 @@ use Rattle.pep_clause.specs.OperatorTable.{outside, range}
 use Rattle.pep_clause.specs.VersionSet.{IsNormal, Range}
 use Rattle.pep_clause.proofs.SetLemmas.{IsNormal-set_of}
 use Rattle.texts.proofs.ListLemmas.{nothing_in}
-use Rattle.pep_require.specs.LineParts.{BoundFrom}
+use Rattle.specifiers.specs.Front.{ClauseFrom}
 use Rattle.pep_require.specs.Reads.{IsBound}
 use Rattle.pep_require.proofs.BoundPieces.{bound_read, bound_whole, found_piece}
 use Rattle.demands.specs.Way.LineDemands.{DemandsRanges}
@@ -15,7 +15,7 @@ use Rattle.clause_memory.specs.Way.PackedClause.{KnowsDemand, ReadsDemand, deman
 use Rattle.clause_memory.specs.declared.packed_clause.PackedClause.{PackedClause}
 
 -- a clause that all of a text is
-pub whole_clause : (x rest : List ℕ) (c : Clause) (ranges : List Range) → BoundFrom x c rest → rest ≡ [] →
+pub whole_clause : (x rest : List ℕ) (c : Clause) (ranges : List Range) → ClauseFrom x c rest → rest ≡ [] →
     DemandsRanges c ranges → ReadsDemand x ranges
 whole_clause x rest c ranges found nothing demands =
     let piece = found_piece x c rest found in
@@ -27,7 +27,7 @@ whole_clause x rest c ranges found nothing demands =
       demands = demands;
     }
 
-pub demanded_here : (x rest : List ℕ) (c : Clause) (found : Option PackedClause) → BoundFrom x c rest → {b : Bool} →
+pub demanded_here : (x rest : List ℕ) (c : Clause) (found : Option PackedClause) → ClauseFrom x c rest → {b : Bool} →
     b ≡ (length rest == 0) → b ≡ true → IfSome found (λ d. DemandsRanges c (demanded_ranges d)) →
     KnowsDemand x found
 demanded_here x rest c None here tests empty h = tt

@@ -14,7 +14,7 @@ use Rattle.pep_clause.specs.VersionSet.{Range}
 use Rattle.texts.specs.Bytes.{is_blank_byte, is_clause_byte}
 use Rattle.texts.specs.Runs.{begins, without_leading_blanks}
 use Rattle.texts.proofs.RunLemmas.{begins-rest}
-use Rattle.pep_require.specs.LineParts.{BoundFrom}
+use Rattle.specifiers.specs.Front.{ClauseFrom}
 use Rattle.pep_require.specs.Reads.{IsBound}
 use Rattle.pep_require.proofs.BlankLemmas.{leading, leading_whole, no_leading}
 use Rattle.pep_require.proofs.BoundPieces.{bound_found}
@@ -45,13 +45,13 @@ stop_off [] h = refl
 stop_off (b ∷ rest) h = stop_no_clause b h
 
 pub front_bound : (left piece rest : List ℕ) (c : Clause) → piece ++ rest ≡ left → begins goes_on rest ≡ false →
-    IsBound piece c → BoundFrom left c rest
+    IsBound piece c → ClauseFrom left c rest
 front_bound left piece rest c whole stops is =
     let bare = stop_bare rest stops in
     let off : begins is_clause_byte (without_leading_blanks rest) ≡ false =
     ap (begins is_clause_byte) bare ∙ stop_off rest stops in
-    subst (λ t. BoundFrom left c t) bare
-    (subst (λ t. BoundFrom t c (without_leading_blanks rest)) whole (bound_found piece rest c is off))
+    subst (λ t. ClauseFrom left c t) bare
+    (subst (λ t. ClauseFrom t c (without_leading_blanks rest)) whole (bound_found piece rest c is off))
 
 -- a text that is cut where a clause ends
 pub demand_here : (left piece rest : List ℕ) (n : ℕ) (ranges : List Range) → n ≡ prefix_len goes_on left →
@@ -95,7 +95,7 @@ front_taken x rest old new ranges f adds = record {
   adds = adds f.clause f.demands;
 }
 
-pub text_taken : (x rest text : List ℕ) (old new : EntryParts) → BoundFrom x (demanded text) rest →
+pub text_taken : (x rest text : List ℕ) (old new : EntryParts) → ClauseFrom x (demanded text) rest →
     AddsClause (demanded text) old new → TakesFront x rest old new
 text_taken x rest text old new found adds = record { clause = demanded text; found = found; adds = adds }
 

@@ -4,7 +4,6 @@ use Rattle.std.proofs.Common.{codes, drop, take, length, map, refl, sym, ap, sub
 use Rattle.std.proofs.Common.{append_assoc, length-append, nat_lt, not}
 use Rattle.std.proofs.Math.Seq.{drop-append_seam, take-append_seam}
 use Rattle.std.proofs.lemmas.Bool.Decides.{nat_tests}
-use Rattle.std.proofs.lemmas.Int.Digits.{digits_value_push}
 use Rattle.std.proofs.lemmas.List.{take-append-drop}
 use Rattle.std.proofs.lemmas.List.Folds.{list_all-append}
 use Rattle.std.specs.Cmp.Lexicographic.{pointwise}
@@ -21,7 +20,6 @@ use Rattle.pep_version.specs.Spelling.{NumberSpelling, Reads, ReleaseSpelling, S
 use Rattle.pep_version.specs.Text.{is_text_byte}
 use Rattle.pep_version.specs.Version.{Fits}
 use Rattle.pep_version.proofs.NormalTexts.{list_all-weaker, plain-trimmed}
-use Rattle.pep_version.proofs.NumberLemmas.{digit_is}
 use Rattle.pep_version.proofs.OneVersion.{one-version}
 use Rattle.pep_version.proofs.Tails.{digits-all}
 use Rattle.specifiers.specs.Clause.{Clause, IsClause, TargetAnswers, VersionAnswers, at_least, at_most, compatible}
@@ -35,16 +33,17 @@ use Rattle.specifiers.proofs.ReadLemmas.{lowered-none}
 use Rattle.specifiers.proofs.Written.{clause-ink, ink-end, is_ink, written}
 use Rattle.specifiers.proofs.WrittenLemmas.{clause-valid}
 use Rattle.pep_clause.specs.OperatorTable.{set_of}
-use Rattle.pep_require.specs.LineParts.{after_operator}
+use Rattle.specifiers.specs.Front.{after_operator}
 use Rattle.pep_require.specs.Reads.{IsBound}
 use Rattle.pep_require.proofs.BlankLemmas.{leading, leading_blank, leading_whole}
 use Rattle.packed_cuts.specs.Way.PackedRange.{HoldsPrefix, HoldsRelease}
-use Rattle.packed_cuts.specs.PackedCut.{release_alone}
+use Rattle.pep_clause.specs.PackedCut.{release_alone}
 use Rattle.packed_cuts.specs.declared.packed_range.PackedRange.{PackedRange}
 use Rattle.clause_memory.specs.Way.Taken.{DemandsFront, goes_on}
 use Rattle.clause_memory.specs.Way.PackedClause.{demanded_ranges}
-use Rattle.clause_memory.specs.Way.Plain.{MakesClause, MakesDemand, NumberFrom, OperandFrom, is_release_byte, star_text}
-use Rattle.specifiers.specs.Way.OperatorEnds.{leaves_out}
+use Rattle.clause_memory.specs.Way.Plain.{MakesClause, MakesDemand, OperandFrom, is_release_byte, star_text}
+use Rattle.pep_clause.specs.Way.Numbers.{NumberFrom}
+use Rattle.specifiers.specs.Operator.{leaves_out}
 use Rattle.clause_memory.specs.declared.packed_clause.PackedClause.{PackedClause}
 use Rattle.clause_memory.proofs.FrontClauses.{front_bound}
 
@@ -90,51 +89,6 @@ dotted_more (d ∷ digits) tail h =
     let apart = digit-no-dot d (and_first (is_ascii_digit d) (list_all is_ascii_digit digits) h) in
     rw apart
     (ap (onto_first d) (dotted_more digits tail (and_second (is_ascii_digit d) (list_all is_ascii_digit digits) h)))
-
--- these digits stand in front of the text, and write this number
-pub record DigitsSoFar (x rest : List ℕ) (n : ℕ) : Type 0 where
-  pub seen : List ℕ
-  pub whole : x ≡ seen ++ rest
-  pub digits : list_all is_ascii_digit seen ≡ true
-  pub value : n ≡ digits_value 10 seen
-
-pub no_digits : (x : List ℕ) → DigitsSoFar x x 0
-no_digits x = record { seen = []; whole = refl; digits = refl; value = refl }
-
-pub one_digit_more : (x rest others : List ℕ) (n m b : ℕ) → DigitsSoFar x rest n → rest ≡ b ∷ others →
-    is_ascii_digit b ≡ true → m ≡ n * 10 + (b - 48) → DigitsSoFar x others m
-one_digit_more x rest others n m b so cut digit value = record {
-  seen = so.seen ++ b ∷ [];
-  whole = so.whole ∙ ap (λ t. so.seen ++ t) cut ∙ sym (append_assoc so.seen (b ∷ []) others);
-  digits = rw (list_all-append is_ascii_digit so.seen (b ∷ []), so.digits, digit) refl;
-  value = value ∙ (λ i. so.value i * 10 + sym (digit_is b digit) i) ∙ sym (digits_value_push 10 so.seen b);
-}
-
-same_apart : (k : ℕ) → (k == k) ≡ false → ⊥
-same_apart k h = let same : (k == k) ≡ true = grind (arith, nat_tests) in cc (same, h)
-
-some_digits : (x seen rest : List ℕ) → x ≡ seen ++ rest → (length rest == length x) ≡ false →
-    list_all is_ascii_digit seen ≡ true → is_number seen ≡ true
-some_digits x [] rest whole fewer h =
-    absurd (same_apart (length rest) (subst (λ t. (length rest == length t) ≡ false) whole fewer))
-some_digits x (b ∷ seen) rest whole fewer h = h
-
-pub number_there : (x rest : List ℕ) (n : ℕ) → DigitsSoFar x rest n → (length rest == length x) ≡ false → Fits n →
-    NumberFrom x n rest
-number_there x rest n so fewer fits = record {
-  digits = so.seen;
-  whole = so.whole;
-  spelled = (some_digits x so.seen rest so.whole fewer so.digits, so.value);
-  fits = fits;
-}
-
--- less is left
-pub less_left : (x rest : List ℕ) (n : ℕ) → NumberFrom x n rest → length rest < length x
-less_left x rest n f = subst (λ t. length rest < length t) (sym f.whole) (more f.digits f.spelled.0)
-  where
-    more : (digits : List ℕ) → is_number digits ≡ true → length rest < length (digits ++ rest)
-    more [] h = cc h
-    more (b ∷ digits) h = omega (arith, length-append digits rest)
 
 -- one number, and one with others behind it
 release_one : (digits : List ℕ) (n : ℕ) → NumberSpelling digits n → ReleaseSpelling digits (n ∷ [])

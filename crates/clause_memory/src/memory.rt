@@ -4,7 +4,8 @@ ghost use Rattle.std.specs.Prelude.{◌≡◌, IfOk, IfSome, Some, length, take}
 ghost use Rattle.clause_memory.specs.Way.PackedClause.{IsRemembered, KnowsDemand, remembered_demand};
 
 use crate::packed_clause::{PackedClause, demand_in};
-use packed_cuts::{PackedCut, PackedRange};
+use packed_cuts::PackedRange;
+use pep_clause::PackedCut;
 use std::alloc::{AllocError, Global};
 use std::marker::Model;
 use text_memory::{OfText, TextMemory};

@@ -5,8 +5,7 @@ ghost use Rattle.demands.specs.Way.LineDemands.{DemandsRanges};
 ghost use Rattle.clause_memory.specs.Way.PackedClause.{KnowsDemand, demanded_ranges};
 
 use packed_cuts::PackedRange;
-use pep_clause::{Clause, Op};
-use pep_require::{RequireFault, clause_at};
+use pep_clause::{Clause, ClauseFault, Op};
 use std::alloc::{AllocError, Global};
 
 /// What a clause demands: a version in a packed range, or one outside of it.
@@ -35,9 +34,9 @@ pub(crate) fn demand_of(clause: &Clause) -> Option<PackedClause>
 pub(crate) fn demand_in(alloc: Global, text: &str) -> Result<Option<PackedClause>, AllocError>
     ensures { IfOk result (KnowsDemand text.now) }
 {
-    match clause_at(alloc, text) {
+    match Clause::at_front(alloc, text) {
         Ok((clause, rest)) if rest.is_empty() => Ok(demand_of(&clause)),
-        Err(RequireFault::NoMemory) => Err(AllocError),
+        Err(ClauseFault::NoMemory) => Err(AllocError),
         _ => Ok(None),
     }
 }

@@ -1,22 +1,19 @@
 //! Clauses whose version is a release, read at once: those of most lines.
 
-ghost use Rattle.std.specs.Prelude.{◌≡◌, ◌<◌, ◌≤◌, ◌++◌, ◌∷◌, IfSome, List, ℕ, false, length};
+ghost use Rattle.std.specs.Prelude.{◌≡◌, ◌≤◌, ◌++◌, ◌∷◌, IfSome, List, ℕ, false, length};
 ghost use Rattle.texts.specs.Runs.{begins, without_leading_blanks};
 ghost use Rattle.clause_memory.specs.Way.Taken.{DemandsFront, goes_on};
 ghost use Rattle.clause_memory.specs.Way.PackedClause.{demanded_ranges};
-ghost use Rattle.clause_memory.specs.Way.Plain.{MakesDemand, NumberFrom, ReadsOperand};
+ghost use Rattle.clause_memory.specs.Way.Plain.{MakesDemand, ReadsOperand};
 
 use crate::packed_clause::PackedClause;
 use crate::taking::goes_on;
 use packed_cuts::PackedRange;
-use pep_clause::Op;
+use pep_clause::{Op, PackedCut};
 use texts::without_leading_blanks;
 
 // How many numbers a release has at most of which there are packed cuts.
 const MOST_NUMBERS: usize = 4;
-
-// Numbers of packed cuts are smaller; one digit behind such a number still fits.
-const LARGE: u64 = 1 << 32;
 
 // A release, and what stands behind it.
 #[derive(Clone, Copy)]
@@ -37,30 +34,6 @@ enum Operand<'a> {
     Other,
 }
 
-// The number in front, and what stands behind it: `None` where no digit stands there, or a digit behind a number that
-// is large.
-fn number_in(text: &[u8]) -> Option<(u64, &[u8])>
-    ensures number { IfSome result (λ found. NumberFrom text.now found.0 found.1.now) }
-    ensures shorter { IfSome result (λ found. length found.1.now < length text.now) }
-{
-    let mut value: u64 = 0;
-    let mut rest = text;
-    while let Some((first, others)) = rest.split_first() {
-        if !first.is_ascii_digit() {
-            break;
-        }
-        if value >= LARGE {
-            return None;
-        }
-        value = value * 10 + u64::from(*first - b'0');
-        rest = others;
-    }
-    if rest.len() == text.len() {
-        return None;
-    }
-    Some((value, rest))
-}
-
 // What stands behind this byte in front, where it stands there.
 fn behind_byte(text: &[u8], byte: u8) -> Option<&[u8]>
     ensures { IfSome result (λ others. text.now ≡ byte ∷ others.now) }
@@ -79,7 +52,7 @@ fn operand_at(text: &[u8]) -> Operand<'_>
     let mut count = 0;
     let mut left = text;
     loop {
-        let Some((number, rest)) = number_in(left) else {
+        let Some((number, rest)) = PackedCut::number_in(left) else {
             return Operand::Other;
         };
         if count == MOST_NUMBERS {

@@ -79,7 +79,7 @@ fn put_url(alloc: Global, demands: &mut LineDemands, written: &str) -> Result<()
     ensures ok { OnOk result (DemandsUrl written.now demands.old demands.new) }
     ensures refused { IfErr result (λ e. (e ≡ RequireFault.NoMemory) ⊎ RefusesWritten written.now e) }
 {
-    if UrlText::is_its_text(written) {
+    if UrlText::has_common_form(written) {
         demands.put_url(written)?;
         return Ok(());
     }

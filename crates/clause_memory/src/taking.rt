@@ -14,7 +14,7 @@ use crate::plain::plain_demand;
 use crate::text::text_at;
 use demands::LineDemands;
 use pep_clause::{Clause, VersionSet};
-use pep_require::{RequireFault, clause_at};
+use pep_require::RequireFault;
 use std::alloc::{AllocError, Global};
 
 // How many bytes stand before a `,`, a `;` or a `)`.
@@ -72,7 +72,7 @@ fn take_whole<'a>(
     ensures taken { IfOk result (λ rest. TakesFront text.now rest.now demands.old demands.new) }
     ensures refused { IfErr result (λ e. (e ≡ RequireFault.NoMemory) ⊎ RefusesBound text.now e) }
 {
-    let (clause, rest) = clause_at(alloc, text)?;
+    let (clause, rest) = Clause::at_front(alloc, text)?;
     keep_clause(alloc, &clause, demands)?;
     Ok(rest)
 }

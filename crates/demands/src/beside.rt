@@ -10,8 +10,8 @@ ghost use Rattle.demands.specs.Join.{IsIntersection};
 
 use crate::kept_ranges::{KeptRanges, set_of};
 use crate::partial_joins::{common, joined_of, narrow};
-use packed_cuts::{LeftOut, PackedCut, PackedRange, PackedRanges};
-use pep_clause::VersionSet;
+use packed_cuts::{LeftOut, PackedRange, PackedRanges};
+use pep_clause::{PackedCut, VersionSet};
 use std::alloc::{AllocError, Global};
 use std::marker::Model;
 

@@ -6,7 +6,7 @@ ghost use Rattle.demands.specs.Way.Finished.{kept_ranges};
 
 use crate::entry::versions_copied;
 use packed_cuts::{PackedRange, PackedRanges};
-use pep_clause::{Range, VersionSet};
+use pep_clause::{Cut, Range, VersionSet};
 use std::alloc::{AllocError, Global};
 use std::cmp::Ordering;
 
@@ -25,10 +25,7 @@ pub enum KeptRanges {
 fn set_between(alloc: Global, bounds: PackedRange) -> Result<VersionSet, AllocError>
     ensures { IfOk result (λ s. s ≡ range bounds.low bounds.high) }
 {
-    let (Ok(low), Ok(high)) = (bounds.low.cut(alloc), bounds.high.cut(alloc)) else {
-        return Err(AllocError);
-    };
-    let Some(range) = Range::of(low, high) else {
+    let Some(range) = Range::of(Cut::of_packed(bounds.low), Cut::of_packed(bounds.high)) else {
         return Ok(VersionSet::none(alloc));
     };
     match VersionSet::of_ranges(Vec::from_array(alloc, [range])?) {

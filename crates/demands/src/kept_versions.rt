@@ -1,6 +1,6 @@
 //! The versions that are demanded of a package so far.
 
-ghost use Rattle.std.specs.Prelude.{◌≡◌, ◌++◌, ◌∷◌, [], All, IfOk, List, OnOk, map, option_map};
+ghost use Rattle.std.specs.Prelude.{◌≡◌, ◌++◌, ◌∷◌, [], All, IfOk, IfSome, List, OnOk, map, option_map};
 ghost use Rattle.specifiers.specs.Valid.{IsValidClause};
 ghost use Rattle.pep_clause.specs.Cut.{IsCut};
 ghost use Rattle.pep_clause.specs.OperatorTable.{outside, range, set_of};
@@ -15,8 +15,8 @@ ghost use Rattle.demands.specs.Way.PartialJoins.{beside_versions, joined_sets};
 use crate::beside::Beside;
 use crate::kept_ranges::KeptRanges;
 use crate::line_demands::LineDemands;
-use packed_cuts::{PackedCut, PackedRange};
-use pep_clause::{Clause, VersionSet};
+use packed_cuts::PackedRange;
+use pep_clause::{Clause, PackedCut, VersionSet};
 use pep_require::Target;
 use std::alloc::{AllocError, Global};
 use std::marker::Model;
@@ -53,6 +53,21 @@ fn beside_or_all(alloc: Global, beside: Option<Box<Beside>>) -> Result<Box<Besid
         Some(kept) => Ok(kept),
         None => Ok(Box::new(alloc, Beside::all(alloc))?),
     }
+}
+
+// The packed cuts between which the versions of the set lie, if it has one range, whose cuts are held so.
+fn bounds_of(versions: &VersionSet) -> Option<PackedRange>
+    ensures versions { IfSome result (λ bounds. versions.now ≡ range bounds.low bounds.high) }
+    ensures low { IfSome result (λ bounds. IsCut bounds.low) }
+    ensures high { IfSome result (λ bounds. IsCut bounds.high) }
+{
+    let [range] = versions.ranges() else {
+        return None;
+    };
+    Some(PackedRange {
+        low: range.low().packed()?,
+        high: range.high().packed()?,
+    })
 }
 
 impl KeptVersions {
@@ -121,6 +136,17 @@ impl KeptVersions {
 
     /// Keeps the versions that are in the set too, which is used up.
     pub(crate) fn meet(&mut self, alloc: Global, others: VersionSet) -> Result<(), AllocError>
+        ensures { OnOk result (IsIntersection self.old others self.new) }
+    {
+        if let Some(bounds) = bounds_of(&others) {
+            self.narrow_to(bounds);
+            return Ok(());
+        }
+        self.meet_beside(alloc, others)
+    }
+
+    // The same of any set, which is kept beside the packed cuts.
+    fn meet_beside(&mut self, alloc: Global, others: VersionSet) -> Result<(), AllocError>
         ensures { OnOk result (IsIntersection self.old others self.new) }
     {
         let mut beside = beside_or_all(alloc, self.beside.take())?;

@@ -27,4 +27,4 @@ pub use crate::line_demands::LineDemands;
 pub use crate::others::OtherTexts;
 pub use crate::package_demands::PackageDemands;
 pub use crate::sorted::{Kept, Sorted};
-pub use crate::verdict::{Answer, Verdict, is_wanted};
+pub use crate::verdict::{Answer, Verdict};

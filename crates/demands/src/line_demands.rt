@@ -11,8 +11,8 @@ ghost use Rattle.demands.specs.Way.LineDemands.{AddsClause, AddsExtra, AddsUrl, 
 ghost use Rattle.demands.specs.Table.{IsValidEntry, is_url_text};
 
 use crate::others::Others;
-use packed_cuts::{PackedCut, PackedRange};
-use pep_clause::VersionSet;
+use packed_cuts::PackedRange;
+use pep_clause::{PackedCut, VersionSet};
 use pep_marker::Name;
 use std::alloc::{AllocError, Global};
 use std::marker::Model;

@@ -19,8 +19,7 @@ use Rattle.documents.specs.Project.{checks_dynamic, extras_at, extras_of, has_te
 use Rattle.documents.specs.Project.{project_texts}
 use Rattle.documents.specs.Way.ProjectExtras.{HasExtraTexts}
 use Rattle.documents.specs.GroupWalk.{by_fault}
-use Rattle.documents.specs.ProjectRequirements.{IsProjectOf, ProjectTexts}
-use Rattle.documents.specs.Way.AskedTexts.{AskedTexts}
+use Rattle.documents.specs.ProjectRequirements.{AskedTexts, IsProjectOf, ProjectTexts}
 use Rattle.documents.specs.RefusedProject.{IsRefusedProject, IsRefusedText, by_check, by_text}
 use Rattle.documents.specs.Texts.{lent_texts}
 use Rattle.documents.proofs.Placed.{known}

@@ -7,7 +7,7 @@ ghost use Rattle.faults.specs.NoMemory.{no_memory};
 ghost use Rattle.documents.specs.EnvironmentFile.{environment_file, pairs_of};
 
 use crate::document::read_document;
-use faults::{Cause, Fault, Place, fault_in};
+use faults::{Cause, Fault, Place};
 use pep_marker::{Environment, MarkerFault};
 use std::alloc::Global;
 use toml::Table;
@@ -27,7 +27,7 @@ pub fn environment_of(alloc: Global, bytes: &[u8]) -> Result<Environment, Fault>
 {
     match environment_in(alloc, bytes) {
         Ok(environment) => Ok(environment),
-        Err(cause) => Err(fault_in(Place::Environment, cause)),
+        Err(cause) => Err(Fault::of(Place::Environment, cause)),
     }
 }
 

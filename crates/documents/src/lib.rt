@@ -9,4 +9,4 @@ mod nesting;
 mod project;
 
 pub use crate::environment_file::environment_of;
-pub use crate::project::{ProjectFile, project_of, project_requirements};
+pub use crate::project::{ProjectFile, project_of};

@@ -20,8 +20,7 @@ ghost use Rattle.pep_marker.specs.Name.{normalized};
 ghost use Rattle.pep_require.specs.Reads.{Reads};
 ghost use Rattle.pep_require.specs.View.{requirement_parts};
 ghost use Rattle.faults.specs.NoMemory.{no_memory};
-ghost use Rattle.documents.specs.ProjectRequirements.{IsProjectOf};
-ghost use Rattle.documents.specs.Way.AskedTexts.{AskedTexts};
+ghost use Rattle.documents.specs.ProjectRequirements.{AskedTexts, IsProjectOf};
 ghost use Rattle.documents.specs.Project.{
   checks_dynamic,
   extras_at,
@@ -36,7 +35,7 @@ ghost use Rattle.documents.specs.Texts.{lent_texts};
 
 use crate::document::{name_in, read_document, texts_at, texts_of};
 use crate::groups::group_texts;
-use faults::{Cause, Fault, LineFault, Place, fault_in, line_cause};
+use faults::{Cause, Fault, LineFault, Place};
 use pep_marker::{Name, norm_of};
 use pep_require::Requirement;
 use std::alloc::Global;
@@ -82,13 +81,12 @@ pub fn project_of(
 {
     match project_requirements(alloc, bytes, extra, group) {
         Ok(requirements) => Ok(requirements),
-        Err(cause) => Err(fault_in(Place::Input(1), cause)),
+        Err(cause) => Err(Fault::of(Place::Input(1), cause)),
     }
 }
 
-/// The requirements of a project file, read and refused as by [`project_of`], with the cause of the
-/// fault alone; lack of memory is 60. Public for the crate above alone.
-pub fn project_requirements(
+// The requirements of a project file, read and refused as by `project_of`, with the cause of the fault alone.
+fn project_requirements(
     alloc: Global,
     bytes: &[u8],
     extra: &str,
@@ -105,16 +103,18 @@ pub fn project_requirements(
     requirements_of_texts(alloc, texts.as_slice())
 }
 
-/// A project file that is a TOML document. Public for the crates above alone.
+/// A project file that is read once, to be asked for the texts of several extras and dependency groups (PyPA
+/// "pyproject.toml", "Dependency Groups"). Each text is to be a requirement, see [`Requirement::read`].
 #[derive(Drop)]
 pub struct ProjectFile {
-    /// What the file says.
+    /// The TOML document that the file is.
     pub document: Table,
 }
 
 impl ProjectFile {
-    /// The document that the bytes are, which are refused as by [`project_of`] where they are none: 56, 51 or 52,
-    /// and lack of memory is 60. Public for the crates above alone.
+    /// Reads the bytes as a TOML document. They are refused as by [`project_of`] where they are none: 56 for more than
+    /// 16,777,216 bytes, 51 where they aren't UTF-8, and 52 where they nest too deep or are no document. Lack of memory
+    /// is 60.
     pub fn read(alloc: Global, bytes: &[u8]) -> Result<ProjectFile, Cause>
         ensures ok { IfOk result (λ file. document_of bytes.now ≡ Ok (table_view file.document)) }
         ensures refused { IfErr result (λ cause. (cause ≡ Cause.NoMemory)
@@ -124,9 +124,11 @@ impl ProjectFile {
         Ok(ProjectFile { document })
     }
 
-    /// The texts that the document is asked for: those of the group, or where none is asked for, those of its
-    /// dependencies and of the extra. They are refused by the further checks of [`project_of`], but for whether each
-    /// text is a requirement; lack of memory is 60. Public for the crates above alone.
+    /// The texts that the file is asked for, in their order: those of the group (PEP 735), or where none is asked for,
+    /// those of `project.dependencies` and, unless it is the empty text, of the extra (PEP 621).
+    ///
+    /// The refusals are the further ones of [`project_of`], by the first check that fails: 53, 54 or 55 without a
+    /// group, 65, 55, 66 or 67 with one. Whether each text is a requirement isn't checked. Lack of memory is 60.
     pub fn texts<'a>(
         &'a self,
         alloc: Global,
@@ -159,7 +161,7 @@ fn requirements_of_texts(alloc: Global, texts: &[&str]) -> Result<Vec<Requiremen
         number += 1;
         match Requirement::read(alloc, text) {
             Ok(requirement) => requirements.push(requirement)?,
-            Err(fault) => return Err(line_cause(number, LineFault::Requirement(fault))),
+            Err(fault) => return Err(Cause::on_line(number, LineFault::Requirement(fault))),
         }
     }
     Ok(requirements)

@@ -229,6 +229,20 @@ impl Cause {
             Cause::GroupCycle => 67,
         }
     }
+
+    /// The cause of a fault of the line or text with this number, counted from 1: 57 with the code of the fault behind
+    /// it. Lack of memory, 40, is that of the cause, 60, and has no number.
+    pub fn on_line(number: u64, fault: LineFault) -> Cause
+        ensures memory { fault ≡ LineFault.Requirement RequireFault.NoMemory → result ≡ Cause.NoMemory }
+        ensures line { fault ≢ LineFault.Requirement RequireFault.NoMemory →
+            result ≡ Cause.Line number fault }
+        ensures apart { result ≢ Cause.ReadFault }
+    {
+        match fault {
+            LineFault::Requirement(RequireFault::NoMemory) => Cause::NoMemory,
+            fault => Cause::Line(number, fault),
+        }
+    }
 }
 
 impl From<AllocError> for Cause {
@@ -287,6 +301,19 @@ impl Fault {
         }
     }
 
+    /// The fault with this cause in this place. Lack of memory, 60, is that of [`Fault::no_memory`], in no place.
+    pub fn of(place: Place, cause: Cause) -> Fault
+        ensures cause { result.cause ≡ cause }
+        ensures memory { cause ≡ Cause.NoMemory → result ≡ no_memory }
+        ensures place { cause ≢ Cause.NoMemory → result.place ≡ place }
+    {
+        let place = match &cause {
+            Cause::NoMemory => Place::Nowhere,
+            _ => place,
+        };
+        Fault { place, cause }
+    }
+
     /// A version or a name on the command line that can't be read: 62, in no place, with the code
     /// of the fault behind it. Lack of memory, 3 or 29, is that of [`Fault::no_memory`].
     pub fn of_argument(fault: ArgumentFault) -> Fault
@@ -322,34 +349,6 @@ impl Fault {
         push_words(&mut text, &self.cause)?;
         Ok(text)
     }
-}
-
-/// The cause of a fault of the line or text with this number, counted from 1. Lack of memory has no
-/// number. Public for the crates above alone.
-pub fn line_cause(number: u64, fault: LineFault) -> Cause
-    ensures memory { fault ≡ LineFault.Requirement RequireFault.NoMemory → result ≡ Cause.NoMemory }
-    ensures line { fault ≢ LineFault.Requirement RequireFault.NoMemory →
-        result ≡ Cause.Line number fault }
-    ensures apart { result ≢ Cause.ReadFault }
-{
-    match fault {
-        LineFault::Requirement(RequireFault::NoMemory) => Cause::NoMemory,
-        fault => Cause::Line(number, fault),
-    }
-}
-
-/// The fault with this cause in this place. Lack of memory has no place. Public for the crates above
-/// alone.
-pub fn fault_in(place: Place, cause: Cause) -> Fault
-    ensures cause { result.cause ≡ cause }
-    ensures memory { cause ≡ Cause.NoMemory → result ≡ no_memory }
-    ensures place { cause ≢ Cause.NoMemory → result.place ≡ place }
-{
-    let place = match &cause {
-        Cause::NoMemory => Place::Nowhere,
-        _ => place,
-    };
-    Fault { place, cause }
 }
 
 impl From<AllocError> for Fault {

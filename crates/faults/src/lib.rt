@@ -3,4 +3,4 @@
 
 mod fault;
 
-pub use crate::fault::{ArgumentFault, Cause, Fault, LineFault, Place, fault_in, line_cause};
+pub use crate::fault::{ArgumentFault, Cause, Fault, LineFault, Place};

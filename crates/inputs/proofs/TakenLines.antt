@@ -12,7 +12,8 @@ use Rattle.texts.specs.Way.Split.{left_parts}
 use Rattle.faults.specs.declared.fault.LineFault.TheVariants as line_fault
 use Rattle.inputs.specs.Lists.{content, is_skipped, lines_of, requirements_among}
 use Rattle.texts.specs.Limits.{input_limit}
-use Rattle.inputs.specs.Way.LineReading.{HasTaken, HasText, IsHeld, SoFar, TakesFound, TakesInTurn, TakesLine}
+use Rattle.inputs.specs.Lists.{HasText}
+use Rattle.inputs.specs.Way.LineReading.{HasTaken, IsHeld, SoFar, TakesFound, TakesInTurn, TakesLine}
 use Rattle.inputs.specs.Way.LineReading.{TakesLines}
 use Rattle.inputs.specs.Refusal.{IsNoLine, by_encoding}
 use Rattle.inputs.proofs.LineTexts.{content_is_utf8, line_is_utf8}

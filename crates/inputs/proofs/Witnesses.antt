@@ -27,7 +27,7 @@ use Rattle.faults.specs.declared.fault.Place.TheVariants as place
 use Rattle.texts.specs.Bytes.{is_letter_or_digit}
 use Rattle.texts.specs.Limits.{line_limit}
 use Rattle.inputs.specs.Gathered.{BytesDemand, Gathered}
-use Rattle.inputs.specs.Way.LineReading.{HasText}
+use Rattle.inputs.specs.Lists.{HasText}
 use Rattle.inputs.specs.Lists.{IsRequirementList}
 use Rattle.inputs.specs.Merge.{IsMerge}
 use Rattle.inputs.specs.Refusal.{IsNoLine, by_encoding, by_length, no_memory}
@@ -106,13 +106,13 @@ pub gather-no_input : (i : Input) → i.kind ≡ kind.List → i.bytes.items ≡
 gather-no_input i k b = no_empty_table (Gathered nowhere (i ∷ [])) (gathered i k b)
 
 -- a line with `#` alone
-pub text_on-comment_taken : ¬ HasText (codes "#") (Some (codes "#"))
-text_on-comment_taken h = cc h.text.0
+pub text_of_line-comment_taken : ¬ HasText (codes "#") (Some (codes "#"))
+text_of_line-comment_taken h = cc h.text.0
 
 -- `!`
-pub text_on-bad_name_refused : ¬ IsNoLine (codes "!") (line_fault.Requirement require.BadName)
-text_on-bad_name_refused (by_length long is) = cc is
-text_on-bad_name_refused (by_encoding short differs is) = cc is
+pub text_of_line-bad_name_refused : ¬ IsNoLine (codes "!") (line_fault.Requirement require.BadName)
+text_of_line-bad_name_refused (by_length long is) = cc is
+text_of_line-bad_name_refused (by_encoding short differs is) = cc is
 
 -- a list with the one line `a`
 pub list_of-requirement_dropped : ¬ IsRequirementList line []

@@ -1,6 +1,6 @@
 -- The requirements of an input: a list, with a requirement on each line, or a project file.
-use Rattle.std.specs.Prelude.{ℕ, ◌≤◌, Bool, not, ◌||◌, ◌==◌, List, length, map, filter}
-use Rattle.std.specs.Prelude.{All, Contains, IsUtf8, Ok, Option}
+use Rattle.std.specs.Prelude.{◌≡◌, ℕ, ◌≤◌, Bool, true, false, not, ◌||◌, ◌==◌, List, length, map, filter}
+use Rattle.std.specs.Prelude.{All, Contains, IsUtf8, None, Ok, Option, Some}
 use Rattle.std.specs.List.{AllZip, slice_split}
 use Rattle.std.specs.Str.Lines.{strip_carriage_return}
 use Rattle.texts.specs.Runs.{begins, without_outer_blanks}
@@ -28,6 +28,17 @@ content line = without_outer_blanks (strip_carriage_return line)
 -- empty lines and comments are skipped
 abbrev pub is_skipped : List ℕ → Bool
 is_skipped x = length x == 0 || begins (λ b. b == 35) x
+
+-- the text of the requirement on a line, and none where the line is skipped
+abbrev pub IsTextOn : List ℕ → Option (List ℕ) → Type 0
+IsTextOn line None = is_skipped (content line) ≡ true
+IsTextOn line (Some text) = (is_skipped (content line) ≡ false) × (text ≡ content line)
+
+-- the line is one that a list may have, but for its requirement, which has this text
+pub record HasText (line : List ℕ) (found : Option (List ℕ)) : Type 0 where
+  pub short : length line ≤ line_limit
+  pub encoded : IsUtf8 line
+  pub text : IsTextOn line found
 
 -- the texts of the requirements on lines, of which some are skipped
 abbrev pub requirements_among : List (List ℕ) → List (List ℕ)

@@ -49,7 +49,7 @@ use crate::lines::{Taker, take_lines};
 use crate::table_file::table_in;
 use clause_memory::{DemandSink, LineSoFar};
 use documents::ProjectFile;
-use faults::{Cause, Fault, LineFault, Place, fault_in, line_cause};
+use faults::{Cause, Fault, LineFault, Place};
 use pep_marker::{Environment, Name};
 use pep_require::{RequireFault, walk};
 use pep_table::Gathering;
@@ -201,7 +201,10 @@ impl<'a> DemandTaker<'a> {
             number += 1;
             match self.read_text(text) {
                 Ok(()) => {}
-                Err(fault) => return Err(line_cause(number as u64, LineFault::Requirement(fault))),
+                Err(fault) => return Err(Cause::on_line(
+                    number as u64,
+                    LineFault::Requirement(fault),
+                )),
             }
         }
         Ok(())
@@ -226,7 +229,7 @@ impl<'a> DemandTaker<'a> {
                         self.read_behind(texts, number)?;
                         return Err(Cause::Line(number as u64, LineFault::Undefined));
                     }
-                    _ => return Err(line_cause(number as u64, fault)),
+                    _ => return Err(Cause::on_line(number as u64, fault)),
                 },
             };
         }
@@ -302,7 +305,7 @@ fn take_inputs(
         number += 1;
         gathering = match taker.take_input(gathering, input) {
             Ok(new) => new,
-            Err(cause) => return Err(fault_in(Place::Input(number), cause)),
+            Err(cause) => return Err(Fault::of(Place::Input(number), cause)),
         };
     }
     Ok(gathering)

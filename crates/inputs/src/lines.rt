@@ -22,12 +22,11 @@ ghost use Rattle.std.specs.Prelude.{
 ghost use Rattle.std.specs.List.{slice_split};
 ghost use Rattle.texts.specs.Limits.{line_limit};
 ghost use Rattle.texts.specs.Way.Split.{left_parts};
-ghost use Rattle.inputs.specs.Lists.{content, is_skipped};
+ghost use Rattle.inputs.specs.Lists.{HasText, content, is_skipped};
 ghost use Rattle.texts.specs.Limits.{input_limit};
 ghost use Rattle.inputs.specs.Refusal.{IsNoLine};
 ghost use Rattle.inputs.specs.Way.LineReading.{
   HasTaken,
-  HasText,
   IsHeld,
   RefusesEnded,
   RefusesGrowth,
@@ -40,7 +39,7 @@ ghost use Rattle.inputs.specs.Way.LineReading.{
   TakesLines,
 };
 
-use faults::{Cause, LineFault, line_cause};
+use faults::{Cause, LineFault};
 use memchr::memchr;
 use pep_require::RequireFault;
 use std::alloc::Global;
@@ -85,12 +84,13 @@ fn is_skipped(content: &[u8]) -> bool
     content.is_empty() || content.starts_with(b"#")
 }
 
-/// The text of the requirement on a line of a list, without its line feed; nothing where the line is empty or a
-/// comment. A carriage return at the line's end and white space at both ends are dropped.
+/// The text of the requirement on a line of a list, which is given without its line feed; nothing where the line is
+/// empty or a comment. A carriage return at the line's end and white space at both ends are dropped.
 ///
-/// The refusals are `LineTooLong`, 38, over 65,536 bytes, and `NotUtf8`, 51. Public for the crates above alone.
+/// The text is no requirement yet, see [`Requirement::read`](pep_require::Requirement::read). The refusals are
+/// `LineTooLong`, 38, over 65,536 bytes, and `NotUtf8`, 51.
 #[inline(always)]
-pub fn text_on(line: &[u8]) -> Result<Option<&str>, LineFault>
+pub fn text_of_line(line: &[u8]) -> Result<Option<&str>, LineFault>
     ensures ok { IfOk result (λ found. HasText line.now (option_map (λ text. text.now) found)) }
     ensures refused { IfErr result (IsNoLine line.now) }
 {
@@ -113,7 +113,7 @@ fn take_line<T: Taker>(taker: &mut T, taken: T::Taken, line: &[u8]) -> Result<T:
     ensures ok { IfOk result (TakesLine (T.takes taker.old) line.now taken) }
     ensures refused { IfErr result (RefusesLineBytes (T.refuses taker.old) line.now) }
 {
-    match text_on(line) {
+    match text_of_line(line) {
         Ok(Some(text)) => taker.take(taken, text),
         Ok(None) => Ok(taken),
         Err(fault) => Err(fault),
@@ -209,7 +209,7 @@ fn take_ended<T: Taker>(
             number,
             held: Vec::new(alloc),
         }),
-        Err(fault) => Err(line_cause(number, fault)),
+        Err(fault) => Err(Cause::on_line(number, fault)),
     }
 }
 
@@ -231,7 +231,7 @@ fn hold_part<A: Drop>(so_far: LinesSoFar<A>, part: &[u8]) -> Result<LinesSoFar<A
             number: so_far.number,
             held,
         }),
-        Err(fault) => Err(line_cause(so_far.number + 1, fault)),
+        Err(fault) => Err(Cause::on_line(so_far.number + 1, fault)),
     }
 }
 

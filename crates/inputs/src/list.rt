@@ -18,7 +18,7 @@ ghost use Rattle.inputs.specs.Lists.{IsRequirementList};
 ghost use Rattle.inputs.specs.Refusal.{IsRefusedList, no_memory};
 
 use crate::lines::{Taker, take_lines};
-use faults::{Fault, LineFault, Place, fault_in};
+use faults::{Fault, LineFault, Place};
 use pep_require::Requirement;
 use std::alloc::Global;
 
@@ -73,7 +73,7 @@ pub fn list_of(alloc: Global, bytes: &[u8]) -> Result<Vec<Requirement>, Fault>
         bytes,
     ) {
         Ok(requirements) => Ok(requirements),
-        Err(cause) => Err(fault_in(Place::Input(1), cause)),
+        Err(cause) => Err(Fault::of(Place::Input(1), cause)),
     }
 }
 

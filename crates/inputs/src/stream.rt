@@ -17,7 +17,7 @@ ghost use Rattle.inputs.specs.Streams.{ReadsList, ReadsUpTo};
 use crate::gathering::DemandTaker;
 use crate::lines::{LinesSoFar, Taker, refused_over, take_last, take_piece};
 use devices::Source;
-use faults::{Cause, Fault, Place, fault_in};
+use faults::{Cause, Fault, Place};
 use pep_marker::Environment;
 use pep_table::{Gathering, Table};
 use std::alloc::Global;
@@ -83,7 +83,7 @@ pub fn gather_reader<S: Source>(
     let nothing = Gathering::new(alloc);
     match take_source(alloc, &mut taker, nothing, source) {
         Ok(gathering) => Ok(gathering),
-        Err(cause) => Err(fault_in(Place::Input(1), cause)),
+        Err(cause) => Err(Fault::of(Place::Input(1), cause)),
     }
 }
 

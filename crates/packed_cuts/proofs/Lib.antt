@@ -1,6 +1,3 @@
-pub mod PackedOrder
-pub mod PackedRead
-pub mod RaisedReleases
 pub mod LeftOver
 pub mod SingleCuts
 pub mod Swept

@@ -4,7 +4,8 @@ use Rattle.std.specs.Prelude.{IsOk, if◌then◌else◌}
 use Rattle.pep_version.specs.Version.{Version}
 use Rattle.specifiers.specs.Clause.{Prefix, compatible, demanded, excluding_prefix, matching_prefix, version_clause}
 use Rattle.specifiers.specs.ClauseView.{of_prefix, of_version}
-use Rattle.specifiers.specs.Way.OperatorEnds.{begin_of, end_of, leaves_out}
+use Rattle.specifiers.specs.Way.OperatorEnds.{begin_of, end_of}
+use Rattle.specifiers.specs.Operator.{leaves_out}
 use Rattle.specifiers.specs.declared.fault.ClauseFault.TheVariants as fault
 use Rattle.specifiers.specs.declared.op.Op.{Op}
 use Rattle.specifiers.specs.declared.op.Op.TheVariants as op
@@ -13,7 +14,7 @@ use Rattle.pep_clause.specs.Cut.{end, least}
 use Rattle.pep_clause.specs.OperatorTable.{before_prefix, prefix_end, set_of}
 use Rattle.pep_clause.specs.Way.Ends.{begin_cut, between, end_cut}
 use Rattle.packed_cuts.specs.Way.PackedRange.{HoldsPrefix, HoldsRelease, IsBetween, release_prefix}
-use Rattle.packed_cuts.specs.PackedCut.{release_alone}
+use Rattle.pep_clause.specs.PackedCut.{release_alone}
 use Rattle.packed_cuts.specs.declared.packed_range.PackedRange.{PackedRange}
 
 -- the packed cuts of an operator and a version hold what its clause admits

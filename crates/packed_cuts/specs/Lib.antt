@@ -1,2 +1,1 @@
-pub mod PackedCut
 pub mod Way

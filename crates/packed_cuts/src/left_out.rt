@@ -43,12 +43,11 @@ ghost use Rattle.packed_cuts.specs.Way.LeftOut.{
   single,
   spans,
 };
-ghost use Rattle.packed_cuts.specs.PackedCut.{right_behind};
+ghost use Rattle.pep_clause.specs.PackedCut.{right_behind};
 
-use crate::packed_cut::PackedCut;
 use crate::packed_range::PackedRange;
 use crate::packed_ranges::PackedRanges;
-use pep_clause::ClauseFault;
+use pep_clause::{ClauseFault, PackedCut};
 use std::alloc::{AllocError, Global};
 use std::cmp::Ordering;
 use std::marker::Model;

@@ -1,6 +1,6 @@
 //! What a clause admits, or leaves out, as the versions between two packed cuts.
 
-ghost use Rattle.std.specs.Prelude.{◌≡◌, ◌+◌, ◌<◌, ◌≤◌, ◌↔◌, length, IfSome, IsSome};
+ghost use Rattle.std.specs.Prelude.{◌≡◌, ◌<◌, ◌≤◌, ◌↔◌, length, IfSome, IsSome};
 ghost use Rattle.specifiers.specs.Admits.{compatible_prefix};
 ghost use Rattle.specifiers.specs.Clause.{prefix_of};
 ghost use Rattle.specifiers.specs.ClauseView.{IsStored, clause_of, operand_parts};
@@ -22,17 +22,13 @@ ghost use Rattle.packed_cuts.specs.Way.PackedRange.{
   next_version,
   raised_last,
 };
-ghost use Rattle.packed_cuts.specs.PackedCut.{
+ghost use Rattle.pep_clause.specs.PackedCut.{
   AreShortNumbers,
-  IsShortRelease,
   IsShortVersion,
   four,
-  number_unit,
 };
 
-use crate::packed_cut::PackedCut;
-use crate::word::{NUMBER, four};
-use pep_clause::Clause;
+use pep_clause::{Clause, PackedCut};
 use pep_version::Version;
 use specifiers::{Begin, End, Op, Operand};
 
@@ -110,18 +106,6 @@ fn matching_to(version: &Version) -> Option<PackedCut>
     }
 }
 
-// The number above, where it is not large.
-fn raised_number(number: u64) -> Option<u64>
-    ensures number { IfSome result (λ n. n ≡ number + 1) }
-    ensures exactly { IsSome result ↔ (number + 1 < number_unit) }
-{
-    if number < NUMBER - 1 {
-        Some(number + 1)
-    } else {
-        None
-    }
-}
-
 // The release with its last number raised by one, as four numbers.
 fn raised(release: &[u64]) -> Option<[u64; 4]>
     ensures end { IfSome result (λ n. before_dev 0 n ≡ prefix_end (record {
@@ -136,10 +120,10 @@ fn raised(release: &[u64]) -> Option<[u64; 4]>
         → AreShortNumbers (raised_last release.now) → IsSome result }
 {
     match release {
-        [a] => Some([raised_number(*a)?, 0, 0, 0]),
-        [a, b] => Some([*a, raised_number(*b)?, 0, 0]),
-        [a, b, c] => Some([*a, *b, raised_number(*c)?, 0]),
-        [a, b, c, d] => Some([*a, *b, *c, raised_number(*d)?]),
+        [a] => Some([a.checked_add(1)?, 0, 0, 0]),
+        [a, b] => Some([*a, b.checked_add(1)?, 0, 0]),
+        [a, b, c] => Some([*a, *b, c.checked_add(1)?, 0]),
+        [a, b, c, d] => Some([*a, *b, *c, d.checked_add(1)?]),
         _ => None,
     }
 }
@@ -158,22 +142,7 @@ pub(crate) fn prefix_end(epoch: u64, release: &[u64]) -> Option<PackedCut>
           release.now;
     }) }
 {
-    if epoch != 0 {
-        return None;
-    }
-    PackedCut::before_dev(raised(release)?)
-}
-
-// The packed cut before all versions whose epoch is this and whose release begins with these numbers.
-fn prefix_start(epoch: u64, release: &[u64]) -> Option<PackedCut>
-    requires { 0 < length release.now }
-    ensures cut { IfSome result (λ p. p ≡ before_dev epoch release.now) }
-    ensures exactly { IsSome result ↔ IsShortRelease epoch release.now }
-{
-    if epoch != 0 {
-        return None;
-    }
-    PackedCut::before_dev(four(release)?)
+    PackedCut::before_dev(epoch, &raised(release)?)
 }
 
 /// The packed cuts of a prefix with this epoch and release.
@@ -191,7 +160,7 @@ pub(crate) fn prefix_ends(epoch: u64, release: &[u64]) -> Option<PackedRange>
           release.now;
     }) }
 {
-    let low = prefix_start(epoch, release)?;
+    let low = PackedCut::before_dev(epoch, release)?;
     let high = prefix_end(epoch, release)?;
     Some(PackedRange { low, high })
 }

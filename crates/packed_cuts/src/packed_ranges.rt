@@ -7,8 +7,8 @@ ghost use Rattle.pep_clause.specs.VersionSet.{IsNormal};
 ghost use Rattle.packed_cuts.specs.Way.LeftOut.{span, spans};
 
 use crate::packed_range::PackedRange;
-use pep_clause::{ClauseFault, Range, VersionSet};
-use std::alloc::{AllocError, Global};
+use pep_clause::{ClauseFault, Cut, Range, VersionSet};
+use std::alloc::Global;
 use std::marker::Model;
 
 /// The versions in some ranges between packed cuts, each of which begins above the end of the one before it.
@@ -30,18 +30,12 @@ impl Model for PackedRanges {
 }
 
 // The range between two packed cuts, the first of which is below the second.
-fn range_of(alloc: Global, bounds: &PackedRange) -> Result<Range, AllocError>
+fn range_of(bounds: &PackedRange) -> Range
     requires { cut_cmp bounds.now.low bounds.now.high ≡ Less }
-    ensures { IfOk result (λ r. r ≡ span bounds.now) }
+    ensures { result ≡ span bounds.now }
 {
-    let Ok(low) = bounds.low.cut(alloc) else {
-        return Err(AllocError);
-    };
-    let Ok(high) = bounds.high.cut(alloc) else {
-        return Err(AllocError);
-    };
-    match Range::of(low, high) {
-        Some(range) => Ok(range),
+    match Range::of(Cut::of_packed(bounds.low), Cut::of_packed(bounds.high)) {
+        Some(range) => range,
         None => unreachable!(),
     }
 }
@@ -70,7 +64,7 @@ impl PackedRanges {
     {
         let mut ranges = Vec::with_capacity(alloc, self.ranges.len())?;
         for bounds in &self.ranges {
-            ranges.push(range_of(alloc, bounds)?)?;
+            ranges.push(range_of(bounds))?;
         }
         match VersionSet::of_ranges(ranges) {
             Some(versions) => Ok(versions),

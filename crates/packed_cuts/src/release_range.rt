@@ -11,10 +11,10 @@ ghost use Rattle.packed_cuts.specs.Way.PackedRange.{
   PrefixHasRange,
   ReleaseHasRange,
 };
-ghost use Rattle.packed_cuts.specs.PackedCut.{release_alone};
+ghost use Rattle.pep_clause.specs.PackedCut.{release_alone};
 
-use crate::packed_cut::PackedCut;
 use crate::packed_range::{PackedRange, prefix_end, prefix_ends};
+use pep_clause::PackedCut;
 use specifiers::{Begin, End, Op};
 
 // The packed cut where the versions begin that the clause of an operator and this release speaks of.

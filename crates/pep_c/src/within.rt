@@ -25,7 +25,7 @@ use crate::clause_lists::{admits_all, clauses_of};
 use crate::ranges::set_of;
 use crate::reply::{ANSWERED, REFUSED, Reply, give_answer};
 use crate::versions::{read_version, truth_number};
-use faults::{Cause, Fault, Place, fault_in};
+use faults::{Cause, Fault, Place};
 use pep_clause::VersionSet;
 use pep_version::Version;
 use specifiers::Clause;
@@ -126,7 +126,7 @@ fn other_clauses(alloc: Global, bytes: &[u8]) -> Result<Vec<Clause>, Fault>
 {
     match clauses_of(alloc, bytes) {
         Ok(clauses) => Ok(clauses),
-        Err(fault) => Err(fault_in(Place::Input(2), fault.cause)),
+        Err(fault) => Err(Fault::of(Place::Input(2), fault.cause)),
     }
 }
 

@@ -11,12 +11,14 @@ use Rattle.std.proofs.lemmas.Slice.Eq.{bytes_eq-Decides}
 use Rattle.std.proofs.lemmas.List.{append_cancel_left}
 use Rattle.texts.specs.Lists.{is_empty}
 use Rattle.pep_version.proofs.NormalTexts.{normal-spells}
+use Rattle.pep_version.proofs.OneVersion.{one-version}
 use Rattle.pep_version.specs.Order.{place_of, short_release, without_end_zeros}
 use Rattle.pep_version.specs.Spelling.{Spells, SpellsAny}
 use Rattle.pep_version.specs.Text.{normal_text}
 use Rattle.pep_version.specs.Version.{IsVersion, Segment, Version}
 use Rattle.pep_version.specs.declared.parts.Phase.{Phase}
-use Rattle.specifiers.specs.Clause.{Prefix, is_final}
+use Rattle.specifiers.specs.Clause.{Prefix}
+use Rattle.pep_version.specs.Final.{is_final}
 use Rattle.pep_clause.specs.Cut.{Cut, IsCut, before, after, past, end, cut_text, final_version}
 use Rattle.pep_clause.specs.OperatorTable.{past_release}
 
@@ -218,3 +220,30 @@ module _ (text : List ℕ) (no_before : ReadBehind text (codes "before ") None)
 
   pub none_read : bytes_eq text (codes "end") ≡ false → ReadsCut text None
   none_read other = λ c g. ((λ e. cc e), λ e. none_fits other c g (sym e))
+
+-- ---- cuts with one text are one
+
+one_version_of_text : (v w : Version) → IsVersion v → IsVersion w → normal_text v ≡ normal_text w → v ≡ w
+one_version_of_text v w h g e =
+    one-version (normal_text v) v w (normal-spells v h).0
+    (subst (λ (x : List ℕ). SpellsAny x w) (sym e) (normal-spells w g).0)
+
+one_text : (c d : Cut) → IsCut c → IsCut d → cut_text c ≡ cut_text d → c ≡ d
+one_text (before v) (before w) h g e =
+    ap before (one_version_of_text v w h.0 g.0 (append_cancel_left (codes "before ") (normal_text v) (normal_text w) e))
+one_text (after v) (after w) h g e =
+    ap after (one_version_of_text v w h.0 g.0 (append_cancel_left (codes "after ") (normal_text v) (normal_text w) e))
+one_text (past r) (past s) h g e =
+    let v = final_version r in
+    let w = final_version s in
+    let same = one_version_of_text v w h.0 g.0 (append_cancel_left (codes "past ") (normal_text v) (normal_text w) e) in
+    λ i. past (record { epoch = (same i).epoch; release = (same i).release })
+one_text end end h g e = refl
+one_text c d h g e = apart (cut_text c) (cut_text d) refl e
+
+-- so a cut with this text is the one that is read
+pub text_read : (text : List ℕ) (k : Cut) → IsCut k → cut_text k ≡ text → ReadsCut text (Some k)
+text_read text k is own = λ c g. (
+  (λ e. subst (λ x. cut_text x ≡ text) (cc e) own),
+  λ e. ap Some (one_text k c is g (own ∙ sym e)),
+)

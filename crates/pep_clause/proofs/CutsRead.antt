@@ -1,6 +1,5 @@
 -- Cuts that are read from their bytes.
 use Rattle.std.proofs.Common.{◌≡◌, ℕ, List, [], ◌∷◌, ◌++◌, Option, Some, None, refl, sym, ap, ◌∙◌, subst, append-nil, append_assoc, take, length, ◌-◌, ◌==◌, Bool, true, false, if◌then◌else◌}
-use Rattle.std.specs.Prelude.{is_some, option_map}
 use Rattle.pep_version.proofs.KeyParts.{behind_place-is, place-front, version-front}
 use Rattle.pep_version.specs.KeyBytes.{key_bytes, dev_bytes, label_bytes, number_bytes, phase_byte, place_bytes}
 use Rattle.pep_version.specs.KeyBytes.{post_bytes, stage_bytes_of, suffix_bytes}
@@ -19,7 +18,7 @@ use Rattle.pep_clause.proofs.CutBytes.{cut-order, stands}
 use Rattle.pep_version.specs.ByteOrder.{byte_cmp}
 use Rattle.pep_clause.specs.CutBytes.{cut_bytes}
 use Rattle.pep_clause.specs.CutView.{CutReadsBack, beside, cut_at, cut_behind, cut_word}
-use Rattle.pep_clause.specs.CutView.{stored_cut, word_beside}
+use Rattle.pep_clause.specs.CutView.{word_beside}
 
 -- behind the place of a version no 0x60 stands
 suffix-beside : (pre : Option (Phase × ℕ)) (post dev : Option ℕ) (s : List ℕ) (p : Version × List ℕ) →
@@ -157,8 +156,12 @@ behind_rank (b ∷ rest) p = by (b == 0x60)
     by true = refl
     by false = beside_rank p.0 p.1
 
-pub stored_rank : {A : Type 0} (items : A → List ℕ) (bytes : Option A) → is_some bytes ≡ true →
-    end_rank (stored_cut (option_map items bytes)) ≡ 0
-stored_rank items None h = cc h
-stored_rank items (Some bytes) h =
-    behind_rank (behind_place (items bytes)) (read_version (items bytes))
+pub cut_at_rank : (bytes : List ℕ) → end_rank (cut_at bytes) ≡ 0
+cut_at_rank bytes = behind_rank (behind_place bytes) (read_version bytes)
+
+-- two cuts that are held as their bytes
+pub stored-order : (b d : List ℕ) → CutReadsBack b → CutReadsBack d →
+    byte_cmp b d ≡ cut_cmp (cut_at b) (cut_at d)
+stored-order b d p q =
+    (λ i. byte_cmp (sym p.bytes_are i) (sym q.bytes_are i))
+    ∙ bytes-order (cut_at b) (cut_at d) p.cut q.cut

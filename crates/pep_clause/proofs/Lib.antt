@@ -24,7 +24,10 @@ pub mod EndRows
 pub mod RaisedRelease
 pub mod SetLemmas
 pub mod CutReading
+pub mod FrontNumbers
 pub mod IncreasingRanges
 pub mod CutBytes
 pub mod CutsRead
+pub mod PackedOrder
+pub mod PackedRead
 mod Witnesses

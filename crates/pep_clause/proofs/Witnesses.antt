@@ -9,8 +9,9 @@ use Rattle.pep_version.specs.Version.{Version}
 use Rattle.pep_version.specs.declared.parts.Phase.TheVariants.{Alpha}
 use Rattle.specifiers.specs.Clause.{demanded}
 use Rattle.pep_clause.specs.Cut.{Cut, IsCut, before, cut_cmp, cut_text, cut_version, end, least}
+use Rattle.pep_clause.specs.CutBytes.{cut_bytes}
 use Rattle.pep_clause.specs.CutView.{cut_word}
-use Rattle.pep_clause.specs.OperatorTable.{done, set_of}
+use Rattle.pep_clause.specs.OperatorTable.{before_dev, done, set_of}
 use Rattle.pep_clause.specs.SetEquality.{same_ranges}
 use Rattle.pep_clause.specs.VersionSet.{IsIncreasing, Range, all_versions, cuts, is_in}
 use Rattle.pep_clause.proofs.PlaceCuts.{IsCut-least}
@@ -28,6 +29,10 @@ span low high = record { low = low; high = high }
 abbrev outer : List Range
 outer = span least (at 1) ∷ span (at 2) end ∷ []
 
+-- the end
+pub Cut_bytes-end_of_eight : ¬ (0xff ∷ 0xff ∷ 0xff ∷ 0xff ∷ 0xff ∷ 0xff ∷ 0xff ∷ 0xff ∷ [] ≡ cut_bytes end)
+Cut_bytes-end_of_eight e = cc e
+
 -- the least cut and the end
 pub Cut_cmp-turned : ¬ (Greater ≡ cut_cmp least end)
 Cut_cmp-turned e = cc e
@@ -40,15 +45,16 @@ Cut_copied-the_end e = cc e
 pub Cut_eq-not_less : ¬ (true ≡ eq_by_cmp cut_cmp end least)
 Cut_eq-not_less e = cc e
 
-pub Cut_least-of_epoch_one : ¬ (before (record {
-  epoch = 1;
-  release = 0 ∷ [];
-  pre = None;
-  post = None;
-  dev = Some 0;
-  label = [];
-}) ≡ least)
-Cut_least-of_epoch_one e = cc (ap (λ c. (cut_version c).epoch) e)
+pub Cut_least-the_end : ¬ (end ≡ least)
+Cut_least-the_end e = cc e
+
+-- the least cut
+pub Cut_of_packed-the_end : ¬ (end ≡ least)
+Cut_of_packed-the_end e = cc e
+
+-- the least cut
+pub Cut_packed-the_end : ¬ (end ≡ least)
+Cut_packed-the_end e = cc e
 
 -- a text `a`, and no memory
 pub Cut_push_text-emptied_where_it_fails : ¬ KeepsFront (codes "a") []
@@ -119,6 +125,10 @@ VersionSet_swept-last_range_dropped h = cc (h (release 3))
 pub VersionSet_swept-turns_taken_back : ¬ (5 ≤ 1)
 VersionSet_swept-turns_taken_back h = absurd (omega (arith, h))
 
+-- 1!0
+pub PackedCut_before_dev-of_any_epoch : ¬ (before_dev 0 (0 ∷ []) ≡ before_dev 1 (0 ∷ []))
+PackedCut_before_dev-of_any_epoch e = cc (ap (λ c. (cut_version c).epoch) e)
+
 -- 1a0
 pub done-before_the_last_post_release : ¬ (before (public_version (1 ∷ []) (Some (Alpha, 0)) (Some
     18446744073709551615) None) ≡ done (public_version (1 ∷ []) (Some (Alpha, 0)) None None))
@@ -127,6 +137,10 @@ done-before_the_last_post_release e = cc (ap (λ c. (cut_version c).post) e)
 -- `===a`
 pub of_operand-none_for_a_demanded_text : ¬ ([] ≡ set_of (demanded (codes "a")))
 of_operand-none_for_a_demanded_text e = cc e
+
+-- the least cut, and the end as its bytes
+pub order_of_bytes-turned : ¬ (Greater ≡ cut_cmp least end)
+order_of_bytes-turned e = cc e
 
 -- all versions
 pub ranges_copied-without_the_last : ¬ ([] ≡ all_versions)

@@ -1,11 +1,12 @@
--- What a contract sees of a stored cut: the cut with its bytes. The end of all versions is stored
--- without any.
-use Rattle.std.specs.Prelude.{◌≡◌, ◌==◌, ℕ, List, [], ◌∷◌, Option, Some, None, codes, if◌then◌else◌}
+-- What a contract sees of a cut, which is held as a packed cut or as its bytes: the cut.
+use Rattle.std.specs.Prelude.{◌≡◌, ◌==◌, ℕ, List, [], ◌∷◌, codes, if◌then◌else◌}
 use Rattle.pep_version.specs.KeyReading.{behind_place, read_version}
 use Rattle.pep_version.specs.Version.{Version}
 use Rattle.specifiers.specs.Clause.{prefix_of}
-use Rattle.pep_clause.specs.Cut.{Cut, IsCut, before, after, past, end}
+use Rattle.pep_clause.specs.Cut.{Cut, IsCut, before, after, past}
 use Rattle.pep_clause.specs.CutBytes.{cut_bytes}
+use Rattle.pep_clause.specs.declared.cut.Form.{Form}
+use Rattle.pep_clause.specs.declared.cut.Form.TheVariants.{Small, Large}
 
 -- the cut before or after a version, by what stands behind its key
 abbrev pub beside : Version → List ℕ → Cut
@@ -35,10 +36,11 @@ pub record CutReadsBack (bytes : List ℕ) : Type 0 where
   pub cut : IsCut (cut_at bytes)
   pub bytes_are : cut_bytes (cut_at bytes) ≡ bytes
 
-abbrev pub stored_cut : Option (List ℕ) → Cut
-stored_cut None = end
-stored_cut (Some bytes) = cut_at bytes
+-- the cut in either form
+abbrev pub form_cut : Form → Cut
+form_cut (Small c) = c
+form_cut (Large bytes) = cut_at bytes.value.items
 
-abbrev pub IsStored : Option (List ℕ) → Type 0
-IsStored None = Unit {0}
-IsStored (Some bytes) = CutReadsBack bytes
+abbrev pub IsForm : Form → Type 0
+IsForm (Small c) = IsCut c
+IsForm (Large bytes) = CutReadsBack bytes.value.items

@@ -1,3 +1,4 @@
 -- Definitions that say how the code goes. No promise rests on them.
 pub mod Ends
 pub mod Joined
+pub mod Numbers

@@ -11,6 +11,7 @@ ghost use Rattle.std.specs.Prelude.{
   refl,
   IfErr,
   IfOk,
+  IfSome,
   IsTrue,
 };
 ghost use Rattle.std.specs.Cmp.{
@@ -33,9 +34,11 @@ ghost use Rattle.pep_clause.specs.Cut.{
 };
 ghost use Rattle.pep_clause.specs.CutBytes.{cut_bytes};
 ghost use Rattle.pep_clause.specs.CutOrder.{LiesIn, LiesStrictlyIn, SameUnder};
+ghost use Rattle.pep_clause.specs.CutView.{CutReadsBack, cut_at};
 ghost use Rattle.pep_clause.specs.Laws.{cut_total};
 ghost use Rattle.pep_clause.specs.OperatorTable.{before_dev, before_place, past_release};
 
+use crate::packed_cut::{CUT_ROOM, PackedCut};
 use pep_version::{Key, KeyBytes, Phase, Version};
 use specifiers::ClauseFault;
 use std::alloc::{AllocError, Global};
@@ -47,31 +50,28 @@ use std::marker::Model;
 /// the same in order, directly after them, past everything of a release, or the end of all
 /// versions.
 ///
-/// A cut is held as bytes whose byte order is the order of cuts.
+/// A cut is held as a packed cut, or as bytes whose byte order is the order of cuts.
 #[derive(Drop)]
 pub struct Cut {
-    // none for the end, whose bytes are always the same
-    bytes: Option<KeyBytes>,
+    form: Form,
 }
 
-// The bytes of the end.
-const END: [u8; 9] = [0xff; 9];
-
-// The bytes of the cut under all versions, which stands before `0.dev0`.
-const LEAST: [u8; 21] = [
-    0, 0, 0, 0, 0, 0, 0, 0, 0, 0x10, 0, 0, 0, 0, 0, 0, 0, 0, 0, 0, 0,
-];
+// A cut that could be packed may be held as its bytes all the same.
+#[derive(Drop)]
+enum Form {
+    Small(PackedCut),
+    Large(Box<KeyBytes>),
+}
 
 impl Model for Cut {
-    ghost use Rattle.std.specs.Prelude.{option_map};
     ghost use Rattle.pep_clause.specs.Cut.{Cut};
-    ghost use Rattle.pep_clause.specs.CutView.{IsStored, stored_cut};
+    ghost use Rattle.pep_clause.specs.CutView.{IsForm, form_cut};
 
     ghost Value = { Cut };
 
-    ghost view = { λ a. stored_cut (option_map (λ b. b.items) a.bytes) };
+    ghost view = { λ a. form_cut a.form };
 
-    ghost invariant = { λ a. IsStored (option_map (λ b. b.items) a.bytes) };
+    ghost invariant = { λ a. IsForm a.form };
 }
 
 impl Cut {
@@ -85,16 +85,55 @@ impl Cut {
         Ok(Cut::before_suffixed(alloc, version, version.pre(), version.post(), version.dev())?)
     }
 
-    // The cut directly before the version at this place, whose bytes are the key's.
-    fn before_key(key: Key) -> Cut
-        requires version { IsVersion key }
-        requires own_place { place_of key ≡ key }
-        ensures place { result ≡ before key }
-        ensures spelled { IsCut result }
+    // The cut that is packed.
+    fn small(cut: PackedCut) -> Cut
+        requires { IsCut cut }
+        ensures { result ≡ cut }
     {
         Cut {
-            bytes: Some(key.into_bytes()),
+            form: Form::Small(cut),
         }
+    }
+
+    // The cut with these bytes.
+    fn large(alloc: Global, bytes: KeyBytes) -> Result<Cut, AllocError>
+        requires { CutReadsBack bytes.items }
+        ensures same { IfOk result (λ c. c ≡ cut_at bytes.items) }
+        ensures spelled { IfOk result (λ c. IsCut c) }
+    {
+        Ok(Cut {
+            form: Form::Large(Box::new(alloc, bytes)?),
+        })
+    }
+
+    /// The cut that is packed. Public for the crates above alone.
+    pub fn of_packed(cut: PackedCut) -> Cut
+        ensures same { result ≡ cut }
+        ensures spelled { IsCut result }
+    {
+        // Its clauses tell that the cut is in its one spelling.
+        let _ = cut.cmp(&cut);
+        Cut::small(cut)
+    }
+
+    /// The same cut packed, if it is held so. Public for the crates above alone.
+    pub fn packed(&self) -> Option<PackedCut>
+        ensures same { IfSome result (λ p. p ≡ self.now) }
+    {
+        match &self.form {
+            Form::Small(cut) => Some(*cut),
+            Form::Large(_) => None,
+        }
+    }
+
+    // The cut directly before the version at this place, whose bytes are the key's.
+    fn before_key(alloc: Global, key: Key) -> Result<Cut, AllocError>
+        requires version { IsVersion key }
+        requires own_place { place_of key ≡ key }
+        ensures place { IfOk result (λ c. c ≡ before key) }
+        ensures spelled { IfOk result (λ c. IsCut c) }
+    {
+        Cut::large(alloc, key.into_bytes())
     }
 
     /// The cut directly before the version with these suffixes in place of its own.
@@ -113,8 +152,11 @@ impl Cut {
         })) }
         ensures spelled { IfOk result (λ c. IsCut c) }
     {
+        if let Some(cut) = PackedCut::before(version, pre, post, dev) {
+            return Ok(Cut::small(cut));
+        }
         let key = Key::with_suffixes(alloc, version, pre, post, dev).map_err(|_| AllocError)?;
-        Ok(Cut::before_key(key))
+        Cut::before_key(alloc, key)
     }
 
     /// The cut before the first developmental release of a release, and so before all its
@@ -124,8 +166,11 @@ impl Cut {
         ensures place { IfOk result (λ c. c ≡ before_dev epoch release.now) }
         ensures spelled { IfOk result (λ c. IsCut c) }
     {
+        if let Some(cut) = PackedCut::before_dev(epoch, release) {
+            return Ok(Cut::small(cut));
+        }
         let key = Key::of_release(alloc, epoch, release, Some(0)).map_err(|_| AllocError)?;
-        Ok(Cut::before_key(key))
+        Cut::before_key(alloc, key)
     }
 
     /// The cut directly after a version with a label and all that are the same in order.
@@ -139,7 +184,7 @@ impl Cut {
         };
         let mut bytes = key.into_bytes();
         bytes.push(0)?;
-        Ok(Cut { bytes: Some(bytes) })
+        Cut::large(alloc, bytes)
     }
 
     /// The cut past everything of a version's release.
@@ -154,43 +199,42 @@ impl Cut {
         // behind its release the key of a final release has four bytes
         bytes.truncate(bytes.len() - 4);
         bytes.push(0x60)?;
-        Ok(Cut { bytes: Some(bytes) })
+        Cut::large(alloc, bytes)
     }
 
     /// The end of all versions.
     pub fn end() -> Cut
         ensures { result ≡ end }
     {
-        Cut { bytes: None }
+        Cut::of_packed(PackedCut::end())
     }
 
-    /// The cut under all versions. The only fault is `NoMemory`.
-    pub fn least(alloc: Global) -> Result<Cut, ClauseFault>
-        ensures least { IfOk result (λ c. c ≡ least) }
-        ensures faults { IfErr result (λ e. e ≡ ClauseFault.NoMemory) }
+    /// The cut under all versions.
+    pub fn least() -> Cut
+        ensures { result ≡ least }
     {
-        Ok(Cut {
-            bytes: Some(KeyBytes::from_slice(alloc, &LEAST)?),
-        })
+        Cut::of_packed(PackedCut::least())
     }
 
     /// Whether the version at this place is under the cut.
     pub(crate) fn is_above(&self, key: &Key) -> bool
         ensures { result ≡ is_under self.now key.now }
     {
-        key.bytes().cmp(self.bytes()) == Ordering::Less
+        let mut room = [0; CUT_ROOM];
+        key.bytes().cmp(self.bytes(&mut room)) == Ordering::Less
     }
 
     /// The bytes of the cut: those of the key of its version (see `Key::bytes`), for `after` with a 0
     /// behind them; for `past` those of the release and 0x60; for the end nine bytes 0xff. A
-    /// version lies under a cut exactly if the bytes of its key are below these in byte order.
-    pub fn bytes(&self) -> &[u8]
+    /// version lies under a cut exactly if the bytes of its key are below these in byte order. They
+    /// may be written into the room.
+    pub fn bytes<'a>(&'a self, room: &'a mut [u8; CUT_ROOM]) -> &'a [u8]
         ensures bytes { result.now ≡ cut_bytes self.now }
         ensures spelled { IsCut self.now }
     {
-        match &self.bytes {
-            Some(bytes) => bytes.as_slice(),
-            None => &END,
+        match &self.form {
+            Form::Small(cut) => cut.bytes(room),
+            Form::Large(bytes) => bytes.as_slice(),
         }
     }
 
@@ -200,21 +244,38 @@ impl Cut {
         ensures spelled { IsCut self.now }
         ensures faults { IfErr result (λ e. e ≡ ClauseFault.NoMemory) }
     {
-        match &self.bytes {
-            Some(bytes) => Ok(Cut {
-                bytes: Some(KeyBytes::from_slice(alloc, bytes.as_slice())?),
-            }),
-            None => Ok(Cut::end()),
+        match &self.form {
+            Form::Small(cut) => Ok(Cut::small(*cut)),
+            Form::Large(bytes) => {
+                let copy = KeyBytes::from_slice(alloc, bytes.as_slice())?;
+                Ok(Cut::large(alloc, copy)?)
+            }
         }
     }
 
-    /// How the cuts stand: as their bytes.
+    /// How the cuts stand: two packed ones as their numbers, others as their bytes.
     pub(crate) fn order_to(&self, other: &Cut) -> Ordering
         ensures order { result ≡ cut_cmp self.now other.now }
         ensures spelled { IsCut self.now }
         ensures other_spelled { IsCut other.now }
     {
-        self.bytes().cmp(other.bytes())
+        match (&self.form, &other.form) {
+            (Form::Small(cut), Form::Small(other)) => cut.cmp(other),
+            (Form::Large(bytes), Form::Large(other)) => bytes.as_slice().cmp(other.as_slice()),
+            _ => self.order_of_bytes(other),
+        }
+    }
+
+    // The same, as their bytes, which are written where a cut is packed.
+    #[inline(never)]
+    fn order_of_bytes(&self, other: &Cut) -> Ordering
+        ensures order { result ≡ cut_cmp self.now other.now }
+        ensures spelled { IsCut self.now }
+        ensures other_spelled { IsCut other.now }
+    {
+        let mut room = [0; CUT_ROOM];
+        let mut other_room = [0; CUT_ROOM];
+        self.bytes(&mut room).cmp(other.bytes(&mut other_room))
     }
 }
 

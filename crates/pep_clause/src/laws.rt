@@ -7,6 +7,7 @@ ghost use Rattle.pep_version.specs.Version.{Version};
 ghost use Rattle.pep_clause.specs.Cut.{Cut, IsCut, cut_cmp};
 ghost use Rattle.pep_clause.specs.CutBytes.{CutsKeepOrder};
 ghost use Rattle.pep_clause.specs.CutOrder.{LiesStrictlyIn};
+ghost use Rattle.pep_clause.specs.PackedCut.{PackedCutsKeepOrder};
 ghost use Rattle.pep_clause.specs.SetEquality.{SamePoints, SameVersions};
 ghost use Rattle.pep_clause.specs.VersionSet.{IsNormal, Range, is_in};
 
@@ -42,4 +43,10 @@ pub fn place_is_in()
 /// lies under a cut exactly if its key is below the cut's bytes.
 pub fn cuts_keep_order()
     ensures { CutsKeepOrder }
+{}
+
+/// The numbers of packed cuts have sixteen bytes and the order of their cuts, and a cut in its one spelling is read
+/// back from its number.
+pub fn packed_cuts_keep_order()
+    ensures { PackedCutsKeepOrder }
 {}

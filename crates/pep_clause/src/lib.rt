@@ -3,6 +3,7 @@
 
 mod cut;
 pub mod laws;
+mod packed_cut;
 mod range;
 mod range_ends;
 mod set;
@@ -10,7 +11,8 @@ mod sweep;
 mod turns;
 
 pub use crate::cut::Cut;
+pub use crate::packed_cut::{CUT_ROOM, PackedCut};
 pub use crate::range::Range;
 pub use crate::set::VersionSet;
 pub use crate::turns::Turns;
-pub use specifiers::{Clause, ClauseFault, Op, is_final};
+pub use specifiers::{Clause, ClauseFault, Op, Operand};

@@ -186,7 +186,7 @@ pub(crate) fn begin_cut(alloc: Global, begin: Begin, version: &Version) -> Resul
     ensures spelled { IfOk result (λ c. IsCut c) }
 {
     match begin {
-        Begin::Least => Cut::least(alloc).map_err(|_| AllocError),
+        Begin::Least => Ok(Cut::least()),
         Begin::Version => Cut::before(alloc, version).map_err(|_| AllocError),
         Begin::Greater => greater_from(alloc, version),
     }

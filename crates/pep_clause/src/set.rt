@@ -180,8 +180,7 @@ impl VersionSet {
         ensures versions { IfOk result (λ s. (v : Version) → In s v) }
         ensures faults { IfErr result (λ e. e ≡ ClauseFault.NoMemory) }
     {
-        let least = Cut::least(alloc)?;
-        Ok(VersionSet::between(alloc, least, Cut::end())?)
+        Ok(VersionSet::between(alloc, Cut::least(), Cut::end())?)
     }
 
     /// The versions between two cuts.
@@ -207,8 +206,7 @@ impl VersionSet {
         ensures { IfOk result (λ s. s ≡ outside low high) }
     {
         let mut ranges = Vec::new(alloc);
-        let least = Cut::least(alloc).map_err(|_| AllocError)?;
-        push_range(&mut ranges, least, low)?;
+        push_range(&mut ranges, Cut::least(), low)?;
         push_range(&mut ranges, high, Cut::end())?;
         Ok(VersionSet { ranges })
     }

@@ -1,5 +1,6 @@
 pub mod NormalNames
 pub mod NormalRuns
+pub mod NormalFronts
 pub mod NameHeadLemmas
 pub mod ChainLaws
 pub mod ChainLoops

@@ -78,6 +78,11 @@ pub Name_in_front-name_again_behind_it : ¬ (codes "a b"
 unfolding is_letter_or_digit
 Name_in_front-name_again_behind_it e = cc e
 
+-- `a--b`
+pub Name_in_front-each_separator_kept : ¬ (name_of (codes "a--b") ≡ Some (codes "a--b"))
+unfolding is_letter_or_digit
+Name_in_front-each_separator_kept e = cc e
+
 -- `-`
 pub Name_read-any_name : ¬ (name_of (codes "-") ≡ Some (codes "-"))
 unfolding is_letter_or_digit

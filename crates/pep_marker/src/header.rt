@@ -13,7 +13,7 @@ use crate::normal::Normal;
 use crate::slots::is_value;
 use std::alloc::Global;
 
-/// What stands in front of a text, seen from an environment. Public for the crate of tables.
+/// The header that stands in front of a text, as [`Environment::header`] writes one, seen from an environment.
 #[derive(Clone, Copy, Debug)]
 pub enum HeaderIn<'a> {
     /// No header begins there.
@@ -138,9 +138,9 @@ impl Environment {
         }
     }
 
-    /// What stands in front of a text: see [`HeaderIn`]. The text of a table in an environment has
-    /// that environment's header there, and the lines of a table alone have none. The only fault is
-    /// lack of memory, 29. Public for the crate of tables.
+    /// What header stands in front of a text: that of this environment, of another one, or none. So a user can tell
+    /// in which environment a printed table was made: its text has that environment's header there (see
+    /// [`Environment::header`]), and the lines of a table alone have none. The only fault is lack of memory, 29.
     pub fn header_in<'a>(&self, alloc: Global, text: &'a str) -> Result<HeaderIn<'a>, MarkerFault>
         ensures found { IfOk result (FindsHeader self.now text.now) }
         ensures environment { IsEnvironment self.now }

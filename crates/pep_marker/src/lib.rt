@@ -13,6 +13,7 @@ mod marker;
 mod name;
 mod name_text;
 mod normal;
+mod normal_front;
 mod slots;
 mod token;
 mod value;

@@ -1,14 +1,14 @@
 //! The texts of names.
 
-ghost use Rattle.std.specs.Prelude.{◌≡◌, IfErr, IfOk};
+ghost use Rattle.std.specs.Prelude.{◌≡◌, IfErr, IfOk, IfSome};
 ghost use Rattle.pep_marker.specs.NameText.{name_bytes};
 
 use crate::fault::MarkerFault;
 use arrayvec::ArrayString;
 use std::alloc::Global;
 
-// How many bytes a text has at most that lies in the value.
-const SHORT: usize = 24;
+/// How many bytes a text has at most that lies in the value.
+pub(crate) const SHORT: usize = 24;
 
 /// The text of a name: in the value itself where it is short, as nearly all are, so that it asks for no memory.
 #[derive(Debug, Drop)]
@@ -23,9 +23,19 @@ impl NameText {
         ensures ok { IfOk result (λ t. name_bytes t ≡ text.now) }
         ensures faults { IfErr result (λ e. e ≡ MarkerFault.NoMemory) }
     {
+        match NameText::short(text) {
+            Some(short) => Ok(short),
+            None => Ok(NameText::Long(String::from_str(alloc, text)?)),
+        }
+    }
+
+    /// The text in the value itself, where it is short.
+    pub(crate) fn short(text: &str) -> Option<NameText>
+        ensures { IfSome result (λ t. name_bytes t ≡ text.now) }
+    {
         match ArrayString::from(text) {
-            Ok(short) => Ok(NameText::Short(short)),
-            Err(_) => Ok(NameText::Long(String::from_str(alloc, text)?)),
+            Ok(short) => Some(NameText::Short(short)),
+            Err(_) => None,
         }
     }
 

@@ -7,7 +7,8 @@ use Rattle.std.proofs.lemmas.Bool.Decides.{nat_tests}
 use Rattle.specifiers.specs.Clause.{Clause}
 use Rattle.texts.specs.Bytes.{is_clause_byte}
 use Rattle.texts.specs.Runs.{begins, without_leading_blanks}
-use Rattle.pep_require.specs.LineParts.{BoundFrom, BoundsFrom, last_bound, last_comma, more_bounds}
+use Rattle.specifiers.specs.Front.{ClauseFrom}
+use Rattle.pep_require.specs.LineParts.{BoundsFrom, last_bound, last_comma, more_bounds}
 use Rattle.pep_require.specs.LineParts.{RefusesBounds, this_bound, later_bound}
 use Rattle.pep_require.specs.LineParts.{is_bare_byte, is_end}
 use Rattle.pep_require.specs.Reads.{IsBound, IsLastComma, ReadsBounds, no_comma, comma}
@@ -220,7 +221,7 @@ no_end_told closed x y same e f =
 record Front (closed : Bool) (x : List ℕ) (cs : List Clause) (rest : List ℕ) : Type 0 where
   clause : Clause
   behind : List ℕ
-  bound : BoundFrom x clause behind
+  bound : ClauseFrom x clause behind
 
 front : (closed : Bool) (x rest : List ℕ) (cs : List Clause) → BoundsFrom closed x cs rest →
     Front closed x cs rest
@@ -288,9 +289,9 @@ pub bounds_stripped : (closed : Bool) (x rest : List ℕ) (cs : List Clause) →
     BoundsFrom closed (without_leading_blanks x) cs rest → BoundsFrom closed x cs rest
 bounds_stripped closed x rest cs h = step (without_leading_blanks x) rest cs refl h
   where
-    bound : (y rest : List ℕ) (c : Clause) → y ≡ without_leading_blanks x → BoundFrom y c rest →
-        BoundFrom x c rest
-    bound y rest c same b = bound_stripped x rest c (subst (λ t. BoundFrom t c rest) same b)
+    bound : (y rest : List ℕ) (c : Clause) → y ≡ without_leading_blanks x → ClauseFrom y c rest →
+        ClauseFrom x c rest
+    bound y rest c same b = bound_stripped x rest c (subst (λ t. ClauseFrom t c rest) same b)
 
     step : (y rest : List ℕ) (cs : List Clause) → y ≡ without_leading_blanks x →
         BoundsFrom closed y cs rest → BoundsFrom closed x cs rest

@@ -20,8 +20,8 @@ use Rattle.pep_version.proofs.NormalTexts.{list_all-weaker}
 use Rattle.texts.specs.Runs.{begins, without_leading_blanks}
 use Rattle.texts.specs.Bytes.{is_blank_byte}
 use Rattle.texts.proofs.RunLemmas.{all-run, rest-span, run-span}
-use Rattle.pep_require.specs.LineParts.{BoundFrom, RefusesBound, RefusesFound, RefusesRun}
-use Rattle.pep_require.specs.LineParts.{after_operator, after_run, clause_run, is_bare_byte}
+use Rattle.specifiers.specs.Front.{ClauseFrom, RefusesFound, RefusesRun, after_operator, after_run, clause_run}
+use Rattle.pep_require.specs.LineParts.{RefusesBound, is_bare_byte}
 use Rattle.pep_require.specs.Reads.{IsBound}
 use Rattle.pep_require.specs.declared.fault.RequireFault.{RequireFault}
 use Rattle.pep_require.proofs.BlankLemmas.{leading, leading_blank, leading_whole, run_whole}
@@ -174,7 +174,7 @@ cut_pieces o between run after rest c s b h r e =
     }
 
 pub bound_found : (piece rest : List ℕ) (c : Clause) → IsBound piece c → NoMore rest →
-    BoundFrom (piece ++ rest) c (without_leading_blanks rest)
+    ClauseFrom (piece ++ rest) c (without_leading_blanks rest)
 bound_found piece rest c s e =
     let x = piece ++ rest in
     let says = run_says s.operator s.run c s.bytes s.clause in
@@ -192,14 +192,14 @@ bound_found piece rest c s e =
 -- ---- what is found is in the grammar
 
 -- the clause that is found, with the white space at both ends
-abbrev pub found_piece : (x : List ℕ) (c : Clause) (rest : List ℕ) → BoundFrom x c rest → List ℕ
+abbrev pub found_piece : (x : List ℕ) (c : Clause) (rest : List ℕ) → ClauseFrom x c rest → List ℕ
 found_piece x c rest h =
     let tail = drop (length (operator_text h.operator)) (without_leading_blanks x) in
     let y = without_leading_blanks tail in
     leading x ++ operator_text h.operator ++ leading tail ++ clause_run y
     ++ leading (drop (length (clause_run y)) y)
 
-pub bound_whole : (x : List ℕ) (c : Clause) (rest : List ℕ) (h : BoundFrom x c rest) →
+pub bound_whole : (x : List ℕ) (c : Clause) (rest : List ℕ) (h : ClauseFrom x c rest) →
     x ≡ found_piece x c rest h ++ rest
 bound_whole x c rest h =
     let o = h.operator in
@@ -215,7 +215,7 @@ bound_whole x c rest h =
     (operator_shape (without_leading_blanks x) o h.found ∙ ap (λ t. operator_text o ++ t) behind)
     ∙ sym (to_right (leading x) (operator_text o) (leading tail) (clause_run y) (leading z) rest)
 
-pub bound_read : (x : List ℕ) (c : Clause) (rest : List ℕ) (h : BoundFrom x c rest) →
+pub bound_read : (x : List ℕ) (c : Clause) (rest : List ℕ) (h : ClauseFrom x c rest) →
     IsBound (found_piece x c rest h) c
 bound_read x c rest h =
     let tail = drop (length (operator_text h.operator)) (without_leading_blanks x) in
@@ -235,8 +235,8 @@ bound_read x c rest h =
 
 -- ---- at most one
 
-pub one_bound : (x rest others : List ℕ) (c d : Clause) → BoundFrom x c rest →
-    BoundFrom x d others → (c ≡ d) × (rest ≡ others)
+pub one_bound : (x rest others : List ℕ) (c d : Clause) → ClauseFrom x c rest →
+    ClauseFrom x d others → (c ≡ d) × (rest ≡ others)
 one_bound x rest others c d h g =
     let y = without_leading_blanks x in
     let same : h.operator ≡ g.operator = cc (h.found, g.found) in
@@ -258,19 +258,19 @@ err_told : (e f : ClauseFault) → answer_err e ≡ answer_err f → e ≡ f
 err_told e f h = cc h
 
 pub bound_refused : (x rest : List ℕ) (c : Clause) (f : RequireFault) → RefusesBound x f →
-    BoundFrom x c rest → ⊥
+    ClauseFrom x c rest → ⊥
 bound_refused x rest c f h g =
     let y = without_leading_blanks x in
-    let r : RefusesRun g.operator (after_operator g.operator y) f =
-    subst (λ o. RefusesFound o y f) g.found h in
-    apart c r.inner
-    (one-answer g.operator (clause_run (after_operator g.operator y)) (Ok c) (Err r.inner) g.clause
-    r.clause (λ q. cc q) (λ q. r.known (err_told r.inner _ q)))
+    let r : RefusesRun g.operator (after_operator g.operator y) h.inner =
+    subst (λ o. RefusesFound o y h.inner) g.found h.refused in
+    apart c h.inner
+    (one-answer g.operator (clause_run (after_operator g.operator y)) (Ok c) (Err h.inner) g.clause
+    r.clause (λ q. cc q) (λ q. r.known (err_told h.inner _ q)))
 
 -- ---- white space in front says nothing
 
 same_bound : (x y rest : List ℕ) (c : Clause) →
-    without_leading_blanks x ≡ without_leading_blanks y → BoundFrom x c rest → BoundFrom y c rest
+    without_leading_blanks x ≡ without_leading_blanks y → ClauseFrom x c rest → ClauseFrom y c rest
 same_bound x y rest c same h =
     let o = h.operator in
     record {
@@ -280,11 +280,11 @@ same_bound x y rest c same h =
       left = subst (λ t. rest ≡ after_run (after_operator o t)) same h.left;
     }
 
-pub bound_stripped : (x rest : List ℕ) (c : Clause) → BoundFrom (without_leading_blanks x) c rest →
-    BoundFrom x c rest
+pub bound_stripped : (x rest : List ℕ) (c : Clause) → ClauseFrom (without_leading_blanks x) c rest →
+    ClauseFrom x c rest
 bound_stripped x rest c h = same_bound (without_leading_blanks x) x rest c (stripped_twice x) h
 
-pub bound_to_strip : (x rest : List ℕ) (c : Clause) → BoundFrom x c rest →
-    BoundFrom (without_leading_blanks x) c rest
+pub bound_to_strip : (x rest : List ℕ) (c : Clause) → ClauseFrom x c rest →
+    ClauseFrom (without_leading_blanks x) c rest
 bound_to_strip x rest c h =
     same_bound x (without_leading_blanks x) rest c (sym (stripped_twice x)) h

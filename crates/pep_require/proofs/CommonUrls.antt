@@ -2,27 +2,31 @@
 use Rattle.std.proofs.Common.{◌≡◌, ℕ, ◌<◌, ◌⊎◌, Bool, true, false, not, ◌&&◌, ◌||◌, ◌==◌, List, [], ◌∷◌}
 use Rattle.std.proofs.Common.{◌++◌, length, Some, None, Ok, All, refl, sym, ap, ◌∙◌, subst, inl, inr}
 use Rattle.std.proofs.Common.{append_assoc, append-nil, arith}
-use Rattle.std.specs.Prelude.{Option, IfSome, nat_lt, codes, is_some, unwrap_or, if◌then◌else◌}
+use Rattle.std.specs.Prelude.{Option, IfSome, ◌≢◌, ◌-◌, suc, zero, slice_index, nat_lt, codes, is_some, unwrap_or, if◌then◌else◌}
 use Rattle.std.specs.List.{list_all}
 use Rattle.std.specs.Char.{is_ascii_digit, is_digit, to_ascii_lowercase}
 use Rattle.std.proofs.lemmas.Bool.{and_from}
 use Rattle.std.proofs.lemmas.Bool.Decides.{nat_tests}
 use Rattle.std.proofs.lemmas.List.Elements.{All-nil, All-cons}
 use Rattle.percent_encoding.specs.Percent.{IsKept}
-use Rattle.url.specs.declared.sets.TheConstants.{FORBIDDEN_DOMAIN, FRAGMENT, PATH, SPECIAL_QUERY, USERINFO}
+use Rattle.percent_encoding.specs.declared.ascii_set.TheConstants.{CONTROLS}
+use Rattle.std.proofs.lemmas.List.Folds.{list_all-append}
+use Rattle.url.specs.declared.sets.TheConstants.{FORBIDDEN_DOMAIN, FORBIDDEN_HOST, FRAGMENT, PATH, QUERY, SPECIAL_QUERY, USERINFO}
 use Rattle.url.specs.declared.host.Host.TheVariants.{Domain}
-use Rattle.url.specs.declared.scheme.SchemeType.TheVariants.{SpecialNotFile}
-use Rattle.url.specs.Host.{IsDomain}
+use Rattle.url.specs.declared.scheme.SchemeType.TheVariants.{File, NotSpecial, SpecialNotFile}
+use Rattle.url.specs.declared.scheme.SchemeType.{SchemeType}
+use Rattle.url.specs.Canonical.{IsCanonical}
+use Rattle.url.specs.Host.{IsDomain, IsDomainOf, IsOpaqueHost}
 use Rattle.url.specs.Input.{lowercase, rsplit_once, rsplit_step, when}
 use Rattle.url.specs.Ipv4.{ends_in_a_number, is_number, last_label_of, parse_number}
 use Rattle.url.specs.Parser.{parse_url}
-use Rattle.url.specs.Parts.{IsHierarchicalPath, IsValid, Parts, serialize}
-use Rattle.url.specs.Path.{IsSegment, dot_count, join_segments}
+use Rattle.url.specs.Parts.{IsHierarchicalPath, IsValid, Parts, query_set, serialize}
+use Rattle.url.specs.Path.{IsSegment, dot_count, ends_in_space, join_segments}
 use Rattle.url.specs.Scheme.{IsScheme, default_port, is_slash, scheme_len, scheme_type}
 use Rattle.url.proofs.SetLemmas.{kept_from_passes}
-use Rattle.url.proofs.Theorems.{parse_url-serialize_special}
+use Rattle.url.proofs.Theorems.{parse_url-serialize, parse_url-serialize_special}
 use Rattle.texts.specs.Runs.{begins}
-use Rattle.texts.proofs.Connectives.{and_first, and_second}
+use Rattle.texts.proofs.Connectives.{and-false, and_first, and_second}
 use Rattle.pep_require.specs.CommonUrl.{IsBehindScheme, IsCommonUrl, IsOwnText, at_next}
 use Rattle.pep_require.specs.CommonUrl.{behind_path, behind_spot, goes_on}
 use Rattle.pep_require.specs.CommonUrl.{is_label_byte, is_lower_letter, is_path_byte, is_tail_byte}
@@ -42,8 +46,10 @@ tail_ascii b e = grind (arith, nat_tests)
 path_kept : (b : ℕ) → is_path_byte b ≡ true → IsKept PATH b
 path_kept b e = kept_from_passes is_path_byte PATH refl b (path_ascii b e) e
 
-query_kept : (b : ℕ) → is_tail_byte b ≡ true → IsKept SPECIAL_QUERY b
-query_kept b e = kept_from_passes is_tail_byte SPECIAL_QUERY refl b (tail_ascii b e) e
+query_kept : (kind : SchemeType) (b : ℕ) → is_tail_byte b ≡ true → IsKept (query_set kind) b
+query_kept File b e = kept_from_passes is_tail_byte SPECIAL_QUERY refl b (tail_ascii b e) e
+query_kept SpecialNotFile b e = kept_from_passes is_tail_byte SPECIAL_QUERY refl b (tail_ascii b e) e
+query_kept NotSpecial b e = kept_from_passes is_tail_byte QUERY refl b (tail_ascii b e) e
 
 fragment_kept : (b : ℕ) → is_tail_byte b ≡ true → IsKept FRAGMENT b
 fragment_kept b e = kept_from_passes is_tail_byte FRAGMENT refl b (tail_ascii b e) e
@@ -56,6 +62,12 @@ host_ascii b e = grind (arith, nat_tests)
 
 host_byte_kept : (b : ℕ) → is_host_byte b ≡ true → IsKept FORBIDDEN_DOMAIN b
 host_byte_kept b e = kept_from_passes is_host_byte FORBIDDEN_DOMAIN refl b (host_ascii b e) e
+
+opaque_byte_kept : (b : ℕ) → is_host_byte b ≡ true → IsKept FORBIDDEN_HOST b
+opaque_byte_kept b e = kept_from_passes is_host_byte FORBIDDEN_HOST refl b (host_ascii b e) e
+
+no_control : (b : ℕ) → is_host_byte b ≡ true → IsKept CONTROLS b
+no_control b e = kept_from_passes is_host_byte CONTROLS refl b (host_ascii b e) e
 
 -- ---- the fragment
 
@@ -82,25 +94,25 @@ fragment_text (Some x) = 35 ∷ x
 
 -- ---- the query
 
-record Queried (x : List ℕ) : Type 0 where
+record Queried (kind : SchemeType) (x : List ℕ) : Type 0 where
   front : List ℕ
   behind : Option (List ℕ)
   text : x ≡ front ++ fragment_text behind
-  kept : All (IsKept SPECIAL_QUERY) front
+  kept : All (IsKept (query_set kind)) front
   kept_behind : IfSome behind IsFragment
 
-query_step : (b : ℕ) (x : List ℕ) → (goes_on Query x ≡ true → Queried x) →
+query_step : (kind : SchemeType) (b : ℕ) (x : List ℕ) → (goes_on Query x ≡ true → Queried kind x) →
     at_next (if b == 35 then Some Fragment else (if is_tail_byte b then Some Query else None))
-    (λ next. goes_on next x) ≡ true → Queried (b ∷ x)
-query_step b x more h = by (b == 35) refl h
+    (λ next. goes_on next x) ≡ true → Queried kind (b ∷ x)
+query_step kind b x more h = by (b == 35) refl h
   where
     by_tail : (t : Bool) → is_tail_byte b ≡ t →
-        at_next (if t then Some Query else None) (λ next. goes_on next x) ≡ true → Queried (b ∷ x)
+        at_next (if t then Some Query else None) (λ next. goes_on next x) ≡ true → Queried kind (b ∷ x)
     by_tail true e h = record {
       front = b ∷ (more h).front;
       behind = (more h).behind;
       text = ap (λ y. b ∷ y) (more h).text;
-      kept = All-cons (IsKept SPECIAL_QUERY) b (more h).front (query_kept b e) (more h).kept;
+      kept = All-cons (IsKept (query_set kind)) b (more h).front (query_kept kind b e) (more h).kept;
       kept_behind = (more h).kept_behind;
     }
     by_tail false e h = cc h
@@ -110,25 +122,25 @@ query_step b x more h = by (b == 35) refl h
 
     by : (t : Bool) → (b == 35) ≡ t →
         at_next (if t then Some Fragment else (if is_tail_byte b then Some Query else None))
-        (λ next. goes_on next x) ≡ true → Queried (b ∷ x)
+        (λ next. goes_on next x) ≡ true → Queried kind (b ∷ x)
     by true e h = record {
       front = [];
       behind = Some x;
       text = ap (λ c. c ∷ x) (is_mark e);
-      kept = All-nil (IsKept SPECIAL_QUERY);
+      kept = All-nil (IsKept (query_set kind));
       kept_behind = fragment_of x h;
     }
     by false e h = by_tail (is_tail_byte b) refl h
 
-query_of : (x : List ℕ) → goes_on Query x ≡ true → Queried x
-query_of [] h = record {
+query_of : (kind : SchemeType) (x : List ℕ) → goes_on Query x ≡ true → Queried kind x
+query_of kind [] h = record {
   front = [];
   behind = None;
   text = refl;
-  kept = All-nil (IsKept SPECIAL_QUERY);
+  kept = All-nil (IsKept (query_set kind));
   kept_behind = tt;
 }
-query_of (b ∷ x) h = query_step b x (query_of x) h
+query_of kind (b ∷ x) h = query_step kind b x (query_of kind x) h
 
 abbrev tail_text : Option (List ℕ) → Option (List ℕ) → List ℕ
 tail_text None fragment = fragment_text fragment
@@ -136,49 +148,51 @@ tail_text (Some query) fragment = 63 ∷ query ++ fragment_text fragment
 
 -- ---- the path
 
-abbrev IsWhole : List ℕ → Type 0
-IsWhole x = All (λ b. is_slash SpecialNotFile b ≡ false) x
+abbrev IsWhole : SchemeType → List ℕ → Type 0
+IsWhole kind x = All (λ b. is_slash kind b ≡ false) x
 
 -- the bytes up to the next slash, the segments behind them, the query and the fragment
-record Segmented (x : List ℕ) : Type 0 where
+record Segmented (kind : SchemeType) (x : List ℕ) : Type 0 where
   first : List ℕ
   more : List (List ℕ)
   query : Option (List ℕ)
   fragment : Option (List ℕ)
   text : x ≡ first ++ (join_segments more ++ tail_text query fragment)
   escaped : All (IsKept PATH) first
-  whole : IsWhole first
-  each : All (IsSegment SpecialNotFile) more
-  kept_query : IfSome query (All (IsKept SPECIAL_QUERY))
+  whole : IsWhole kind first
+  each : All (IsSegment kind) more
+  kept_query : IfSome query (All (IsKept (query_set kind)))
   kept_fragment : IfSome fragment IsFragment
 
-abbrev Started : List ℕ → Type 0
-Started x = (s : Segmented x) × (dot_count s.first ≡ 0)
+abbrev Started : SchemeType → List ℕ → Type 0
+Started kind x = (s : Segmented kind x) × (dot_count s.first ≡ 0)
 
 -- what begins with this byte, or has none
-abbrev Behind : ℕ → List ℕ → Type 0
-Behind b x = (s : Segmented (b ∷ x)) × ((s.first ≡ []) ⊎ ((rest : List ℕ) × (s.first ≡ b ∷ rest)))
+abbrev Behind : SchemeType → ℕ → List ℕ → Type 0
+Behind kind b x = (s : Segmented kind (b ∷ x)) × ((s.first ≡ []) ⊎ ((rest : List ℕ) × (s.first ≡ b ∷ rest)))
 
-no_slash : (b : ℕ) → is_path_byte b ≡ true → is_slash SpecialNotFile b ≡ false
-no_slash b e = grind (arith, nat_tests)
+no_slash : (kind : SchemeType) (b : ℕ) → is_path_byte b ≡ true → is_slash kind b ≡ false
+no_slash File b e = grind (arith, nat_tests)
+no_slash SpecialNotFile b e = grind (arith, nat_tests)
+no_slash NotSpecial b e = grind (arith, nat_tests)
 
-abbrev ended : (x : List ℕ) (query fragment : Option (List ℕ)) → x ≡ tail_text query fragment →
-    IfSome query (All (IsKept SPECIAL_QUERY)) → IfSome fragment IsFragment → Segmented x
-ended x query fragment text kept_query kept_fragment = record {
+abbrev ended : (kind : SchemeType) (x : List ℕ) (query fragment : Option (List ℕ)) → x ≡ tail_text query fragment →
+    IfSome query (All (IsKept (query_set kind))) → IfSome fragment IsFragment → Segmented kind x
+ended kind x query fragment text kept_query kept_fragment = record {
   first = [];
   more = [];
   query = query;
   fragment = fragment;
   text = text;
   escaped = All-nil (IsKept PATH);
-  whole = All-nil (λ b. is_slash SpecialNotFile b ≡ false);
-  each = All-nil (IsSegment SpecialNotFile);
+  whole = All-nil (λ b. is_slash kind b ≡ false);
+  each = All-nil (IsSegment kind);
   kept_query = kept_query;
   kept_fragment = kept_fragment;
 }
 
-behind_byte : (b : ℕ) (x : List ℕ) → is_path_byte b ≡ true → Segmented x → Behind b x
-behind_byte b x e s = (
+behind_byte : (kind : SchemeType) (b : ℕ) (x : List ℕ) → is_path_byte b ≡ true → Segmented kind x → Behind kind b x
+behind_byte kind b x e s = (
   record {
     first = b ∷ s.first;
     more = s.more;
@@ -186,7 +200,7 @@ behind_byte b x e s = (
     fragment = s.fragment;
     text = ap (λ y. b ∷ y) s.text;
     escaped = All-cons (IsKept PATH) b s.first (path_kept b e) s.escaped;
-    whole = All-cons (λ b. is_slash SpecialNotFile b ≡ false) b s.first (no_slash b e) s.whole;
+    whole = All-cons (λ b. is_slash kind b ≡ false) b s.first (no_slash kind b e) s.whole;
     each = s.each;
     kept_query = s.kept_query;
     kept_fragment = s.kept_fragment;
@@ -194,8 +208,8 @@ behind_byte b x e s = (
   inr (s.first, refl),
 )
 
-abbrev behind_slash : (x : List ℕ) → Started x → Segmented (47 ∷ x)
-behind_slash x s = record {
+abbrev behind_slash : (kind : SchemeType) (x : List ℕ) → Started kind x → Segmented kind (47 ∷ x)
+behind_slash kind x s = record {
   first = [];
   more = s.0.first ∷ s.0.more;
   query = s.0.query;
@@ -203,49 +217,49 @@ behind_slash x s = record {
   text = ap (λ y. 47 ∷ y) (s.0.text
       ∙ sym (append_assoc s.0.first (join_segments s.0.more) (tail_text s.0.query s.0.fragment)));
   escaped = All-nil (IsKept PATH);
-  whole = All-nil (λ b. is_slash SpecialNotFile b ≡ false);
-  each = All-cons (IsSegment SpecialNotFile) s.0.first s.0.more
+  whole = All-nil (λ b. is_slash kind b ≡ false);
+  each = All-cons (IsSegment kind) s.0.first s.0.more
       (record { escaped = s.0.escaped; whole = s.0.whole; resolved = s.1 }) s.0.each;
   kept_query = s.0.kept_query;
   kept_fragment = s.0.kept_fragment;
 }
 
-abbrev behind_question : (x : List ℕ) → Queried x → Segmented (63 ∷ x)
-behind_question x q = ended (63 ∷ x) (Some q.front) q.behind (ap (λ y. 63 ∷ y) q.text) q.kept q.kept_behind
+abbrev behind_question : (kind : SchemeType) (x : List ℕ) → Queried kind x → Segmented kind (63 ∷ x)
+behind_question kind x q = ended kind (63 ∷ x) (Some q.front) q.behind (ap (λ y. 63 ∷ y) q.text) q.kept q.kept_behind
 
 is_byte : (b n : ℕ) → (b == n) ≡ true → n ≡ b
 is_byte b n e = grind (arith, nat_tests)
 
-path_step : (b : ℕ) (x : List ℕ) → (goes_on Path x ≡ true → Segmented x) →
-    (goes_on Segment x ≡ true → Started x) → at_next (behind_path b) (λ next. goes_on next x) ≡ true →
-    Behind b x
-path_step b x path segment h = by_byte (is_path_byte b) refl h
+path_step : (kind : SchemeType) (b : ℕ) (x : List ℕ) → (goes_on Path x ≡ true → Segmented kind x) →
+    (goes_on Segment x ≡ true → Started kind x) → at_next (behind_path b) (λ next. goes_on next x) ≡ true →
+    Behind kind b x
+path_step kind b x path segment h = by_byte (is_path_byte b) refl h
   where
     by_hash : (t : Bool) → (b == 35) ≡ t →
-        at_next (if t then Some Fragment else None) (λ next. goes_on next x) ≡ true → Behind b x
-    by_hash true e h = subst (λ c. Behind c x) (is_byte b 35 e)
-        (ended (35 ∷ x) None (Some x) refl tt (fragment_of x h), inl refl)
+        at_next (if t then Some Fragment else None) (λ next. goes_on next x) ≡ true → Behind kind b x
+    by_hash true e h = subst (λ c. Behind kind c x) (is_byte b 35 e)
+        (ended kind (35 ∷ x) None (Some x) refl tt (fragment_of x h), inl refl)
     by_hash false e h = cc h
 
     by_question : (t : Bool) → (b == 63) ≡ t →
         at_next (if t then Some Query else (if b == 35 then Some Fragment else None))
-        (λ next. goes_on next x) ≡ true → Behind b x
-    by_question true e h = subst (λ c. Behind c x) (is_byte b 63 e) (behind_question x (query_of x h), inl refl)
+        (λ next. goes_on next x) ≡ true → Behind kind b x
+    by_question true e h = subst (λ c. Behind kind c x) (is_byte b 63 e) (behind_question kind x (query_of kind x h), inl refl)
     by_question false e h = by_hash (b == 35) refl h
 
     by_slash : (t : Bool) → (b == 47) ≡ t →
         at_next (if t then Some Segment
         else (if b == 63 then Some Query else (if b == 35 then Some Fragment else None)))
-        (λ next. goes_on next x) ≡ true → Behind b x
-    by_slash true e h = subst (λ c. Behind c x) (is_byte b 47 e) (behind_slash x (segment h), inl refl)
+        (λ next. goes_on next x) ≡ true → Behind kind b x
+    by_slash true e h = subst (λ c. Behind kind c x) (is_byte b 47 e) (behind_slash kind x (segment h), inl refl)
     by_slash false e h = by_question (b == 63) refl h
 
     by_byte : (t : Bool) → is_path_byte b ≡ t →
         at_next (if t then Some Path
         else (if b == 47 then Some Segment
         else (if b == 63 then Some Query else (if b == 35 then Some Fragment else None))))
-        (λ next. goes_on next x) ≡ true → Behind b x
-    by_byte true e h = behind_byte b x e (path h)
+        (λ next. goes_on next x) ≡ true → Behind kind b x
+    by_byte true e h = behind_byte kind b x e (path h)
     by_byte false e h = by_slash (b == 47) refl h
 
 no_dots_in_none : dot_count [] ≡ 0
@@ -267,27 +281,29 @@ no_dots : (b : ℕ) (first : List ℕ) → (b == 46 || b == 37) ≡ false →
 no_dots b first e (inl empty) = ap dot_count empty ∙ no_dots_in_none
 no_dots b first e (inr some) = ap dot_count some.1 ∙ no_dots_behind b some.0 e
 
-segment_step : (b : ℕ) (x : List ℕ) → (goes_on Path x ≡ true → Segmented x) →
-    (goes_on Segment x ≡ true → Started x) →
+segment_step : (kind : SchemeType) (b : ℕ) (x : List ℕ) → (goes_on Path x ≡ true → Segmented kind x) →
+    (goes_on Segment x ≡ true → Started kind x) →
     at_next (if b == 46 || b == 37 then None else behind_path b) (λ next. goes_on next x) ≡ true →
-    Started (b ∷ x)
-segment_step b x path segment h = by (b == 46 || b == 37) refl h
+    Started kind (b ∷ x)
+segment_step kind b x path segment h = by (b == 46 || b == 37) refl h
   where
     by : (t : Bool) → (b == 46 || b == 37) ≡ t →
-        at_next (if t then None else behind_path b) (λ next. goes_on next x) ≡ true → Started (b ∷ x)
+        at_next (if t then None else behind_path b) (λ next. goes_on next x) ≡ true → Started kind (b ∷ x)
     by true e h = cc h
     by false e h =
-        let found = path_step b x path segment h in
+        let found = path_step kind b x path segment h in
         (found.0, no_dots b found.0.first e found.1)
 
-segments_of : (x : List ℕ) → (goes_on Path x ≡ true → Segmented x) × (goes_on Segment x ≡ true → Started x)
-segments_of [] =
-    let none = ended [] None None refl tt tt in
+segments_of : (kind : SchemeType) (x : List ℕ) →
+    (goes_on Path x ≡ true → Segmented kind x) × (goes_on Segment x ≡ true → Started kind x)
+segments_of kind [] =
+    let none = ended kind [] None None refl tt tt in
     (λ h. none, λ h. (none, no_dots_in_none))
-segments_of (b ∷ x) = (
-  λ h. (path_step b x (segments_of x).0 (segments_of x).1 h).0,
-  λ h. segment_step b x (segments_of x).0 (segments_of x).1 h,
-)
+segments_of kind (b ∷ x) =
+    let more = segments_of kind x in (
+      λ h. (path_step kind b x more.0 more.1 h).0,
+      λ h. segment_step kind b x more.0 more.1 h,
+    )
 
 -- ---- the host
 
@@ -523,6 +539,15 @@ host_some [] h = absurd (none (subst (λ p. Begins p.1) no_split h))
     none h = cc h
 host_some (b ∷ host) h = omega arith
 
+opaque_host : (x : List ℕ) → list_all is_host_byte x ≡ true → IsOpaqueHost x
+opaque_host [] h = (All-nil (IsKept FORBIDDEN_HOST), All-nil (IsKept CONTROLS))
+opaque_host (b ∷ x) h =
+    let here = and_first (is_host_byte b) (list_all is_host_byte x) h in
+    let more = opaque_host x (and_second (is_host_byte b) (list_all is_host_byte x) h) in (
+      All-cons (IsKept FORBIDDEN_HOST) b x (opaque_byte_kept b here) more.0,
+      All-cons (IsKept CONTROLS) b x (no_control b here) more.1,
+    )
+
 is_domain : (host : List ℕ) → list_all is_host_byte host ≡ true →
     Begins (rsplit_once 46 host).1 → IsDomain host
 is_domain host bytes ends = record {
@@ -565,39 +590,47 @@ text_of_http : (host path : List ℕ) (query fragment : Option (List ℕ)) →
 text_of_http host path query fragment =
     ap (λ y. codes "http://" ++ (host ++ (path ++ y))) (tail_of_parts query fragment)
 
--- the host and the path behind a scheme
-record Placed (rest : List ℕ) : Type 0 where
+text_of_git : (host path : List ℕ) (query fragment : Option (List ℕ)) →
+    serialize (url_of (codes "git+https") host path query fragment)
+    ≡ codes "git+https://" ++ (host ++ (path ++ tail_text query fragment))
+text_of_git host path query fragment =
+    ap (λ y. codes "git+https://" ++ (host ++ (path ++ y))) (tail_of_parts query fragment)
+
+-- the host and the path behind a scheme of this kind
+record Placed (kind : SchemeType) (rest : List ℕ) : Type 0 where
   host : List ℕ
   domain : IsDomain host
+  opaque : IsOpaqueHost host
   some : 0 < length host
   path : List ℕ
-  segments : IsHierarchicalPath SpecialNotFile path
+  segments : IsHierarchicalPath kind path
   query : Option (List ℕ)
   fragment : Option (List ℕ)
-  kept_query : IfSome query (All (IsKept SPECIAL_QUERY))
+  kept_query : IfSome query (All (IsKept (query_set kind)))
   kept_fragment : IfSome fragment (All (IsKept FRAGMENT))
   text : host ++ (path ++ tail_text query fragment) ≡ rest
 
-placed : (rest : List ℕ) → goes_on Label rest ≡ true → Placed rest
-placed rest h =
+placed : (kind : SchemeType) (rest : List ℕ) → goes_on Label rest ≡ true → Placed kind rest
+placed kind rest h =
     let found = (hosts_of rest).0 h in
-    let start = (segments_of found.path).1 found.goes in
+    let start = (segments_of kind found.path).1 found.goes in
     let s = start.0 in
     let tail = tail_text s.query s.fragment in
-    let first : IsSegment SpecialNotFile s.first =
+    let first : IsSegment kind s.first =
     record { escaped = s.escaped; whole = s.whole; resolved = start.1 } in
     let path : 47 ∷ found.path ≡ join_segments (s.first ∷ s.more) ++ tail =
     ap (λ y. 47 ∷ y) (s.text ∙ sym (append_assoc s.first (join_segments s.more) tail)) in
     record {
       host = found.host;
       domain = is_domain found.host found.bytes found.ends;
+      opaque = opaque_host found.host found.bytes;
       some = host_some found.host found.ends;
       path = join_segments (s.first ∷ s.more);
       segments = (
         record {
           segments = s.first ∷ s.more;
           joined = refl;
-          each = All-cons (IsSegment SpecialNotFile) s.first s.more first s.each;
+          each = All-cons (IsSegment kind) s.first s.more first s.each;
         },
         λ special. omega arith,
       );
@@ -616,6 +649,10 @@ http_kind : scheme_type (codes "http") ≡ SpecialNotFile
 unfolding scheme_type default_port
 http_kind = refl
 
+git_kind : scheme_type (codes "git+https") ≡ NotSpecial
+unfolding scheme_type default_port
+git_kind = refl
+
 https_is_scheme : IsScheme (codes "https")
 unfolding scheme_len
 https_is_scheme = record { nonempty = omega arith; whole = refl; lower = refl }
@@ -624,46 +661,63 @@ http_is_scheme : IsScheme (codes "http")
 unfolding scheme_len
 http_is_scheme = record { nonempty = omega arith; whole = refl; lower = refl }
 
-valid : (scheme rest : List ℕ) (p : Placed rest) → scheme_type scheme ≡ SpecialNotFile → IsScheme scheme →
-    IsValid (url_of scheme p.host p.path p.query p.fragment)
-valid scheme rest p kind is_scheme = record {
+git_is_scheme : IsScheme (codes "git+https")
+unfolding scheme_len
+git_is_scheme = record { nonempty = omega arith; whole = refl; lower = refl }
+
+valid : (kind : SchemeType) (scheme rest : List ℕ) (p : Placed kind rest) → scheme_type scheme ≡ kind →
+    IsDomainOf kind p.host → IsScheme scheme → IsValid (url_of scheme p.host p.path p.query p.fragment)
+valid kind scheme rest p is domain is_scheme = record {
   head = record {
     scheme = is_scheme;
     username = All-nil (IsKept USERINFO);
     password = All-nil (IsKept USERINFO);
-    host = rw kind (p.domain, p.some);
+    host = rw is domain;
     port = tt;
     bare = λ h. (refl, refl, refl);
   };
-  path = inl (rw kind p.segments);
-  query = rw kind p.kept_query;
+  path = inl (rw is p.segments);
+  query = rw is p.kept_query;
   fragment = p.kept_fragment;
 }
 
-own : (scheme x rest : List ℕ) (p : Placed rest) → scheme_type scheme ≡ SpecialNotFile → IsScheme scheme →
-    serialize (url_of scheme p.host p.path p.query p.fragment) ≡ x → IsOwnText x
+own : (scheme x rest : List ℕ) (p : Placed SpecialNotFile rest) → scheme_type scheme ≡ SpecialNotFile →
+    IsScheme scheme → serialize (url_of scheme p.host p.path p.query p.fragment) ≡ x → IsOwnText x
 own scheme x rest p kind is_scheme text =
     let url = url_of scheme p.host p.path p.query p.fragment in (
       url,
       subst (λ y. parse_url None y ≡ Ok url) text
-          (parse_url-serialize_special url None (valid scheme rest p kind is_scheme) kind),
+          (parse_url-serialize_special url None
+          (valid SpecialNotFile scheme rest p kind (p.domain, p.some) is_scheme) kind),
       text,
     )
 
-pub common_is_own_text : (x : List ℕ) → IsCommonUrl x → IsOwnText x
-common_is_own_text x c = by c.scheme
-  where
-    by : IsBehindScheme x c.rest → IsOwnText x
-    by (inl e) =
-        let p = placed c.rest c.goes in
-        own (codes "https") x c.rest p https_kind https_is_scheme
-        (text_of_https p.host p.path p.query p.fragment
-        ∙ ap (λ y. codes "https://" ++ y) p.text ∙ sym e)
-    by (inr e) =
-        let p = placed c.rest c.goes in
-        own (codes "http") x c.rest p http_kind http_is_scheme
-        (text_of_http p.host p.path p.query p.fragment
-        ∙ ap (λ y. codes "http://" ++ y) p.text ∙ sym e)
+-- no byte of a URL is a space
+no_space : (x : List ℕ) (i : ℕ) → list_all is_url_byte x ≡ true → (slice_index x i == 32) ≡ false
+no_space [] i h = refl
+no_space (b ∷ x) zero h =
+    let here : is_url_byte b ≡ true = and_first (is_url_byte b) (list_all is_url_byte x) h in
+    grind (arith, nat_tests)
+no_space (b ∷ x) (suc i) h = no_space x i (and_second (is_url_byte b) (list_all is_url_byte x) h)
+
+ends_visibly : (x : List ℕ) → list_all is_url_byte x ≡ true → ends_in_space x ≡ false
+ends_visibly x h = rw (no_space x (length x - 1) h) (and-false (nat_lt 0 (length x)))
+
+own_git : (x rest : List ℕ) (p : Placed NotSpecial rest) → list_all is_url_byte x ≡ true →
+    list_all is_url_byte p.path ≡ true →
+    serialize (url_of (codes "git+https") p.host p.path p.query p.fragment) ≡ x → IsOwnText x
+own_git x rest p bytes path text =
+    let url = url_of (codes "git+https") p.host p.path p.query p.fragment in
+    let visible : slice_index (serialize url) (length (serialize url) - 1) ≢ 32 =
+    λ space. cc (sym (ap (λ n. n == 32) space)
+    ∙ (ap (λ y. slice_index y (length y - 1) == 32) text ∙ no_space x (length x - 1) bytes)) in
+    let canonical : IsCanonical url = rw git_kind (tt, visible, ends_visibly p.path path) in (
+      url,
+      subst (λ y. parse_url None y ≡ Ok url) text
+          (parse_url-serialize url None
+          (valid NotSpecial (codes "git+https") rest p git_kind p.opaque git_is_scheme) canonical),
+      text,
+    )
 
 -- ---- its bytes
 
@@ -750,7 +804,44 @@ common_bytes x c = by c.scheme
 
     by : IsBehindScheme x c.rest → list_all is_url_byte x ≡ true
     by (inl e) = ap (list_all is_url_byte) e ∙ rest
-    by (inr e) = ap (list_all is_url_byte) e ∙ rest
+    by (inr (inl e)) = ap (list_all is_url_byte) e ∙ rest
+    by (inr (inr e)) = ap (list_all is_url_byte) e ∙ rest
+
+-- .. those of its path too
+path_bytes : (host path tail : List ℕ) → list_all is_url_byte (host ++ (path ++ tail)) ≡ true →
+    list_all is_url_byte path ≡ true
+path_bytes host path tail h =
+    let behind : list_all is_url_byte (path ++ tail) ≡ true =
+    and_second (list_all is_url_byte host) (list_all is_url_byte (path ++ tail))
+    (sym (list_all-append is_url_byte host (path ++ tail)) ∙ h) in
+    and_first (list_all is_url_byte path) (list_all is_url_byte tail)
+    (sym (list_all-append is_url_byte path tail) ∙ behind)
+
+-- ---- so it is its own text
+
+pub common_is_own_text : (x : List ℕ) → IsCommonUrl x → IsOwnText x
+common_is_own_text x c = by c.scheme
+  where
+    special : (scheme front : List ℕ) → scheme_type scheme ≡ SpecialNotFile → IsScheme scheme →
+        ((host path : List ℕ) (query fragment : Option (List ℕ)) → serialize (url_of scheme host path query fragment)
+        ≡ front ++ (host ++ (path ++ tail_text query fragment))) → x ≡ front ++ c.rest → IsOwnText x
+    special scheme front kind is_scheme text e =
+        let p = placed SpecialNotFile c.rest c.goes in
+        own scheme x c.rest p kind is_scheme
+        (text p.host p.path p.query p.fragment ∙ ap (λ y. front ++ y) p.text ∙ sym e)
+
+    git : x ≡ codes "git+https://" ++ c.rest → IsOwnText x
+    git e =
+        let p = placed NotSpecial c.rest c.goes in
+        let rest = bytes_behind c.rest Label c.goes in
+        own_git x c.rest p (common_bytes x c)
+        (path_bytes p.host p.path (tail_text p.query p.fragment) (subst (λ y. list_all is_url_byte y ≡ true) (sym p.text) rest))
+        (text_of_git p.host p.path p.query p.fragment ∙ ap (λ y. codes "git+https://" ++ y) p.text ∙ sym e)
+
+    by : IsBehindScheme x c.rest → IsOwnText x
+    by (inl e) = special (codes "https") (codes "https://") https_kind https_is_scheme text_of_https e
+    by (inr (inl e)) = special (codes "http") (codes "http://") http_kind http_is_scheme text_of_http e
+    by (inr (inr e)) = git e
 
 pub url_bytes_run : (x : List ℕ) → list_all is_url_byte x ≡ true → list_all (λ b. nat_lt 32 b) x ≡ true
 url_bytes_run [] h = refl
@@ -780,4 +871,5 @@ common_is_some x c = by c.scheme
   where
     by : IsBehindScheme x c.rest → 0 < length x
     by (inl e) = rw e (omega arith)
-    by (inr e) = rw e (omega arith)
+    by (inr (inl e)) = rw e (omega arith)
+    by (inr (inr e)) = rw e (omega arith)

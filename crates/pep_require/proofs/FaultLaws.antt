@@ -5,6 +5,7 @@ use Rattle.std.proofs.Common.{refl}
 use Rattle.std.proofs.lemmas.Option.{none-some, same_Some}
 use Rattle.specifiers.proofs.OneAnswer.{one-answer}
 use Rattle.specifiers.specs.Clause.{Clause, operator_of}
+use Rattle.specifiers.specs.Front.{RefusesFound, after_operator, clause_run}
 use Rattle.specifiers.specs.declared.fault.ClauseFault.{ClauseFault}
 use Rattle.specifiers.specs.declared.op.Op.{Op}
 use Rattle.texts.specs.Runs.{without_leading_blanks}
@@ -15,10 +16,10 @@ use Rattle.pep_require.proofs.TargetLaws.{one_target, refused_target}
 use Rattle.pep_require.specs.Code.{IsSameFault, require_code}
 use Rattle.pep_require.specs.Faults.{after_name}
 use Rattle.pep_require.specs.LineParts.{ExtrasFrom, RefusesBound, RefusesBounds}
-use Rattle.pep_require.specs.LineParts.{RefusesEnding, RefusesFound, RefusesLine}
-use Rattle.pep_require.specs.LineParts.{RefusesTarget, RefusesUrl, TargetFrom, after_operator}
+use Rattle.pep_require.specs.LineParts.{RefusesEnding, RefusesLine}
+use Rattle.pep_require.specs.LineParts.{RefusesTarget, RefusesUrl, TargetFrom}
 use Rattle.pep_require.specs.LineParts.{bad_bare, bad_beginning, bad_closed, bad_ending}
-use Rattle.pep_require.specs.LineParts.{bad_extras, bad_target, bad_url, clause_run}
+use Rattle.pep_require.specs.LineParts.{bad_extras, bad_target, bad_url}
 use Rattle.pep_require.specs.LineParts.{later_bound, no_memory, not_closed, this_bound}
 use Rattle.pep_require.specs.declared.fault.RequireFault.{RequireFault}
 use Rattle.pep_require.specs.declared.fault.RequireFault.TheVariants as fault
@@ -31,19 +32,19 @@ answer_err e = Err e
 err_told : (e f : ClauseFault) → answer_err e ≡ answer_err f → e ≡ f
 err_told e f h = cc h
 
-one_found_fault : (o : Option Op) (y : List ℕ) (f g : RequireFault) → RefusesFound o y f →
-    RefusesFound o y g → f ≡ g
-one_found_fault None y f g h k = h ∙ sym k
-one_found_fault (Some o) y f g h k =
-    let same : h.inner ≡ k.inner =
-    err_told h.inner k.inner (one-answer o (clause_run (after_operator o y)) (Err h.inner)
-    (Err k.inner) h.clause k.clause (λ q. h.known (err_told h.inner _ q))
-    (λ q. k.known (err_told k.inner _ q))) in
-    h.fault ∙ ap fault.BadClause same ∙ sym k.fault
+one_found_fault : (o : Option Op) (y : List ℕ) (e f : ClauseFault) → RefusesFound o y e →
+    RefusesFound o y f → e ≡ f
+one_found_fault None y e f h k = h ∙ sym k
+one_found_fault (Some o) y e f h k =
+    err_told e f (one-answer o (clause_run (after_operator o y)) (Err e) (Err f) h.clause k.clause
+    (λ q. h.known (err_told e _ q)) (λ q. k.known (err_told f _ q)))
 
 one_bound_fault : (x : List ℕ) (f g : RequireFault) → RefusesBound x f → RefusesBound x g → f ≡ g
 one_bound_fault x f g h k =
-    one_found_fault (operator_of (without_leading_blanks x)) (without_leading_blanks x) f g h k
+    let y = without_leading_blanks x in
+    h.fault
+    ∙ ap fault.BadClause (one_found_fault (operator_of y) y h.inner k.inner h.refused k.refused)
+    ∙ sym k.fault
 
 one_bounds_fault : (closed : Bool) (x : List ℕ) (f g : RequireFault) → RefusesBounds closed x f →
     RefusesBounds closed x g → f ≡ g

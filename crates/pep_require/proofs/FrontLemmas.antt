@@ -4,19 +4,12 @@ use Rattle.std.proofs.Common.{length, take, drop, Option, Some, None, Bor, refl,
 use Rattle.std.proofs.Common.{◌≤◌, ◌⊎◌, inl, inr, get_or, drop-cons, sym, ◌∙◌}
 use Rattle.std.specs.Prelude.{MatchOption}
 use Rattle.std.specs.List.{prefix_len}
-use Rattle.std.specs.Str.{IsCharBoundary, IsUtf8}
+use Rattle.std.specs.Str.{IsCharBoundary}
 use Rattle.std.proofs.lemmas.Bool.Decides.{nat_tests}
 use Rattle.std.proofs.lemmas.List.Sums.{prefix_len-le-length}
 use Rattle.texts.specs.Runs.{begins, without_leading_blanks}
 use Rattle.texts.specs.Bytes.{is_blank_byte}
-use Rattle.texts.proofs.RunLemmas.{begins-rest, boundary-run}
-
--- behind the white space in front
-pub boundary-blanks : (x : List ℕ) → IsUtf8 x → IsCharBoundary x (prefix_len is_blank_byte x)
-boundary-blanks = boundary-run is_blank_byte small
-  where
-    small : (b : ℕ) → is_blank_byte b ≡ true → b < 128
-    small b h = grind (arith, nat_tests)
+use Rattle.texts.proofs.RunLemmas.{begins-rest}
 
 -- a byte in front, which is stripped off
 pub byte_in_front : (c : ℕ) (x : List ℕ) (r : Option (Bor (List ℕ))) →

@@ -3,7 +3,7 @@ use Rattle.std.proofs.Common.{◌≡◌, ◌<◌, inl, inr, [], ◌∷◌, Some,
 use Rattle.std.specs.Prelude.{IsTrue, ⊤}
 use Rattle.std.specs.Bool.{◌==◌}
 use Rattle.texts.specs.Bytes.{is_letter_or_digit}
-use Rattle.texts.specs.Runs.{begins, without_leading_blanks}
+use Rattle.texts.specs.Runs.{begins}
 use Rattle.specifiers.specs.declared.op.Op.TheVariants.{Compatible}
 use Rattle.pep_marker.specs.Environment.{environment_of}
 use Rattle.pep_marker.specs.Marker.{MarkerParts, compare, text, variable, version_operator}
@@ -51,10 +51,10 @@ Requirement_read-trailing_where_no_name_begins h =
     differ (one_fault (codes "!") fault.Trailing fault.BadName (λ e. cc e) (λ e. cc e) (λ e. cc e)
     (λ e. cc e) h name_is_due)
 
--- `a`
-pub Requirement_start-all_stands_behind : ¬ StartsLine (codes "a") (codes "a") (codes "a")
+-- `a bc`
+pub Requirement_name_of_line-that_of_a_later_word : ¬ StartsLine (codes "a bc") (codes "bc") (codes "bc")
 unfolding is_letter_or_digit
-Requirement_start-all_stands_behind h = cc h.behind
+Requirement_name_of_line-that_of_a_later_word h = cc h.named
 
 -- an empty line
 pub walk-trailing_where_no_name_begins : ¬ RefusesLine [] fault.Trailing
@@ -95,8 +95,8 @@ pub Keeper_marker-none : (m : MarkerParts) → ¬ (Some m ≡ None)
 Keeper_marker-none m e = cc e
 
 -- an empty text
-pub UrlText_is_its_text-an_empty_text : ¬ (IsTrue true → 0 < 0)
-UrlText_is_its_text-an_empty_text h = omega (arith, h refl)
+pub UrlText_has_common_form-an_empty_text : ¬ (IsTrue true → 0 < 0)
+UrlText_has_common_form-an_empty_text h = omega (arith, h refl)
 
 -- `a` with a marker
 pub Requirement_text-without_the_marker : ¬ (codes "a" ≡ requirement_text (record {
@@ -116,7 +116,7 @@ UrlText_read-control_character_as_overflow (inr h) = cc h.1
 pub UrlText_read-common_url_as_overflow : ¬ (IsCommonUrl (codes "http://a/")
     → fault.UrlOverflow ≡ fault.NoMemory)
 UrlText_read-common_url_as_overflow h =
-    cc (h (record { rest = codes "a/"; scheme = inr refl; goes = refl }))
+    cc (h (record { rest = codes "a/"; scheme = inr (inl refl); goes = refl }))
 
 abbrev url : UrlParts
 url = record { written = codes "https://X.test"; text = codes "https://x.test/" }
@@ -132,7 +132,3 @@ UrlText_written-its_text e = cc e
 -- `;`
 pub behind-never_there : ¬ (begins (λ b. b == 59) (codes ";") ≡ false)
 behind-never_there e = cc e
-
--- ` a`
-pub stripped-white_space_kept : ¬ (codes " " ≡ without_leading_blanks (codes " a"))
-stripped-white_space_kept e = cc e

@@ -20,8 +20,8 @@ is_label_byte b = is_in_range 97 122 b || is_in_range 48 57 b || b == 45
 -- a byte that is escaped neither in a path, nor in a query or a fragment, and ends none of them
 abbrev pub is_path_byte : ℕ → Bool
 is_path_byte b =
-    is_in_range 97 122 b || is_in_range 64 90 b || is_in_range 48 59 b || is_in_range 40 46 b
-    || is_in_range 36 38 b || b == 33 || b == 61 || b == 95 || b == 126
+    is_in_range 97 122 b || is_in_range 64 91 b || is_in_range 48 59 b || is_in_range 40 46 b
+    || is_in_range 36 38 b || b == 33 || b == 61 || b == 93 || b == 95 || b == 126
 
 -- .. or `/` or `?`, which end no query and no fragment
 abbrev pub is_tail_byte : ℕ → Bool
@@ -72,9 +72,10 @@ abbrev pub goes_on : Spot → List ℕ → Bool
 goes_on spot [] = ends_at spot
 goes_on spot (b ∷ bytes) = at_next (behind_spot spot b) (λ next. goes_on next bytes)
 
--- `http://` or `https://` stands in front
+-- `https://`, `http://` or `git+https://` stands in front
 abbrev pub IsBehindScheme : List ℕ → List ℕ → Type 0
-IsBehindScheme x rest = (x ≡ codes "https://" ++ rest) ⊎ (x ≡ codes "http://" ++ rest)
+IsBehindScheme x rest =
+    (x ≡ codes "https://" ++ rest) ⊎ ((x ≡ codes "http://" ++ rest) ⊎ (x ≡ codes "git+https://" ++ rest))
 
 pub record IsCommonUrl (x : List ℕ) : Type 0 where
   pub rest : List ℕ

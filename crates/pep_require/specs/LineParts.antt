@@ -5,12 +5,9 @@ use Rattle.std.specs.Prelude.{◌≡◌, ◌≢◌, ℕ, ◌==◌, ◌⊎◌, Bo
 use Rattle.std.specs.Prelude.{◌∷◌, ◌++◌, drop, length, take_while, Option, Some, None, Err, IsTrue}
 use Rattle.std.specs.Prelude.{nat_lt}
 use Rattle.std.specs.List.{list_all}
-use Rattle.specifiers.specs.Clause.{Clause, ClauseOf, IsClauseOf, operator_of}
-use Rattle.texts.specs.Bytes.{is_clause_byte}
-use Rattle.specifiers.specs.Clause.{operator_text}
+use Rattle.specifiers.specs.Clause.{Clause}
+use Rattle.specifiers.specs.Front.{ClauseFrom, RefusesFront}
 use Rattle.specifiers.specs.declared.fault.ClauseFault.{ClauseFault}
-use Rattle.specifiers.specs.declared.fault.ClauseFault.TheVariants as clause_fault
-use Rattle.specifiers.specs.declared.op.Op.{Op}
 use Rattle.pep_marker.specs.Marker.{IsNoMarker, MarkerParts}
 use Rattle.pep_marker.specs.Name.{name_of}
 use Rattle.texts.specs.Runs.{begins, without_leading_blanks}
@@ -43,41 +40,11 @@ RefusesExtras x f = (f ≡ fault.BadExtras) × (begins is_bracket x ≡ true) ×
 
 -- ---- clauses
 
--- what stands behind the operator, without white space before it
-abbrev pub after_operator : Op → List ℕ → List ℕ
-after_operator o x = without_leading_blanks (drop (length (operator_text o)) x)
-
--- the longest run of characters that a clause may hold
-abbrev pub clause_run : List ℕ → List ℕ
-clause_run x = take_while is_clause_byte x
-
--- what stands behind the run, without white space before it
-abbrev pub after_run : List ℕ → List ℕ
-after_run x = without_leading_blanks (drop (length (clause_run x)) x)
-
--- the text begins with the clause: white space, an operator, white space, and the longest run
-pub record BoundFrom (x : List ℕ) (c : Clause) (rest : List ℕ) : Type 0 where
-  pub operator : Op
-  pub found : operator_of (without_leading_blanks x) ≡ Some operator
-  pub clause :
-      IsClauseOf operator (clause_run (after_operator operator (without_leading_blanks x))) c
-  pub left : rest ≡ after_run (after_operator operator (without_leading_blanks x))
-
--- the run behind the operator is refused with this fault
-pub record RefusesRun (o : Op) (x : List ℕ) (f : RequireFault) : Type 0 where
+-- no clause stands in front, and which fault that has
+pub record RefusesBound (x : List ℕ) (f : RequireFault) : Type 0 where
   pub inner : ClauseFault
-  pub known : inner ≢ clause_fault.NoMemory
-  pub clause : ClauseOf o (clause_run x) (Err inner)
+  pub refused : RefusesFront x inner
   pub fault : f ≡ fault.BadClause inner
-
-abbrev pub RefusesFound : Option Op → List ℕ → RequireFault → Type 0
-RefusesFound None x f = f ≡ fault.BadClause clause_fault.NoOperator
-RefusesFound (Some o) x f = RefusesRun o (after_operator o x) f
-
--- no clause stands in front: no operator, or what the operator's run is refused for
-abbrev pub RefusesBound : List ℕ → RequireFault → Type 0
-RefusesBound x f =
-    RefusesFound (operator_of (without_leading_blanks x)) (without_leading_blanks x) f
 
 -- a list of clauses ends here: at the end of the line, and else at `)` where it began with `(`, at
 -- `;` where it didn't
@@ -88,20 +55,20 @@ is_end false (b ∷ x) = b == 59
 
 -- One clause or more at the front, joined by `,`. A `,` behind which the list ends is dropped.
 pub data BoundsFrom (closed : Bool) : List ℕ → List Clause → List ℕ → Type 0 where
-  last_bound : {x rest : List ℕ} {c : Clause} → BoundFrom x c rest →
+  last_bound : {x rest : List ℕ} {c : Clause} → ClauseFrom x c rest →
       begins (λ b. b == 44) rest ≡ false → BoundsFrom closed x (c ∷ []) rest
-  last_comma : {x behind : List ℕ} {c : Clause} → BoundFrom x c (44 ∷ behind) →
+  last_comma : {x behind : List ℕ} {c : Clause} → ClauseFrom x c (44 ∷ behind) →
       is_end closed (without_leading_blanks behind) ≡ true →
       BoundsFrom closed x (c ∷ []) (without_leading_blanks behind)
   more_bounds : {x behind rest : List ℕ} {c : Clause} {cs : List Clause} →
-      BoundFrom x c (44 ∷ behind) → is_end closed (without_leading_blanks behind) ≡ false →
+      ClauseFrom x c (44 ∷ behind) → is_end closed (without_leading_blanks behind) ≡ false →
       BoundsFrom closed behind cs rest → BoundsFrom closed x (c ∷ cs) rest
 
 -- the first clause that is none has this fault
 pub data RefusesBounds (closed : Bool) : List ℕ → RequireFault → Type 0 where
   this_bound : {x : List ℕ} {f : RequireFault} → RefusesBound x f → RefusesBounds closed x f
   later_bound : {x behind : List ℕ} {c : Clause} {f : RequireFault} →
-      BoundFrom x c (44 ∷ behind) → is_end closed (without_leading_blanks behind) ≡ false →
+      ClauseFrom x c (44 ∷ behind) → is_end closed (without_leading_blanks behind) ≡ false →
       RefusesBounds closed behind f → RefusesBounds closed x f
 
 -- ---- a URL

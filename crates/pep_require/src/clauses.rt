@@ -2,21 +2,13 @@
 
 ghost use Rattle.std.specs.Prelude.{◌≡◌, ◌⊎◌, if◌then◌else◌, IfErr, IfOk, List};
 ghost use Rattle.specifiers.specs.Clause.{Clause as ClauseParts};
-ghost use Rattle.pep_require.specs.LineParts.{
-  BoundFrom,
-  BoundsFrom,
-  RefusesBound,
-  RefusesBounds,
-  is_end,
-};
+ghost use Rattle.pep_require.specs.LineParts.{BoundsFrom, RefusesBounds, is_end};
 ghost use Rattle.pep_require.specs.Way.Sink.{AddsClauses};
 
 use crate::fault::RequireFault;
-use crate::front::{behind, stripped};
+use crate::front::behind;
 use crate::sink::LineSink;
-use specifiers::{Clause, ClauseFault, Op};
-use std::alloc::Global;
-use texts::clause_run;
+use texts::stripped;
 
 // What ends a list of clauses within the line: `)` where it began with `(`, `;` where it didn't.
 fn end_byte(closed: bool) -> u8
@@ -34,24 +26,6 @@ fn is_end(closed: bool, text: &str) -> bool
         [] => true,
         [first, ..] => *first == end,
     }
-}
-
-/// The clause in front of the text, and what stands behind it, without white space before that (PEP 508, "Grammar").
-/// The clause takes the longest run of characters that one may hold. The refusals are `BadClause`, 33, with the
-/// clause's fault, and lack of memory, 40. Public for those alone who remember clauses by their texts.
-pub fn clause_at<'a>(alloc: Global, text: &'a str) -> Result<(Clause, &'a str), RequireFault>
-    ensures read { IfOk result (λ found. BoundFrom text.now found.0 found.1.now) }
-    ensures refused { IfErr result (λ e. (e ≡ RequireFault.NoMemory) ⊎ RefusesBound text.now e) }
-{
-    let text = stripped(text);
-    let Some(operator) = Op::at_front(text.as_bytes()) else {
-        return Err(RequireFault::BadClause(ClauseFault::NoOperator));
-    };
-    let (_, operand) = text.split_at(operator.text().len());
-    let operand = stripped(operand);
-    let (run, rest) = operand.split_at(clause_run(operand.as_bytes()));
-    let clause = Clause::of(alloc, operator, run)?;
-    Ok((clause, stripped(rest)))
 }
 
 // The clauses in front of the text, one or more, joined by `,`, go to the sink. What stands behind them is given; a `,`

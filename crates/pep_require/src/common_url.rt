@@ -1,5 +1,6 @@
-// URLs of the common form, which the crate `url` prints as they are written: `http://` or `https://`, a host in lower
-// case whose last label begins with a letter, and a path, a query and a fragment in which nothing has to be escaped.
+// URLs of the common form, which the crate `url` prints as they are written: `https://`, `http://` or `git+https://`, a
+// host in lower case whose last label begins with a letter, and a path, a query and a fragment in which nothing has to
+// be escaped.
 
 ghost use Rattle.std.specs.Prelude.{◌≡◌, ◌≤◌, IfNone, IfSome, List, false, length, true, ℕ};
 ghost use Rattle.std.specs.List.{prefix_len};
@@ -59,7 +60,7 @@ fn is_path_byte(byte: u8) -> bool
     }
     matches!(
         byte,
-        b'0'..=b';' | b'@'..=b'Z' | b'('..=b'.' | b'$'..=b'&' | b'!' | b'=' | b'_' | b'~'
+        b'0'..=b';' | b'@'..=b'[' | b'('..=b'.' | b'$'..=b'&' | b'!' | b'=' | b']' | b'_' | b'~'
     )
 }
 
@@ -183,7 +184,7 @@ fn goes_on(bytes: &[u8]) -> bool
     spot.ends()
 }
 
-// What stands behind `http://` or `https://`.
+// What stands behind `https://`, `http://` or `git+https://`.
 fn behind_scheme(bytes: &[u8]) -> Option<&[u8]>
     ensures some { IfSome result (λ rest. IsBehindScheme bytes.now rest.now) }
     ensures none { IfNone result ((rest : List ℕ) → ¬ IsBehindScheme bytes.now rest) }
@@ -192,6 +193,8 @@ fn behind_scheme(bytes: &[u8]) -> Option<&[u8]>
         Some(&bytes[8..])
     } else if bytes.starts_with(b"http://") {
         Some(&bytes[7..])
+    } else if bytes.starts_with(b"git+https://") {
+        Some(&bytes[12..])
     } else {
         None
     }

@@ -23,12 +23,12 @@ ghost use Rattle.pep_require.specs.Requirement.{IsAscending};
 ghost use Rattle.pep_require.specs.Way.Sink.{Adds, ExtrasNamed, with_named};
 
 use crate::fault::RequireFault;
-use crate::front::{behind, stripped};
+use crate::front::behind;
 use crate::sink::LineSink;
 use memchr::memchr;
 use pep_marker::{MarkerFault, Name};
 use std::alloc::Global;
-use texts::name_run;
+use texts::{name_run, stripped};
 
 // The name of one extra, with white space round it.
 fn extra(alloc: Global, piece: &str) -> Result<Name, RequireFault>

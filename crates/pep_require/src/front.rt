@@ -10,18 +10,7 @@ ghost use Rattle.std.specs.Prelude.{
   false,
   count_by,
 };
-ghost use Rattle.texts.specs.Runs.{begins, without_leading_blanks};
-
-use texts::blank_run;
-
-/// The text without the white space in front (PEP 508, "Grammar"). Public for those alone who remember clauses by their
-/// texts.
-pub fn stripped(text: &str) -> &str
-    ensures { result.now ≡ without_leading_blanks text.now }
-{
-    let (_, rest) = text.split_at(blank_run(text.as_bytes()));
-    rest
-}
+ghost use Rattle.texts.specs.Runs.{begins};
 
 /// What stands behind this ASCII character in front, where it stands there.
 pub(crate) fn behind(text: &str, character: char) -> Option<&str>

@@ -5,7 +5,6 @@ ghost use Rattle.pep_require.specs.Requirement.{bounds};
 ghost use Rattle.pep_require.specs.Way.Sink.{more_clauses};
 ghost use Rattle.pep_require.specs.View.{target_parts};
 
-use crate::clauses::clause_at;
 use crate::extras::{run_before, sort};
 use crate::fault::RequireFault;
 use crate::front::{behind, pieces};
@@ -160,7 +159,7 @@ impl<'t> LineSink for Keeper<'t> {
 
     #[inline(always)]
     fn clause<'a>(&mut self, line: &mut Kept, text: &'a str) -> Result<&'a str, RequireFault> {
-        let (clause, rest) = clause_at(self.alloc, text)?;
+        let (clause, rest) = Clause::at_front(self.alloc, text)?;
         target_clause(&mut line.target, clause, rest)?;
         Ok(rest)
     }

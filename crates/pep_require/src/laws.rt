@@ -12,9 +12,9 @@ ghost use Rattle.pep_require.specs.RequirementText.{requirement_text};
 use crate::fault::RequireFault;
 use specifiers::laws;
 
-/// A URL of the common form is a URL, by the crate `url`, and printed as it is written: `http://` or `https://`, a host
-/// in lower case whose last label begins with a letter, and a path, a query and a fragment in which nothing has to be
-/// escaped.
+/// A URL of the common form is a URL, by the crate `url`, and printed as it is written: `https://`, `http://` or
+/// `git+https://`, a host in lower case whose last label begins with a letter, and a path, a query and a fragment in
+/// which nothing has to be escaped.
 pub fn common_url_is_its_text()
     ensures { (x : List ℕ) → IsCommonUrl x → IsOwnText x }
 {}

@@ -16,10 +16,7 @@ mod text;
 mod url_text;
 mod walking;
 
-pub use crate::clauses::clause_at;
 pub use crate::fault::RequireFault;
-pub use crate::front::stripped;
-pub use crate::read::Start;
 pub use crate::requirement::{Requirement, Target};
 pub use crate::sink::LineSink;
 pub use crate::url_text::UrlText;

@@ -6,13 +6,13 @@ ghost use Rattle.pep_require.specs.Faults.{after_name, beginning_fault, name_run
 ghost use Rattle.pep_require.specs.LineParts.{RefusesEnding};
 
 use crate::fault::RequireFault;
-use crate::front::{behind, stripped};
+use crate::front::behind;
 use crate::keeping::{Keeper, Kept};
 use crate::requirement::Requirement;
 use crate::walking::walk;
 use pep_marker::Name;
 use std::alloc::Global;
-use texts::LINE_LIMIT;
+use texts::{LINE_LIMIT, stripped};
 
 impl Requirement {
     ghost use Rattle.std.specs.Prelude.{IfErr, IfOk};
@@ -38,25 +38,26 @@ impl Requirement {
         Ok(kept.requirement(name))
     }
 
-    /// Reads the name that a requirement line begins with (PEP 508, "Grammar"). The refusals are `LineTooLong`,
-    /// 38, `OptionLine`, 37, and `BadName`, 31, in this order, and out of memory, 40. Public for the crates above
-    /// that want a line's name alone.
-    pub fn start<'a>(alloc: Global, line: &'a str) -> Result<Start<'a>, RequireFault>
-        ensures ok { IfOk result (λ start. StartsLine line.now start.name start.rest.now) }
+    /// The name that a requirement line begins with (PEP 508, "Grammar"). The rest of the line isn't read, so it may be
+    /// no requirement: this tells which package a line is about before one reads it, or whether one has to.
+    ///
+    /// The refusals are those of [`Requirement::read`] for the beginning of the line, in its order: `LineTooLong`, 38,
+    /// `OptionLine`, 37, and `BadName`, 31. Memory may run out, 40.
+    pub fn name_of_line(alloc: Global, line: &str) -> Result<Name, RequireFault>
+        ensures ok { IfOk result (λ name. StartsLine line.now name (after_name line.now)) }
         ensures refused { IfErr result (λ e. (e ≡ RequireFault.NoMemory)
             ⊎ (beginning_fault line.now ≡ Some e)) }
     {
-        name_at(alloc, line)
+        let start = name_at(alloc, line)?;
+        Ok(start.name)
     }
 }
 
-/// The name that a requirement line begins with, and what stands behind it.
+// The name that a requirement line begins with, and what stands behind it, without white space before it.
 #[derive(Drop)]
-pub struct Start<'a> {
-    /// The name.
-    pub name: Name,
-    /// What stands behind the name, without white space before it.
-    pub rest: &'a str,
+pub(crate) struct Start<'a> {
+    pub(crate) name: Name,
+    pub(crate) rest: &'a str,
 }
 
 // The name at the front of a line, with the white space before and behind it.

@@ -2,9 +2,9 @@
 
 ghost use Rattle.std.specs.Prelude.{◌≡◌, ◌⊎◌, ◌∷◌, [], ℕ, List, IfErr, IfOk, OnOk, Some};
 ghost use Rattle.specifiers.specs.Clause.{Clause};
+ghost use Rattle.specifiers.specs.Front.{ClauseFrom};
 ghost use Rattle.pep_marker.specs.Marker.{IsMarker, MarkerParts};
 ghost use Rattle.pep_require.specs.LineParts.{
-  BoundFrom,
   RefusesBound,
   RefusesMarker,
   RefusesWritten,
@@ -59,7 +59,7 @@ pub trait LineSink {
     /// 33, with the clause's fault, and out of memory, 40.
     fn clause<'a>(&mut self, line: &mut Self::Line, text: &'a str) -> Result<&'a str, RequireFault>
         ensures same { self.new ≡ self.old }
-        ensures ok { IfOk result (λ rest. (c : Clause) × BoundFrom text.now c rest.now
+        ensures ok { IfOk result (λ rest. (c : Clause) × ClauseFrom text.now c rest.now
             × AddsClauses (holds self.old line.old) (holds self.old line.new) (c ∷ [])) }
         ensures refused { IfErr result (λ e. (e ≡ RequireFault.NoMemory) ⊎ RefusesBound text.now e) };
 

@@ -10,9 +10,10 @@ ghost use Rattle.pep_require.specs.Way.Sink.{AddsTarget};
 
 use crate::clauses::walk_clauses;
 use crate::fault::RequireFault;
-use crate::front::{behind, stripped};
+use crate::front::behind;
 use crate::sink::LineSink;
 use memchr::memchr2;
+use texts::stripped;
 
 // Whether a clause that is not in parentheses begins the text.
 fn is_bare(text: &str) -> bool

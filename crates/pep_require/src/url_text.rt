@@ -87,9 +87,10 @@ impl UrlText {
     }
 
     /// Whether the text is a URL of the common form (see
-    /// [`common_url_is_its_text`](crate::laws::common_url_is_its_text)): then it is read as a URL that is printed as
-    /// it is written. Public for sinks alone.
-    pub fn is_its_text(written: &str) -> bool
+    /// [`common_url_is_its_text`](crate::laws::common_url_is_its_text)). Then [`UrlText::read`] refuses it only as 40,
+    /// and it is printed as it is written, so it needn't be read to be compared. Another text may be a URL that is
+    /// printed so, too.
+    pub fn has_common_form(written: &str) -> bool
         ensures common { IsTrue result ↔ IsCommonUrl written.now }
         ensures reads { IsTrue result → ReadsUrl written.now (record {
           written = written.now;

@@ -9,12 +9,12 @@ ghost use Rattle.pep_require.specs.Way.Sink.{IsWalked};
 
 use crate::extras::walk_extras;
 use crate::fault::RequireFault;
-use crate::front::stripped;
 use crate::read::{marker_text, name_at};
 use crate::sink::LineSink;
 use crate::target::walk_target;
 use pep_marker::Name;
 use std::alloc::Global;
+use texts::stripped;
 
 // The marker of a line, whose end this text is, without white space before it.
 #[inline(always)]

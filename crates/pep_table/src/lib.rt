@@ -15,3 +15,4 @@ pub use crate::printout::Printout;
 pub use crate::table::Table;
 pub use crate::text::entry_text;
 pub use demands::{Answer, Entry, Join, Kept, Sorted, TableFault, Verdict, join_all};
+pub use texts::TextOut;

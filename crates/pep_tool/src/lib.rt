@@ -11,8 +11,8 @@ pub use command_line::{Plan, plan_of};
 pub use devices::{Bytes, Counted, Disk, Failed, Folder, OpenFault, Sink, Source};
 pub use faults::{ArgumentFault, Cause, Fault, LineFault, Place};
 pub use inputs::{
-    Input, Kind, check_bytes, environment_of, gather, gather_reader, laws, list_of, merge_bytes,
-    merge_reader, project_of,
+    Input, Kind, ProjectFile, check_bytes, environment_of, gather, gather_reader, laws, list_of,
+    merge_bytes, merge_reader, project_of, text_of_line,
 };
 pub use reasons::{Claim, PlacedClaim, Reason, clashes, reasons_text, why};
 pub use shards::{shard_of, shards_of};

@@ -1,6 +1,6 @@
 -- Why edits are refused: at one input, what the turned body gives is not what the clause says.
 use Rattle.std.proofs.Common.{◌≡◌, ◌↔◌, ℕ, [], ◌∷◌, ◌++◌, Option, Some, None, IsSome, codes}
-use Rattle.std.proofs.Common.{map}
+use Rattle.std.proofs.Common.{map, true}
 use Rattle.std.proofs.Common.{refl, ap, inl, arith, lit<}
 use Rattle.std.specs.Fmt.{digits}
 use Rattle.std.specs.Prelude.{Ok}
@@ -13,6 +13,7 @@ use Rattle.pep_version.specs.KeyReading.{IsKey, behind_place}
 use Rattle.pep_version.specs.Order.{place_cmp, place_of, release_version, version_cmp, with_suffixes}
 use Rattle.pep_version.specs.Spelling.{Reads, SpellsAny}
 use Rattle.pep_version.specs.Text.{KeepsFront, normal_text, public_version}
+use Rattle.pep_version.specs.Final.{is_final}
 use Rattle.pep_version.specs.Version.{IsVersion, Version, number}
 use Rattle.pep_version.specs.View.{segment_of}
 
@@ -97,6 +98,10 @@ Key_with_suffixes-own_pre_release e = cc (ap (λ (v : Version). v.pre) e)
 pub Version_copied-without_post : ¬ (plain 1 ≡ public_version (1 ∷ []) None (Some 0) None)
 Version_copied-without_post e = cc (ap (λ (v : Version). v.post) e)
 
+-- 1a0
+pub Version_is_final-pre_releases_too : ¬ (true ≡ is_final (public_version (1 ∷ []) alpha None None))
+Version_is_final-pre_releases_too e = cc e
+
 -- 1+1
 pub Version_label-lost : ¬ (map segment_of [] ≡ (record (plain 1) { label = number 1 ∷ [] }).label)
 Version_label-lost e = cc e
@@ -135,10 +140,10 @@ pub behind_release-the_epoch_left : ¬ (0 ∷ 0x50 ∷ 0 ∷ 1 ∷ 0 ∷ [] ≡ 
 behind_release-the_epoch_left e = cc e
 
 -- 1.post1, behind no text
-pub push_public-post_passed_over : ¬ (codes "1.post1.dev1" ≡ codes ""
+pub put_public-post_passed_over : ¬ (codes "1.post1.dev1" ≡ codes ""
     ++ normal_text (public_version (1 ∷ []) None (Some 1) None))
 unfolding digits
-push_public-post_passed_over e = cc e
+put_public-post_passed_over e = cc e
 
 -- a developmental release, behind no bytes
 pub push_stage-dev_above_pre_releases : ¬ (0x50 ∷ [] ≡ [] ++ stage_bytes_of None None (Some 0))

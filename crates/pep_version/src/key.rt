@@ -48,6 +48,7 @@ use crate::fault::VersionFault;
 pub use crate::key::bytes::KeyBytes;
 use crate::key::bytes::{push_place, push_suffix};
 pub use crate::key::read::behind_release;
+pub use crate::key::short::public_key_bytes;
 use crate::key::short::short_bytes;
 use crate::parts::{Label, Phase};
 use crate::version::Version;
@@ -102,8 +103,8 @@ impl Key {
         Key::with_suffixes(alloc, version, version.pre(), version.post(), version.dev())
     }
 
-    /// The place of the version with these suffixes in place of its own, and with its label. The
-    /// only fault is `NoMemory`. Public for the crate of cuts.
+    /// The place of the version with these suffixes in place of its own, and with its label (PEP 440,
+    /// "Summary of permitted suffixes and relative ordering"). The only fault is `NoMemory`.
     pub fn with_suffixes(
         alloc: Global,
         version: &Version,
@@ -159,7 +160,7 @@ impl Key {
 
     /// The place of a final release, which has a number at least, or of its developmental release
     /// of this number (PEP 440, "Final releases", "Developmental releases"). The only fault is
-    /// `NoMemory`. Public for the crate of cuts.
+    /// `NoMemory`.
     pub fn of_release(
         alloc: Global,
         epoch: u64,

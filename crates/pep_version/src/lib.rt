@@ -14,7 +14,8 @@ mod text;
 mod version;
 
 pub use crate::fault::VersionFault;
-pub use crate::key::{Key, KeyBytes, behind_release};
+pub use crate::key::{Key, KeyBytes, behind_release, public_key_bytes};
 pub use crate::parts::{Label, Phase};
-pub use crate::text::{push_public, put_public};
+pub use crate::text::put_public;
 pub use crate::version::Version;
+pub use texts::TextOut;

@@ -9,14 +9,11 @@ ghost use Rattle.std.specs.Prelude.{
   decimal,
   if◌then◌else◌,
   map,
-  string_bytes,
   OnErr,
   OnOk,
-  IfErr,
   IfSome,
 };
 ghost use Rattle.pep_version.specs.Text.{
-  KeepsFront,
   epoch_text,
   label_text,
   normal_text,
@@ -30,7 +27,6 @@ ghost use Rattle.pep_version.specs.Text.{
 ghost use Rattle.pep_version.specs.View.{segment_of};
 ghost use Rattle.texts.specs.TextOut.{Extends};
 
-use crate::fault::VersionFault;
 use crate::parts::{Label, Phase};
 use itoa::Buffer;
 use texts::TextOut;
@@ -142,27 +138,10 @@ pub(crate) fn put_part<T: TextOut>(
     Ok(())
 }
 
-/// Appends the normal text (PEP 440, "Normalization") of the version of epoch 0 with this release and these suffixes,
-/// and no local version label ("Public version identifiers"), as [`Version::push_text`](crate::Version::push_text)
-/// does; an empty release has no number to write, and makes no version. Public for those alone who have its numbers and
-/// no version. The only fault is `NoMemory`; a refusal leaves what stood in the text, with perhaps a part behind it.
-pub fn push_public(
-    text: &mut String,
-    release: &[u64],
-    pre: Option<(Phase, u64)>,
-    post: Option<u64>,
-    dev: Option<u64>,
-) -> Result<(), VersionFault>
-    ensures ok { OnOk result (string_bytes text.new ≡ string_bytes text.old
-        ++ normal_text (public_version release.now pre post dev)) }
-    ensures faults { IfErr result (λ e. e ≡ VersionFault.NoMemory) }
-    ensures kept { OnErr result (KeepsFront (string_bytes text.old) (string_bytes text.new)) }
-{
-    put_public(text, release, pre, post, dev)?;
-    Ok(())
-}
-
-/// The same as [`push_public`], wherever the text goes. Public for the crate of packed cuts.
+/// Writes the normal text (PEP 440, "Normalization") of the version of epoch 0 with this release and these suffixes,
+/// and no local version label ("Public version identifiers"), as [`Version::put_text`](crate::Version::put_text) does;
+/// an empty release has no number to write, and makes no version. Public for the crate of packed cuts, which has its
+/// numbers and no version.
 pub fn put_public<T: TextOut>(
     text: &mut T,
     release: &[u64],

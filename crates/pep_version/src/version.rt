@@ -19,6 +19,7 @@ ghost use Rattle.std.specs.List.{All, list_all, list_any};
 ghost use Rattle.pep_version.specs.Way.Slices.{AreReadable, version_of_slices};
 ghost use Rattle.pep_version.specs.Way.Segments.{VersionOf};
 ghost use Rattle.pep_version.specs.Spelling.{Reads};
+ghost use Rattle.pep_version.specs.Final.{is_final};
 ghost use Rattle.pep_version.specs.Text.{KeepsFront, normal_text};
 ghost use Rattle.texts.specs.TextOut.{Extends};
 ghost use Rattle.pep_version.specs.Version.{
@@ -262,6 +263,17 @@ impl Version {
         self.pre.is_some() || self.dev.is_some()
     }
 
+    /// Whether this is a final release: an epoch and a release, and nothing more (PEP 440, "Final
+    /// releases").
+    pub fn is_final(&self) -> bool
+        ensures { result ≡ is_final self.now }
+    {
+        self.pre().is_none()
+            && self.post().is_none()
+            && self.dev().is_none()
+            && self.label().is_empty()
+    }
+
     /// The normal text (PEP 440, "Normalization"). The only fault is `NoMemory`.
     pub fn text(&self, alloc: Global) -> Result<String, VersionFault>
         ensures normal { IfOk result (λ t. string_bytes t ≡ normal_text self.now) }
@@ -284,7 +296,8 @@ impl Version {
         Ok(())
     }
 
-    /// The same as `push_text`, wherever the text goes. Public for the crates above, which alone name such places.
+    /// Writes the normal text (PEP 440, "Normalization") to what takes it part by part, as `push_text` does to a
+    /// `String`. The fault is the first of what takes it, which has then taken some of the text at most.
     pub fn put_text<T: TextOut>(&self, text: &mut T) -> Result<(), T::Fault>
         ensures ok { OnOk result (T.tells → T.written text.new
             ≡ T.written text.old ++ normal_text self.now) }

@@ -1,8 +1,8 @@
 //! What claims leave out, between cuts that are numbered in order.
 
 use crate::cover::Part;
-use packed_cuts::{PackedCut, PackedRange};
-use pep_clause::{Clause, ClauseFault, Cut, Range, VersionSet};
+use packed_cuts::PackedRange;
+use pep_clause::{Clause, ClauseFault, Cut, PackedCut, Range, VersionSet};
 use std::alloc::{AllocError, Global};
 
 /// What stands for a cut.
@@ -12,8 +12,8 @@ pub(crate) trait Standing: Ord + Drop {
 }
 
 impl Standing for PackedCut {
-    fn stands_for(&self, alloc: Global) -> Result<Cut, ClauseFault> {
-        self.cut(alloc)
+    fn stands_for(&self, _alloc: Global) -> Result<Cut, ClauseFault> {
+        Ok(Cut::of_packed(*self))
     }
 }
 
@@ -204,7 +204,7 @@ pub(crate) fn push_others(
     claim: usize,
     ranges: &[Range],
 ) -> Result<(), ClauseFault> {
-    let mut low = Cut::least(alloc)?;
+    let mut low = Cut::least();
     for range in ranges {
         ends.push(claim, low, range.low().copied(alloc)?)?;
         low = range.high().copied(alloc)?;

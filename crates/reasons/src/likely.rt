@@ -5,8 +5,8 @@ use crate::claims::{Claim, PlacedClaim};
 use crate::cover::{Needed, covering};
 use crate::ends::{Ends, Numbered, Standing, push_cuts, push_others, push_packed};
 use demands::Entry;
-use packed_cuts::{PackedCut, PackedRange};
-use pep_clause::{Clause, ClauseFault, Cut};
+use packed_cuts::PackedRange;
+use pep_clause::{Clause, ClauseFault, Cut, PackedCut};
 use pep_require::Target;
 use pep_version::{Key, Version, VersionFault};
 use std::alloc::{AllocError, Global};
@@ -290,7 +290,7 @@ fn between_cuts(alloc: Global, claims: &[PlacedClaim]) -> Result<Numbered<Cut>, 
     for (index, placed) in claims.iter().enumerate() {
         push_claim_cuts(alloc, &mut ends, index, &placed.claim)?;
     }
-    Ok(ends.numbered(alloc, Cut::least(alloc)?, Cut::end())?)
+    Ok(ends.numbered(alloc, Cut::least(), Cut::end())?)
 }
 
 // A point for each claim that is needed, in the order of the cuts.

@@ -11,9 +11,9 @@ ghost use Rattle.reasons.specs.Places.{StandsIn};
 
 use crate::asked::{Asked, is_asked, with_claim};
 use crate::claims::{Claim, PlacedClaim};
-use documents::project_requirements;
+use documents::project_of;
 use faults::Fault;
-use inputs::text_on;
+use inputs::text_of_line;
 use pep_marker::{Environment, Name};
 use pep_require::Requirement;
 use std::alloc::Global;
@@ -68,16 +68,16 @@ fn requirement_on(
         (option_map requirement_parts found)) }
     ensures faults { IfErr result (λ fault. fault ≡ no_memory) }
 {
-    let Ok(found) = text_on(line) else {
+    let Ok(found) = text_of_line(line) else {
         return Err(Fault::no_memory());
     };
     let Some(text) = found else {
         return Ok(None);
     };
-    let Ok(start) = Requirement::start(alloc, text) else {
+    let Ok(name) = Requirement::name_of_line(alloc, text) else {
         return Err(Fault::no_memory());
     };
-    if !is_asked(asked, &start.name) {
+    if !is_asked(asked, &name) {
         return Ok(None);
     }
     let Ok(requirement) = Requirement::read(alloc, text) else {
@@ -156,7 +156,7 @@ pub(crate) fn project_claims(
     ensures faults { IfErr result (λ fault. fault ≡ no_memory) }
 {
     let extra = environment.value("extra").unwrap_or("");
-    let Ok(requirements) = project_requirements(alloc, bytes, extra, group) else {
+    let Ok(requirements) = project_of(alloc, bytes, extra, group) else {
         return Err(Fault::no_memory());
     };
     let mut asked = asked;

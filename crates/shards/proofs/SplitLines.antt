@@ -13,7 +13,7 @@ use Rattle.faults.specs.declared.fault.Cause.{Cause}
 use Rattle.faults.specs.declared.fault.Cause.TheVariants as cause
 use Rattle.faults.specs.declared.fault.LineFault.{LineFault}
 use Rattle.faults.specs.declared.fault.LineFault.TheVariants as line_fault
-use Rattle.inputs.specs.Way.LineReading.{HasText}
+use Rattle.inputs.specs.Lists.{HasText}
 use Rattle.inputs.specs.Lists.{content, lines_of}
 use Rattle.faults.specs.NoMemory.{no_memory}
 use Rattle.faults.specs.declared.fault.Fault.{Fault}

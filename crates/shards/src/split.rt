@@ -11,8 +11,8 @@ ghost use Rattle.shards.specs.Shards.{
   shard_of,
 };
 
-use faults::{Fault, LineFault, Place, fault_in, line_cause};
-use inputs::text_on;
+use faults::{Cause, Fault, LineFault, Place};
+use inputs::text_of_line;
 use pep_marker::Name;
 use pep_require::{RequireFault, Requirement};
 use std::alloc::Global;
@@ -44,12 +44,12 @@ fn shard_on(alloc: Global, line: &[u8], count: u64) -> Result<u64, LineFault>
     ensures refused { IfErr result (λ fault. (fault ≡ LineFault.Requirement RequireFault.NoMemory)
         ⊎ HasNoShard line.now fault) }
 {
-    let found = text_on(line)?;
+    let found = text_of_line(line)?;
     let Some(text) = found else {
         return Ok(count.max(1));
     };
-    let start = Requirement::start(alloc, text)?;
-    Ok(shard_of(&start.name, count))
+    let name = Requirement::name_of_line(alloc, text)?;
+    Ok(shard_of(&name, count))
 }
 
 /// The shard of the requirement on each line of a list among so many (see [`shard_of`]), whether or not
@@ -72,7 +72,7 @@ pub fn shards_of(alloc: Global, bytes: &[u8], count: u64) -> Result<Vec<u64>, Fa
         number += 1;
         match shard_on(alloc, line, count) {
             Ok(shard) => shards.push(shard)?,
-            Err(fault) => return Err(fault_in(Place::Input(1), line_cause(number, fault))),
+            Err(fault) => return Err(Fault::of(Place::Input(1), Cause::on_line(number, fault))),
         }
         rest = behind;
     }

@@ -1,5 +1,6 @@
 pub mod FinalVersion
 pub mod OperatorLemmas
+pub mod FrontClauses
 pub mod OneOperand
 pub mod OneAnswer
 pub mod ReadLemmas

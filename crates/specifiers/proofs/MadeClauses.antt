@@ -6,7 +6,8 @@ use Rattle.texts.specs.Lists.{is_empty}
 use Rattle.specifiers.proofs.FinalVersion.{IsVersion-prefix_of}
 use Rattle.specifiers.proofs.WrittenLemmas.{version-valid}
 use Rattle.specifiers.specs.Admits.{admits, has_prefix, says}
-use Rattle.specifiers.specs.Clause.{Clause, Prefix, at_least, at_most, compatible, greater_than, is_final, less_than}
+use Rattle.specifiers.specs.Clause.{Clause, Prefix, at_least, at_most, compatible, greater_than, less_than}
+use Rattle.pep_version.specs.Final.{is_final}
 use Rattle.specifiers.specs.Clause.{prefix_of}
 use Rattle.specifiers.specs.Clause.{version_clause}
 use Rattle.specifiers.specs.ClauseView.{IsStored, clause_of, of_version}

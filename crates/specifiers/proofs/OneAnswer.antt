@@ -11,7 +11,8 @@ use Rattle.pep_version.specs.declared.fault.VersionFault.{VersionFault}
 use Rattle.pep_version.specs.declared.fault.VersionFault.TheVariants as version_fault
 use Rattle.specifiers.specs.Clause.{Clause, ClauseOf, Prefix, TargetAnswers, PrefixAnswers}
 use Rattle.specifiers.specs.Clause.{at_least, at_most, compatible, demanded_text, greater_than}
-use Rattle.specifiers.specs.Clause.{is_final, less_than, prefix_clause, prefix_of, version_clause}
+use Rattle.specifiers.specs.Clause.{less_than, prefix_clause, prefix_of, version_clause}
+use Rattle.pep_version.specs.Final.{is_final}
 use Rattle.specifiers.specs.Clause.{ReadsThen, VersionAnswers, demanded_of, ends_in_space}
 use Rattle.specifiers.specs.Clause.{prefix_answer, version_answer}
 use Rattle.specifiers.specs.declared.fault.ClauseFault.{ClauseFault}

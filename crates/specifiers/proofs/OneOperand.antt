@@ -14,7 +14,8 @@ use Rattle.specifiers.specs.declared.op.Op.TheVariants as op
 use Rattle.specifiers.specs.Admits.{SaysOf, says}
 use Rattle.specifiers.specs.Clause.{Clause, ClauseOf, IsClauseOf, Prefix, PrefixAnswers, ReadsThen}
 use Rattle.specifiers.specs.Clause.{VersionAnswers, at_least, at_most, compatible, ends_in_space}
-use Rattle.specifiers.specs.Clause.{greater_than, is_final, less_than, matching, matching_prefix}
+use Rattle.specifiers.specs.Clause.{greater_than, less_than, matching, matching_prefix}
+use Rattle.pep_version.specs.Final.{is_final}
 use Rattle.specifiers.specs.Clause.{prefix_answer, prefix_clause, prefix_of, version_answer}
 use Rattle.specifiers.specs.Clause.{version_clause}
 use Rattle.specifiers.specs.Operator.{operator}

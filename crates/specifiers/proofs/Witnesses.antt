@@ -14,12 +14,13 @@ use Rattle.specifiers.proofs.OneAnswer.{one-clause-of}
 use Rattle.specifiers.specs.Admits.{SaysOf, admits}
 use Rattle.specifiers.specs.Clause.{IsClauseOf, excluding_prefix, prefix_answer}
 use Rattle.specifiers.specs.Clause.{Clause, ClauseOf, ReadsClause, at_least, at_most, clause_text}
-use Rattle.specifiers.specs.Clause.{compatible, demanded, demanded_text, greater_than, is_final}
+use Rattle.specifiers.specs.Clause.{compatible, demanded, demanded_text, greater_than}
 use Rattle.specifiers.specs.Clause.{less_than, matching, matching_prefix, operator_of, prefix_of}
 use Rattle.specifiers.specs.Clause.{version_answer}
 use Rattle.specifiers.specs.Way.VersionFaults.{TellsVersion}
 use Rattle.specifiers.specs.Operator.{operator}
-use Rattle.specifiers.specs.Way.OperatorEnds.{begin_of, end_of, leaves_out}
+use Rattle.specifiers.specs.Way.OperatorEnds.{begin_of, end_of}
+use Rattle.specifiers.specs.Operator.{leaves_out}
 use Rattle.specifiers.specs.declared.op.Begin.TheVariants as begin
 use Rattle.specifiers.specs.declared.op.End.TheVariants as ends
 use Rattle.specifiers.specs.declared.fault.ClauseFault.TheVariants as fault
@@ -133,10 +134,6 @@ is_at_most-refuses_a_label e = cc e
 pub is_compatible-by_the_first_number : ¬ (true
     ≡ admits (compatible (release (2 ∷ 2 ∷ 0 ∷ []))) (release (2 ∷ 3 ∷ [])))
 is_compatible-by_the_first_number e = cc e
-
--- 1a0
-pub is_final-pre_releases_too : ¬ (true ≡ is_final (public_version (1 ∷ []) (Some (Alpha, 0)) None None))
-is_final-pre_releases_too e = cc e
 
 -- `>1`, 1.post0
 pub is_greater-admits_a_post_release : ¬ (true

@@ -30,7 +30,8 @@ use Rattle.specifiers.specs.Clause.{matching_prefix, excluding, excluding_prefix
 use Rattle.specifiers.specs.Clause.{less_than, greater_than, demanded, demanded_of, clause_text}
 use Rattle.specifiers.specs.Clause.{ends_in_space, fault_of, is_demanded_text}
 use Rattle.texts.specs.Bytes.{is_clause_byte}
-use Rattle.specifiers.specs.Clause.{is_final, operator_of, operator_text, prefix_answer}
+use Rattle.specifiers.specs.Clause.{operator_of, operator_text, prefix_answer}
+use Rattle.pep_version.specs.Final.{is_final}
 use Rattle.specifiers.specs.Clause.{prefix_clause, prefix_of, prefix_text, version_answer}
 use Rattle.specifiers.specs.Clause.{version_clause}
 use Rattle.specifiers.specs.Clause.{final_version}

@@ -1,7 +1,7 @@
 -- Version specifier clauses and how they are written. The sections named here are those of the
 -- specification "Version specifiers" (PEP 440). A text is a list of bytes.
 use Rattle.std.specs.Prelude.{◌≡◌, ℕ, ◌==◌, ◌-◌, ◌&&◌, Bool, not, List, ◌++◌, length, take}
-use Rattle.std.specs.Prelude.{drop, Option, Some, None, Result, Ok, Err, is_none, nat_eq, nat_lt}
+use Rattle.std.specs.Prelude.{drop, Option, Some, None, Result, Ok, Err, nat_eq, nat_lt}
 use Rattle.std.specs.Prelude.{codes, if◌then◌else◌, IsTrue, MatchBool, ⊤, []}
 use Rattle.std.specs.Char.{is_ascii_uppercase}
 use Rattle.std.specs.List.{ends_with, list_all, starts_with}
@@ -10,6 +10,7 @@ use Rattle.pep_version.specs.Spelling.{Reads}
 use Rattle.texts.specs.Bytes.{is_clause_byte}
 use Rattle.texts.specs.Space.{trimmed, without_trailing_space}
 use Rattle.pep_version.specs.Text.{epoch_text, normal_text, release_text}
+use Rattle.pep_version.specs.Final.{is_final}
 use Rattle.pep_version.specs.Version.{Version}
 use Rattle.texts.specs.Lists.{is_empty}
 use Rattle.pep_version.specs.declared.fault.VersionFault.{VersionFault}
@@ -97,10 +98,6 @@ fault_of version_fault.NoMemory = fault.NoMemory
 abbrev pub final_version : Prefix → Version
 final_version r =
     record { epoch = r.epoch; release = r.release; pre = None; post = None; dev = None; label = [] }
-
--- the version is an epoch and a release, and nothing more
-abbrev pub is_final : Version → Bool
-is_final v = is_none v.pre && is_none v.post && is_none v.dev && is_empty v.label
 
 abbrev pub prefix_of : Version → Prefix
 prefix_of v = record { epoch = v.epoch; release = v.release }

@@ -4,7 +4,8 @@ use Rattle.std.specs.Prelude.{◌≡◌, [], IsTrue, string_bytes}
 use Rattle.pep_version.specs.Version.{Version}
 use Rattle.specifiers.specs.Clause.{Clause, Prefix, compatible, matching, matching_prefix, excluding}
 use Rattle.specifiers.specs.Clause.{excluding_prefix, at_most, at_least, less_than, greater_than}
-use Rattle.specifiers.specs.Clause.{demanded, is_final, prefix_of}
+use Rattle.specifiers.specs.Clause.{demanded, prefix_of}
+use Rattle.pep_version.specs.Final.{is_final}
 use Rattle.specifiers.specs.Operator.{OperandParts, operator, prefix_part, text_part, version_part}
 use Rattle.specifiers.specs.Valid.{IsValidClause}
 use Rattle.specifiers.specs.declared.clause.Operand.{Operand}

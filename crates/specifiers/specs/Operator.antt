@@ -1,5 +1,5 @@
 -- The operator of a clause, and what stands behind it.
-use Rattle.std.specs.Prelude.{ℕ, List}
+use Rattle.std.specs.Prelude.{ℕ, Bool, true, false, List}
 use Rattle.pep_version.specs.Version.{Version}
 use Rattle.specifiers.specs.Clause.{Clause, Prefix, compatible, matching, matching_prefix, excluding}
 use Rattle.specifiers.specs.Clause.{excluding_prefix, at_most, at_least, less_than, greater_than}
@@ -36,3 +36,14 @@ operand (at_least v) = version_part v
 operand (less_than v) = version_part v
 operand (greater_than v) = version_part v
 operand (demanded text) = text_part text
+
+-- a clause with the operator admits what its operand doesn't match ("Version exclusion")
+abbrev pub leaves_out : Op → Bool
+leaves_out op.NotEqual = true
+leaves_out op.Equal = false
+leaves_out op.AtMost = false
+leaves_out op.AtLeast = false
+leaves_out op.Less = false
+leaves_out op.More = false
+leaves_out op.Compatible = false
+leaves_out op.Exact = false

@@ -4,19 +4,22 @@ mod admits;
 mod read;
 mod text;
 
-pub use crate::clause::read::{is_demanded_text, is_final};
+pub use crate::clause::read::is_demanded_text;
 use crate::fault::ClauseFault;
 use crate::op::Op;
 use pep_version::Version;
 use std::alloc::Global;
 use std::marker::Model;
 
-/// What stands behind the operator of a clause: a version, an epoch and a release with `.*`, kept as the version that
-/// they are, or the text of `===`. Public for the crates of sets and packed cuts, which make ranges of it.
+/// What stands behind the operator of a clause (PEP 440, "Version specifiers").
 #[derive(Debug, Drop)]
 pub enum Operand {
+    /// A version.
     Version(Version),
+    /// An epoch and a release with `.*` behind them ("Version matching", "Version exclusion"), as the final release
+    /// that they are.
     Prefix(Version),
+    /// The text of `===` in lower case ("Arbitrary equality").
     Text(String),
 }
 
@@ -62,7 +65,8 @@ impl Clause {
         self.op
     }
 
-    /// What stands behind the operator. Public for the crates of sets and packed cuts, as the operand is.
+    /// What stands behind the operator (PEP 440, "Version specifiers"): a version, a release with `.*`, or the text of
+    /// `===`.
     pub fn operand(&self) -> &Operand
         ensures clause { clause_of (operator self.now) result.now ≡ self.now }
         ensures parts { operand_parts result.now ≡ operand self.now }

@@ -42,7 +42,8 @@ pub enum End {
 impl Op {
     ghost use Rattle.std.specs.Prelude.{◌≡◌};
     ghost use Rattle.specifiers.specs.Clause.{operator_of, operator_text};
-    ghost use Rattle.specifiers.specs.Way.OperatorEnds.{begin_of, end_of, leaves_out};
+    ghost use Rattle.specifiers.specs.Operator.{leaves_out};
+    ghost use Rattle.specifiers.specs.Way.OperatorEnds.{begin_of, end_of};
 
     /// The longest operator that the text begins with (PEP 440, "Version specifiers").
     #[inline(always)]
@@ -105,8 +106,8 @@ impl Op {
         }
     }
 
-    /// Whether a clause with this operator leaves out the versions between these ends, and admits the others: that of
-    /// `!=` does (PEP 440, "Version exclusion"). Public for the crates above.
+    /// Whether a clause with this operator leaves out the versions that it speaks of, and admits the others: that of
+    /// `!=` does (PEP 440, "Version exclusion").
     #[inline(always)]
     pub fn leaves_out(self) -> bool
         ensures { result ≡ leaves_out self }

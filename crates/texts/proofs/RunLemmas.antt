@@ -4,9 +4,11 @@ use Rattle.std.proofs.Common.{length, take, drop, refl, sym, ap, ◌∙◌, arit
 use Rattle.std.proofs.Math.Seq.{take-append_seam, drop-append_seam}
 use Rattle.std.specs.List.{list_all, prefix_len}
 use Rattle.std.specs.Str.{IsAscii, IsCharBoundary, IsUtf8}
+use Rattle.std.proofs.lemmas.Bool.Decides.{nat_tests}
 use Rattle.std.proofs.lemmas.List.Sums.{prefix_len-le-length}
 use Rattle.std.proofs.lemmas.Str.{IsCharBoundary-from_take, IsUtf8-from_ascii}
 use Rattle.texts.proofs.Connectives.{and_first, and_second, by_answer}
+use Rattle.texts.specs.Bytes.{is_blank_byte}
 use Rattle.texts.specs.Runs.{begins}
 
 -- the run of a list that is a run and then something that does not begin with an element of the
@@ -72,6 +74,13 @@ boundary-run p small x utf8 =
     IsCharBoundary-from_take x (prefix_len p x) utf8 (prefix_len-le-length p x)
     (IsUtf8-from_ascii (take (prefix_len p x) x)
     (ascii-class p small (take (prefix_len p x) x) (all-run p x)))
+
+-- .. of white space
+pub boundary-blanks : (x : List ℕ) → IsUtf8 x → IsCharBoundary x (prefix_len is_blank_byte x)
+boundary-blanks = boundary-run is_blank_byte small
+  where
+    small : (b : ℕ) → is_blank_byte b ≡ true → b < 128
+    small b h = grind (arith, nat_tests)
 
 -- what is behind a run does not begin with an element of the class
 pub begins-rest : (p : ℕ → Bool) (x : List ℕ) → begins p (drop (prefix_len p x) x) ≡ false

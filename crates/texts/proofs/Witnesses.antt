@@ -74,6 +74,10 @@ unfolding is_letter_or_digit
 name_run-counts_all e = cc e
 
 -- " a"
+pub stripped-white_space_kept : ¬ (32 ∷ [] ≡ without_leading_blanks (32 ∷ 97 ∷ []))
+stripped-white_space_kept e = cc e
+
+-- " a"
 pub trimmed-behind_alone : ¬ (32 ∷ 97 ∷ [] ≡ trimmed (32 ∷ 97 ∷ []))
 trimmed-behind_alone e = cc e
 

@@ -1,6 +1,6 @@
 //! What several crates of this repository share of texts: classes of bytes, runs of one class,
 //! white space at the ends, a text split at a byte, texts in one list of bytes, where a text goes
-//! that is written part by part, and the longest line and input. It is public for them alone.
+//! that is written part by part, and the longest line and input. Users see [`TextOut`] alone.
 
 #![tactic(auto)]
 
@@ -22,7 +22,7 @@ pub use crate::heads::head_of;
 pub use crate::limits::{INPUT_LIMIT, LINE_LIMIT};
 pub use crate::out::TextOut;
 pub use crate::runs::{
-    blank_end, blank_run, clause_run, has_clause_bytes, name_run, without_leading_blanks,
+    blank_end, blank_run, clause_run, has_clause_bytes, name_run, stripped, without_leading_blanks,
     without_outer_blanks,
 };
 pub use crate::space::{trimmed, without_trailing_space};

@@ -5,8 +5,8 @@ ghost use Rattle.texts.specs.TextOut.{Extends};
 
 use std::alloc::AllocError;
 
-/// Takes a text part by part: a `String` in memory, or what writes its bytes to a device. What goes wrong is told by
-/// the type: only a `String` wants memory.
+/// Takes a text part by part: a `String` in memory, or an output of one's own, as one that writes to a device or counts
+/// bytes, for which the trait is implemented. What goes wrong is told by the type: only a `String` wants memory.
 pub trait TextOut {
     ghost use Rattle.std.specs.Prelude.{List, ℕ};
 
@@ -19,7 +19,7 @@ pub trait TextOut {
     /// What was taken so far.
     ghost written: { Self → List ℕ };
 
-    /// Takes a part more. A refusal leaves what was taken, with perhaps some bytes behind it.
+    /// Takes one part more of the text. A refusal leaves what was taken, with perhaps some bytes behind it.
     fn put_str(&mut self, part: &str) -> Result<(), Self::Fault>
         ensures ok { OnOk result (tells → written self.new ≡ written self.old ++ part.now) }
         ensures kept { OnErr result (tells → Extends (written self.old) (written self.new)) };

@@ -55,6 +55,14 @@ pub fn without_leading_blanks(text: &[u8]) -> &[u8]
     rest
 }
 
+/// The same of a text that is UTF-8.
+pub fn stripped(text: &str) -> &str
+    ensures { result.now ≡ without_leading_blanks text.now }
+{
+    let (_, rest) = text.split_at(blank_run(text.as_bytes()));
+    rest
+}
+
 /// The text without the white space at both ends.
 pub fn without_outer_blanks(text: &[u8]) -> &[u8]
     ensures { result.now ≡ without_outer_blanks text.now }

@@ -2,25 +2,18 @@
 use Rattle.std.specs.Prelude.{◌≡◌, ◌≤◌, ℕ, ◌==◌, ◌||◌, Bool, true, false, List, [], ◌++◌, Ok, codes, take}
 use Rattle.std.specs.Char.{is_ascii_digit}
 use Rattle.std.specs.List.{AllByRecursion, list_all}
-use Rattle.pep_version.specs.Spelling.{NumberSpelling, ReleaseSpelling}
+use Rattle.pep_version.specs.Spelling.{ReleaseSpelling}
 use Rattle.pep_version.specs.Version.{Fits}
 use Rattle.specifiers.specs.Clause.{Clause, prefix_clause, version_clause}
 use Rattle.specifiers.specs.declared.op.Op.{Op}
 use Rattle.pep_clause.specs.OperatorTable.{set_of}
 use Rattle.packed_cuts.specs.Way.PackedRange.{release_prefix}
-use Rattle.packed_cuts.specs.PackedCut.{release_alone}
+use Rattle.pep_clause.specs.PackedCut.{release_alone}
 use Rattle.clause_memory.specs.Way.PackedClause.{demanded_ranges}
 use Rattle.clause_memory.specs.declared.packed_clause.PackedClause.{PackedClause}
 use Rattle.clause_memory.specs.declared.plain.Operand.{Operand}
 use Rattle.clause_memory.specs.declared.plain.Operand.TheVariants as operand
 use Rattle.clause_memory.specs.declared.plain.Release.{Release}
-
--- the number stands in front of the text, and this behind it
-pub record NumberFrom (x : List ℕ) (n : ℕ) (rest : List ℕ) : Type 0 where
-  pub digits : List ℕ
-  pub whole : x ≡ digits ++ rest
-  pub spelled : NumberSpelling digits n
-  pub fits : Fits n
 
 -- a digit, or the dot between two numbers
 abbrev pub is_release_byte : ℕ → Bool

@@ -3,7 +3,7 @@ use Rattle.std.specs.Prelude.{ℕ, ◌==◌, ◌&&◌, Bool, not, List}
 use Rattle.specifiers.specs.Clause.{Clause}
 use Rattle.pep_clause.specs.VersionSet.{Range}
 use Rattle.pep_marker.specs.Environment.{EnvironmentParts}
-use Rattle.pep_require.specs.LineParts.{BoundFrom}
+use Rattle.specifiers.specs.Front.{ClauseFrom}
 use Rattle.pep_require.specs.Reads.{ReadsUrl}
 use Rattle.pep_require.specs.Requirement.{MarkerSays, RequirementParts, UrlParts}
 use Rattle.demands.specs.Way.LineDemands.{AddsClause, AddsUrl, DemandsEntry, DemandsRanges}
@@ -13,7 +13,7 @@ use Rattle.clause_memory.specs.declared.sink.LineSoFar.{LineSoFar}
 -- a clause stands in front of the text, and this behind it; of the line's demands the new ones are with it besides
 pub record TakesFront (x rest : List ℕ) (old new : EntryParts) : Type 0 where
   pub clause : Clause
-  pub found : BoundFrom x clause rest
+  pub found : ClauseFrom x clause rest
   pub adds : AddsClause clause old new
 
 -- .. with the URL that is written so
@@ -36,5 +36,5 @@ goes_on b = not (b == 44) && not (b == 59) && not (b == 41)
 -- a clause that demands the versions in these ranges, and no text, stands in front of the text, and this behind it
 pub record DemandsFront (x : List ℕ) (ranges : List Range) (rest : List ℕ) : Type 0 where
   pub clause : Clause
-  pub found : BoundFrom x clause rest
+  pub found : ClauseFrom x clause rest
   pub demands : DemandsRanges clause ranges

@@ -10,22 +10,11 @@ use Rattle.faults.specs.declared.fault.Cause.TheVariants as cause
 use Rattle.faults.specs.declared.fault.LineFault.{LineFault}
 use Rattle.faults.specs.declared.fault.LineFault.TheVariants as line_fault
 use Rattle.documents.specs.RefusedProject.{IsNumbered}
-use Rattle.inputs.specs.Lists.{content, is_skipped, lines_of, requirement_lines, requirements_among}
+use Rattle.inputs.specs.Lists.{HasText, lines_of, requirement_lines, requirements_among}
 use Rattle.texts.specs.Limits.{input_limit}
 use Rattle.inputs.specs.Refusal.{IsRefusedLine, IsRefusedList}
 use Rattle.inputs.specs.Streams.{MayFollow}
 use Rattle.std.specs.Io.KnownBytes.{Consumes, IsAtEnd}
-
--- the text of the requirement on a line, and none where the line is skipped
-abbrev pub IsTextOn : List ℕ → Option (List ℕ) → Type 0
-IsTextOn line None = is_skipped (content line) ≡ true
-IsTextOn line (Some text) = (is_skipped (content line) ≡ false) × (text ≡ content line)
-
--- the line is one that a list may have, but for its requirement, which has this text
-pub record HasText (line : List ℕ) (found : Option (List ℕ)) : Type 0 where
-  pub short : length line ≤ line_limit
-  pub encoded : IsUtf8 line
-  pub text : IsTextOn line found
 
 -- ---- what is taken
 

@@ -8,7 +8,7 @@ use Rattle.pep_clause.specs.Cut.{Cut, IsCut, cut_cmp}
 use Rattle.pep_clause.specs.Way.Joined.{joined}
 use Rattle.pep_clause.specs.OperatorTable.{outside}
 use Rattle.pep_clause.specs.VersionSet.{Range, all_versions}
-use Rattle.packed_cuts.specs.PackedCut.{IsPackedCut, packed_word, right_behind}
+use Rattle.pep_clause.specs.PackedCut.{IsPackedCut, packed_word, right_behind}
 use Rattle.packed_cuts.specs.declared.packed_range.PackedRange.{PackedRange}
 
 -- the range between two packed cuts

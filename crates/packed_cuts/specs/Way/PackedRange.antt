@@ -8,7 +8,8 @@ use Rattle.pep_version.specs.declared.parts.Phase.{Phase}
 use Rattle.specifiers.specs.Admits.{compatible_prefix}
 use Rattle.specifiers.specs.Clause.{Clause, Prefix, prefix_clause, version_clause}
 use Rattle.specifiers.specs.Operator.{OperandParts, prefix_part, text_part, version_part}
-use Rattle.specifiers.specs.Way.OperatorEnds.{begin_of, end_of, leaves_out}
+use Rattle.specifiers.specs.Way.OperatorEnds.{begin_of, end_of}
+use Rattle.specifiers.specs.Operator.{leaves_out}
 use Rattle.specifiers.specs.declared.op.Begin.{Begin}
 use Rattle.specifiers.specs.declared.op.Begin.TheVariants as begin
 use Rattle.specifiers.specs.declared.op.End.{End}
@@ -16,7 +17,7 @@ use Rattle.specifiers.specs.declared.op.End.TheVariants as ends
 use Rattle.specifiers.specs.declared.op.Op.{Op}
 use Rattle.pep_clause.specs.OperatorTable.{set_of, with_dev, with_post}
 use Rattle.pep_clause.specs.Way.Ends.{between}
-use Rattle.packed_cuts.specs.PackedCut.{AreShortNumbers, IsShortRelease, IsShortVersion, release_alone}
+use Rattle.pep_clause.specs.PackedCut.{AreShortNumbers, IsShortRelease, IsShortVersion, release_alone}
 use Rattle.packed_cuts.specs.declared.packed_range.PackedRange.{PackedRange}
 
 -- the version before which `<=` and `==` end

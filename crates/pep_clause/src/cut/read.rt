@@ -4,13 +4,14 @@ ghost use Rattle.std.specs.Prelude.{◌≡◌, ◌++◌, ◌↔◌, IfErr, IfOk,
 ghost use Rattle.pep_version.specs.Order.{place_of, short_release};
 ghost use Rattle.pep_version.specs.Text.{normal_text};
 ghost use Rattle.pep_version.specs.Version.{IsVersion, Version};
-ghost use Rattle.specifiers.specs.Clause.{is_final};
+ghost use Rattle.pep_version.specs.Final.{is_final};
 ghost use Rattle.pep_clause.specs.Cut.{Cut, IsCut, cut_text};
 ghost use Rattle.pep_clause.specs.OperatorTable.{past_release};
 
 use crate::cut::Cut;
+use crate::packed_cut::PackedCut;
 use pep_version::{Version, VersionFault};
-use specifiers::{ClauseFault, is_final};
+use specifiers::ClauseFault;
 use std::alloc::{AllocError, Global};
 
 // Whether the release has no zero at its end beyond its first number.
@@ -71,16 +72,15 @@ fn past_final(alloc: Global, version: &Version) -> Result<Option<Cut>, AllocErro
     ensures exact { IfOk result (λ read. IfSome read (λ c. (c ≡ past_release version.now)
         × (is_final version.now ≡ true) × IsCut c)) }
 {
-    if !is_final(version) {
+    if !version.is_final() {
         return Ok(None);
     }
     Ok(Some(Cut::past(alloc, version)?))
 }
 
 impl Cut {
-    /// The cut whose text this is, as `Cut::text` writes it (PEP 440, "Normalization"), or none:
-    /// another spelling of its version is no cut's text. The only fault is `NoMemory`.
-    pub fn read(alloc: Global, text: &str) -> Result<Option<Cut>, ClauseFault>
+    // The same as `read`, whatever the cut.
+    fn read_any(alloc: Global, text: &str) -> Result<Option<Cut>, ClauseFault>
         ensures read { IfOk result (λ read. (c : Cut) → IsCut c
             → ((read ≡ Some c) ↔ (cut_text c ≡ text.now))) }
         ensures spelled { IfOk result (λ read. IfSome read (λ c. IsCut c)) }
@@ -99,6 +99,20 @@ impl Cut {
             Some(version) if version.label().is_empty() => Ok(None),
             Some(version) => Ok(Some(Cut::after(alloc, &version)?)),
             None => Ok(None),
+        }
+    }
+
+    /// The cut whose text this is, as `Cut::text` writes it (PEP 440, "Normalization"), or none:
+    /// another spelling of its version is no cut's text. The only fault is `NoMemory`.
+    pub fn read(alloc: Global, text: &str) -> Result<Option<Cut>, ClauseFault>
+        ensures read { IfOk result (λ read. (c : Cut) → IsCut c
+            → ((read ≡ Some c) ↔ (cut_text c ≡ text.now))) }
+        ensures spelled { IfOk result (λ read. IfSome read (λ c. IsCut c)) }
+        ensures faults { IfErr result (λ e. e ≡ ClauseFault.NoMemory) }
+    {
+        match PackedCut::read(text) {
+            Some(cut) => Ok(Some(Cut::of_packed(cut))),
+            None => Cut::read_any(alloc, text),
         }
     }
 }

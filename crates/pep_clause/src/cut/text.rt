@@ -3,18 +3,17 @@
 ghost use Rattle.std.specs.Prelude.{◌≡◌, ◌++◌, string_bytes, IfErr, IfOk, OnErr, OnOk};
 ghost use Rattle.pep_version.specs.KeyReading.{behind_place};
 ghost use Rattle.pep_version.specs.Text.{KeepsFront};
-ghost use Rattle.pep_clause.specs.CutView.{cut_word};
+ghost use Rattle.pep_clause.specs.Cut.{cut_text};
+ghost use Rattle.pep_clause.specs.CutView.{CutReadsBack, cut_at, cut_word};
 ghost use Rattle.texts.specs.TextOut.{Extends};
 
-use crate::cut::Cut;
+use crate::cut::{Cut, Form};
 use pep_version::{Version, behind_release};
 use specifiers::ClauseFault;
 use std::alloc::Global;
 use texts::TextOut;
 
 impl Cut {
-    ghost use Rattle.pep_clause.specs.Cut.{cut_text};
-
     /// The text of the cut: its word, which is `before`, `after` or `past`, and the normal text of
     /// the version (PEP 440, "Normalization"), for `past` of the release with its epoch; or `end`.
     /// The only fault is `NoMemory`.
@@ -39,20 +38,29 @@ impl Cut {
         Ok(())
     }
 
-    /// The same as `push_text`, wherever the text goes, with no memory asked for. Public for the crates above, which
-    /// alone name such places.
+    /// Writes the text of the cut to what takes it part by part, as `push_text` does to a `String`. No memory is asked
+    /// for. The fault is the first of what takes it, which has then taken some of the text at most.
     pub fn put_text<T: TextOut>(&self, text: &mut T) -> Result<(), T::Fault>
         ensures ok { OnOk result (T.tells → T.written text.new
             ≡ T.written text.old ++ cut_text self.now) }
         ensures kept { OnErr result (T.tells → Extends (T.written text.old) (T.written text.new)) }
     {
-        if self.bytes.is_none() {
-            return text.put_str("end");
+        match &self.form {
+            Form::Small(cut) => cut.put_text(text),
+            Form::Large(bytes) => put_text_of(text, bytes.as_slice()),
         }
-        let bytes = self.bytes();
-        text.put_str(word(bytes, Version::behind_front(bytes)))?;
-        Version::put_front(text, bytes)
     }
+}
+
+// Writes the text of the cut with these bytes.
+fn put_text_of<T: TextOut>(text: &mut T, bytes: &[u8]) -> Result<(), T::Fault>
+    requires { CutReadsBack bytes.now }
+    ensures ok { OnOk result (T.tells → T.written text.new
+        ≡ T.written text.old ++ cut_text (cut_at bytes.now)) }
+    ensures kept { OnErr result (T.tells → Extends (T.written text.old) (T.written text.new)) }
+{
+    text.put_str(word(bytes, Version::behind_front(bytes)))?;
+    Version::put_front(text, bytes)
 }
 
 // The word of a cut with these bytes, of which the last ones stand behind the key of its version.

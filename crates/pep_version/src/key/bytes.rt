@@ -24,8 +24,8 @@ use std::alloc::AllocError;
 // As many bytes as the keys of most versions have.
 pub(crate) const INLINE: usize = 64;
 
-/// The bytes of a key; those of most versions' keys lie in the value itself. Public for the crate of
-/// cuts, which are such bytes too.
+/// The bytes of a key in storage of their own, see [`Key::into_bytes`](crate::Key::into_bytes); those of most versions'
+/// keys lie in the value itself.
 pub type KeyBytes = SmallVec<u8, INLINE>;
 
 fn push_number(bytes: &mut KeyBytes, n: u64) -> Result<(), AllocError>
@@ -54,7 +54,8 @@ pub(crate) fn push_release(bytes: &mut KeyBytes, release: &[u64]) -> Result<(), 
     Ok(())
 }
 
-fn phase_byte(phase: Phase) -> u8
+/// The byte of a pre-release's phase.
+pub(crate) fn phase_byte(phase: Phase) -> u8
     ensures { result ≡ phase_byte phase }
 {
     match phase {

@@ -227,8 +227,11 @@ impl Version {
 
     /// The version whose place has its key at the front of these bytes (see [`Key::bytes`]), and the
     /// bytes behind the key; of bytes that begin with no key some version, or `None`. The only
-    /// fault is `NoMemory`. Public for the crate of cuts, whose bytes begin with keys.
-    pub fn at_front(alloc: Global, bytes: &[u8]) -> Result<Option<(Version, &[u8])>, VersionFault>
+    /// fault is `NoMemory`.
+    pub(crate) fn at_front(
+        alloc: Global,
+        bytes: &[u8],
+    ) -> Result<Option<(Version, &[u8])>, VersionFault>
         ensures exactly { IfOk result (λ found. IsSome found
             ↔ IsVersion (read_version bytes.now).0) }
         ensures version { IfOk result (λ found. IfSome found (λ p.

@@ -1,7 +1,5 @@
 -- THE CODE'S WAY, and no definition of a clause's meaning: for each operator, where the versions begin and end that its clause of
--- a version speaks of, and whether it admits those or the others. `VersionSet::of` says that these are the versions that the clause
--- admits.
-use Rattle.std.specs.Prelude.{Bool, true, false}
+-- a version speaks of. `VersionSet::of` says that the clause admits these versions, or with `!=` the others.
 use Rattle.specifiers.specs.declared.op.Begin.{Begin}
 use Rattle.specifiers.specs.declared.op.Begin.TheVariants as begin
 use Rattle.specifiers.specs.declared.op.End.{End}
@@ -28,13 +26,3 @@ end_of op.Less = end.Less
 end_of op.More = end.All
 end_of op.Compatible = end.Prefix
 end_of op.Exact = end.All
-
-abbrev pub leaves_out : Op → Bool
-leaves_out op.NotEqual = true
-leaves_out op.Equal = false
-leaves_out op.AtMost = false
-leaves_out op.AtLeast = false
-leaves_out op.Less = false
-leaves_out op.More = false
-leaves_out op.Compatible = false
-leaves_out op.Exact = false

@@ -11,7 +11,6 @@ ghost use Rattle.specifiers.specs.Clause.{
   demanded,
   ends_in_space,
   is_demanded_text,
-  is_final,
   prefix_answer,
   version_answer,
 };
@@ -27,7 +26,9 @@ use crate::fault::ClauseFault;
 use crate::op::Op;
 use pep_version::Version;
 use std::alloc::Global;
-use texts::{has_clause_bytes, is_clause_byte, trimmed, without_trailing_space};
+use texts::{
+    clause_run, has_clause_bytes, is_clause_byte, stripped, trimmed, without_trailing_space,
+};
 
 // Whether the text may stand behind `===`.
 fn is_clause_text(text: &[u8]) -> bool
@@ -41,17 +42,6 @@ fn ends_in_space(text: &str) -> bool
     ensures { result ≡ ends_in_space text.now }
 {
     without_trailing_space(text).len() != text.len()
-}
-
-/// Whether the version is an epoch and a release, and nothing more: a final release (PEP 440, "Final
-/// releases"). Public for the crate of cuts and sets, in whose texts such versions stand.
-pub fn is_final(version: &Version) -> bool
-    ensures { result ≡ is_final version.now }
-{
-    version.pre().is_none()
-        && version.post().is_none()
-        && version.dev().is_none()
-        && version.label().is_empty()
 }
 
 // Whether the bytes may stand in a clause, and none is a letter in upper case.
@@ -90,7 +80,7 @@ fn prefix_clause(operator: Op, version: Version) -> Result<Clause, ClauseFault>
     ensures { result ≡ prefix_answer operator (Ok version) }
 {
     match operator {
-        Op::Equal | Op::NotEqual if is_final(&version) => {
+        Op::Equal | Op::NotEqual if version.is_final() => {
             Ok(Clause::made(operator, Operand::Prefix(version)))
         }
         _ => Err(ClauseFault::StarNotAllowed),
@@ -158,8 +148,9 @@ fn operand_clause(alloc: Global, operator: Op, text: &str) -> Result<Clause, Cla
 }
 
 impl Clause {
-    ghost use Rattle.std.specs.Prelude.{◌≡◌, IfOk};
+    ghost use Rattle.std.specs.Prelude.{◌≡◌, ◌⊎◌, IfErr, IfOk};
     ghost use Rattle.specifiers.specs.Clause.{ClauseOf, ReadsClause};
+    ghost use Rattle.specifiers.specs.Front.{ClauseFrom, RefusesFront};
     ghost use Rattle.specifiers.specs.Valid.{IsValidClause};
 
     /// The clause of an operator and the text behind it (PEP 440, "Version specifiers"). White
@@ -200,5 +191,27 @@ impl Clause {
             return Err(ClauseFault::NoOperator);
         };
         Clause::of(alloc, operator, &text[operator.text().len()..])
+    }
+
+    /// The clause in front of a text, as the first of a list of clauses stands there, and what stands behind it, without
+    /// white space before that (PEP 508, "Grammar"). White space may stand before and behind the operator, and then the
+    /// clause takes the longest run of letters, digits and bytes of `-_.*+!`.
+    ///
+    /// A text that begins with no operator is refused with 11 `NoOperator`; else each refusal is that of `Clause::of`
+    /// for the run.
+    pub fn at_front<'a>(alloc: Global, text: &'a str) -> Result<(Clause, &'a str), ClauseFault>
+        ensures clause { IfOk result (λ found. ClauseFrom text.now found.0 found.1.now) }
+        ensures valid { IfOk result (λ found. IsValidClause found.0) }
+        ensures refused { IfErr result (λ e. (e ≡ ClauseFault.NoMemory) ⊎ RefusesFront text.now e) }
+    {
+        let text = stripped(text);
+        let Some(operator) = Op::at_front(text.as_bytes()) else {
+            return Err(ClauseFault::NoOperator);
+        };
+        let (_, operand) = text.split_at(operator.text().len());
+        let operand = stripped(operand);
+        let (run, rest) = operand.split_at(clause_run(operand.as_bytes()));
+        let clause = Clause::of(alloc, operator, run)?;
+        Ok((clause, stripped(rest)))
     }
 }

@@ -1,7 +1,7 @@
 //! Clauses: what is read and what is refused, how they are written, and which versions they admit.
 
 use crate::tests::lines::{expect, expect_same};
-use pep_clause::{Clause, ClauseFault, Op, is_final};
+use pep_clause::{Clause, ClauseFault, Op, Operand};
 use pep_version::{Version, VersionFault};
 use std::alloc::Global;
 use std::process::Abort;
@@ -27,6 +27,13 @@ const READ: [(&str, Check); 9] = [
 const EXACT: [(&str, Check); 2] = [
     ("===FOO", Check::Exact(Some("foo"))),
     ("==1.0", Check::Exact(None)),
+];
+
+// Clauses, and what stands behind their operators.
+const OPERANDS: [(&str, Check); 3] = [
+    ("== 1.0C+X", Check::Operand("1.0rc0+x")),
+    ("!=1!02.*", Check::Operand("1!2.*")),
+    ("===FOO", Check::Operand("foo")),
 ];
 
 const FAULTY: [(&str, ClauseFault); 14] = [
@@ -55,6 +62,27 @@ fn refuses_clauses(rt: HostRuntime) {
     for &(text, fault) in &FAULTY {
         expect_same(&rt, text, fault_of(rt.alloc(), text), Some(fault));
     }
+}
+
+// Texts, the clause in front of each, and what stands behind it.
+const IN_FRONT: [(&str, &str, &str); 4] = [
+    (" >= 1 , <2", ">=1", ", <2"),
+    ("==1.* ;extra", "==1.*", ";extra"),
+    ("===Foo", "===foo", ""),
+    ("~=1.0.post1 x", "~=1.0.post1", "x"),
+];
+
+fn is_in_front(alloc: Global, text: &str, clause: &str, rest: &str) -> Result<bool, ClauseFault> {
+    let (found, behind) = Clause::at_front(alloc, text)?;
+    Ok(found.text(alloc)?.as_str() == clause && behind == rest)
+}
+
+#[test]
+fn clauses_in_front(rt: HostRuntime) -> Result<(), ClauseFault> {
+    for &(text, clause, rest) in &IN_FRONT {
+        expect(&rt, text, is_in_front(rt.alloc(), text, clause, rest)?);
+    }
+    Ok(())
 }
 
 // Texts, and how many bytes of clauses stand in front.
@@ -99,7 +127,7 @@ const FINAL: [(&str, bool); 6] = [
 ];
 
 fn is_final_text(alloc: Global, text: &str) -> Result<bool, VersionFault> {
-    Ok(is_final(&Version::read(alloc, text)?))
+    Ok(Version::read(alloc, text)?.is_final())
 }
 
 #[test]
@@ -151,6 +179,8 @@ enum Check {
     Read(Op, &'static str),
     // The text that it demands.
     Exact(Option<&'static str>),
+    // What stands behind its operator.
+    Operand(&'static str),
     // The operator of its copy, which is written as the clause was.
     Copied(Op),
     // A version, and whether it admits that, itself and where it is asked for by its operator.
@@ -216,6 +246,19 @@ fn is_no_clause(alloc: Global, clause: &Clause, operator: Op) -> Result<bool, Cl
     Ok(clause.admits_by(operator, &candidate).is_none())
 }
 
+// What stands behind the operator, as it is written.
+fn operand_text(alloc: Global, clause: &Clause) -> Result<String, ClauseFault> {
+    match clause.operand() {
+        Operand::Version(version) => Ok(version.text(alloc)?),
+        Operand::Prefix(release) => {
+            let mut text = release.text(alloc)?;
+            text.push_str(".*")?;
+            Ok(text)
+        }
+        Operand::Text(text) => Ok(String::from_str(alloc, text.as_str())?),
+    }
+}
+
 fn holds_of(
     alloc: Global,
     text: &str,
@@ -225,6 +268,7 @@ fn holds_of(
     match *check {
         Check::Read(operator, behind) => is_read(alloc, clause, operator, behind),
         Check::Exact(wanted) => Ok(clause.exact_text() == wanted),
+        Check::Operand(wanted) => Ok(operand_text(alloc, clause)?.as_str() == wanted),
         Check::Copied(operator) => is_copied(alloc, clause, text, operator),
         Check::Admits(version, is_wanted) => is_admitted(alloc, clause, version, is_wanted),
         Check::NoClause(operator) => is_no_clause(alloc, clause, operator),
@@ -250,6 +294,7 @@ fn expect_checks(
 fn clauses(rt: HostRuntime) -> Result<(), ClauseFault> {
     expect_checks(&rt, &READ)?;
     expect_checks(&rt, &EXACT)?;
+    expect_checks(&rt, &OPERANDS)?;
     expect_checks(&rt, &COPIED)?;
     expect_checks(&rt, &ADMITTED)?;
     expect_checks(&rt, &NOT_ADMITTED)

@@ -36,7 +36,7 @@ fn push_before(alloc: Global, cuts: &mut Vec<Cut>, texts: &[&str]) -> Result<(),
 // Cuts, each below the next.
 fn cuts(alloc: Global) -> Result<Vec<Cut>, ClauseFault> {
     let mut cuts = Vec::new(alloc);
-    cuts.push(Cut::least(alloc)?)?;
+    cuts.push(Cut::least())?;
     push_before(alloc, &mut cuts, &["0", "1.dev0", "1a1", "1", "1+x"])?;
     push_ends(alloc, &mut cuts, "==1+x", false)?;
     push_before(alloc, &mut cuts, &["1.post1"])?;

@@ -2,10 +2,10 @@
 //! texts beside `extra`.
 
 use crate::tests::lines::{Kind, expect, expect_lines, expect_same};
-use pep_marker::{Environment, MarkerFault, Variable, laws, norm_of};
+use pep_marker::{Environment, HeaderIn, MarkerFault, Variable, laws, norm_of};
 use std::alloc::{AllocError, Global};
 use std::process::Abort;
-use tests_kit::{MACHINE, MACHINE_HEADER, repeated};
+use tests_kit::{MACHINE, MACHINE_HEADER, STANDARD_HEADER, repeated};
 
 const VARIABLES: [Variable; 11] = [
     Variable::OsName,
@@ -92,6 +92,36 @@ fn headers(rt: HostRuntime) -> Result<(), MarkerFault> {
         expect(&rt, extra, has_header(rt.alloc(), extra, last)?);
     }
     laws::one_header();
+    Ok(())
+}
+
+// Texts, and what header stands in front of each, seen from the machine.
+const IN_FRONT: [(&str, &str); 4] = [
+    (MACHINE_HEADER, "its own"),
+    (STANDARD_HEADER, "that of another environment"),
+    ("flask open\n", "none"),
+    ("pep-table 2\nflask open\n", "that of no environment"),
+];
+
+fn header_in(
+    alloc: Global,
+    environment: &Environment,
+    text: &str,
+) -> Result<&'static str, MarkerFault> {
+    match environment.header_in(alloc, text)? {
+        HeaderIn::Missing => Ok("none"),
+        HeaderIn::Own(_) => Ok("its own"),
+        HeaderIn::Other(_, _) => Ok("that of another environment"),
+        HeaderIn::Bad(_) => Ok("that of no environment"),
+    }
+}
+
+#[test]
+fn headers_in_front(rt: HostRuntime) -> Result<(), MarkerFault> {
+    let machine = Environment::of(rt.alloc(), &MACHINE)?;
+    for &(text, wanted) in &IN_FRONT {
+        expect_same(&rt, text, header_in(rt.alloc(), &machine, text)?, wanted);
+    }
     Ok(())
 }
 

@@ -2,7 +2,7 @@
 
 use crate::tests::lines::{Kind, expect, expect_lines, expect_own};
 use crate::tests::ordered::ORDERED;
-use pep_clause::{ClauseFault, Cut, Range, VersionSet};
+use pep_clause::{CUT_ROOM, ClauseFault, Cut, Range, VersionSet};
 use pep_version::{Key, Version, VersionFault};
 use std::alloc::{AllocError, Global};
 use std::cmp::Ordering;
@@ -180,7 +180,20 @@ fn other_bytes_are_no_keys(rt: HostRuntime) -> Result<(), VersionFault> {
 }
 
 // A cut's text, and its bytes with the text.
-const CUTS: [(&str, &str); 5] = [
+const CUTS: [(&str, &str); 8] = [
+    (
+        "before 0.dev0",
+        "000000000000000000100000000000000000000000 before 0.dev0",
+    ),
+    (
+        "before 1.2.3.4rc5.post6.dev7",
+        "00000000000000000100000000000000010100000000000000020100000000000000030100000000000000040040\
+        000000000000000501000000000000000600000000000000000700 before 1.2.3.4rc5.post6.dev7",
+    ),
+    (
+        "before 1!2",
+        "00000000000000010100000000000000020050000100 before 1!2",
+    ),
     (
         "before 3.dev0",
         "000000000000000001000000000000000300100000000000000000000000 before 3.dev0",
@@ -199,9 +212,31 @@ const CUTS: [(&str, &str); 5] = [
 
 // A cut's bytes, and its text.
 fn shown_cut(alloc: Global, cut: &Cut) -> Result<String, ClauseFault> {
-    let bytes = hex(alloc, cut.bytes())?;
+    let mut room = [0; CUT_ROOM];
+    let bytes = hex(alloc, cut.bytes(&mut room))?;
     let text = cut.text(alloc)?;
     Ok(format!(in alloc; "{bytes} {text}")?)
+}
+
+// Cuts, and their texts where they are packed.
+const PACKED: [(&str, &str); 6] = [
+    ("before 0.dev0", "before 0.dev0"),
+    (
+        "before 1.2.3.4rc5.post6.dev7",
+        "before 1.2.3.4rc5.post6.dev7",
+    ),
+    ("end", "end"),
+    ("before 1!2", "not packed"),
+    ("past 1.7", "not packed"),
+    ("after 1+x", "not packed"),
+];
+
+// The text of a packed cut.
+fn packed_text(alloc: Global, cut: &Cut) -> Result<String, ClauseFault> {
+    match cut.packed() {
+        Some(packed) => Cut::of_packed(packed).text(alloc),
+        None => Ok(String::from_str(alloc, "not packed")?),
+    }
 }
 
 // Cuts of each form whose bytes don't lie in the value, and one by a label alone; and their texts,
@@ -226,7 +261,8 @@ const LONG_CUTS: [(&str, &str); 6] = [
 
 // Whether a cut's bytes are more than lie in the value, and its text.
 fn sized(alloc: Global, cut: &Cut) -> Result<String, ClauseFault> {
-    let size = if cut.bytes().len() > 64 {
+    let mut room = [0; CUT_ROOM];
+    let size = if cut.bytes(&mut room).len() > 64 {
         "long"
     } else {
         "short"
@@ -241,10 +277,17 @@ fn pushed_cut(alloc: Global, cut: &Cut) -> Result<String, ClauseFault> {
     Ok(text)
 }
 
+// How the bytes of two cuts stand.
+fn order_of_bytes(one: &Cut, other: &Cut) -> Ordering {
+    let mut room = [0; CUT_ROOM];
+    let mut other_room = [0; CUT_ROOM];
+    one.bytes(&mut room).cmp(other.bytes(&mut other_room))
+}
+
 // The line of the cut's copy, if it is equal to the cut, and by its bytes.
 fn copied_cut_line(alloc: Global, line: &CutLine, cut: &Cut) -> Result<String, ClauseFault> {
     let copy = cut.copied(alloc)?;
-    if copy == *cut && copy.bytes() == cut.bytes() {
+    if copy == *cut && order_of_bytes(&copy, cut) == Ordering::Equal {
         own_cut_line(alloc, line, &copy)
     } else {
         Ok(String::from_str(alloc, "another")?)
@@ -257,6 +300,7 @@ fn own_cut_line(alloc: Global, line: &CutLine, cut: &Cut) -> Result<String, Clau
         CutLine::Pushed => pushed_cut(alloc, cut),
         CutLine::Bytes | CutLine::BytesOfCopy => shown_cut(alloc, cut),
         CutLine::Size | CutLine::SizeOfCopy => sized(alloc, cut),
+        CutLine::Packed => packed_text(alloc, cut),
     }
 }
 
@@ -281,6 +325,8 @@ pub(crate) enum CutLine {
     BytesOfCopy,
     /// The size and the text of its copy.
     SizeOfCopy,
+    /// Its text, if it is packed.
+    Packed,
 }
 
 impl Kind for CutLine {
@@ -299,7 +345,8 @@ fn cuts(rt: HostRuntime) -> Result<(), ClauseFault> {
     expect_lines(&rt, &CutLine::Bytes, &CUTS)?;
     expect_lines(&rt, &CutLine::BytesOfCopy, &CUTS)?;
     expect_lines(&rt, &CutLine::Size, &LONG_CUTS)?;
-    expect_lines(&rt, &CutLine::SizeOfCopy, &LONG_CUTS)
+    expect_lines(&rt, &CutLine::SizeOfCopy, &LONG_CUTS)?;
+    expect_lines(&rt, &CutLine::Packed, &PACKED)
 }
 
 // The versions of these cuts.
@@ -386,7 +433,9 @@ pub(crate) fn cut_has_copy(alloc: Global, cut: &Cut) -> Result<bool, ClauseFault
 
 // Whether a cut's bytes begin with those of the key, and it has so many.
 fn is_front(cut: &Cut, key: &Key, size: usize) -> bool {
-    cut.bytes().starts_with(key.bytes()) && cut.bytes().len() == size
+    let mut room = [0; CUT_ROOM];
+    let bytes = cut.bytes(&mut room);
+    bytes.starts_with(key.bytes()) && bytes.len() == size
 }
 
 // Whether a cut has so many bytes, begins with those of the key, has an equal copy, and this text.
@@ -495,7 +544,7 @@ fn compare_keys(rt: &impl Abort, keys: &[Key]) {
 
 fn is_cut_order(one: &Cut, other: &Cut, wanted: Ordering) -> bool {
     one.cmp(other) == wanted
-        && one.bytes().cmp(other.bytes()) == wanted
+        && order_of_bytes(one, other) == wanted
         && (one == other) == (wanted == Ordering::Equal)
 }
 

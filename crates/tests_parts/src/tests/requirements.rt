@@ -82,7 +82,7 @@ const CLAUSES: [(&str, &str); 11] = [
     ),
 ];
 
-const URLS: [(&str, &str); 4] = [
+const URLS: [(&str, &str); 5] = [
     ("a@https://x.test/1", "a @ https://x.test/1"),
     (
         "A @ HTTPS://x.test/1 ; os_name == \"nt\"",
@@ -91,6 +91,10 @@ const URLS: [(&str, &str); 4] = [
     (
         "a[x] @ \t https://x.test/p?q=1#a;b#c@d \t",
         "a[x] @ https://x.test/p?q=1#a;b#c@d",
+    ),
+    (
+        "a @ git+https://x.test/t/a.git@v1#egg=a[b,c]",
+        "a @ git+https://x.test/t/a.git@v1#egg=a[b,c]",
     ),
     (
         "a @ file:///tmp/x;y\t;extra=='z'",
@@ -321,6 +325,18 @@ impl Kind for UrlAlone {
     }
 }
 
+// The name that a line begins with, whatever stands behind it.
+struct NameOfLine;
+
+impl Kind for NameOfLine {
+    type Fault = RequireFault;
+
+    fn line(&self, alloc: Global, row: &str) -> Result<String, RequireFault> {
+        let name = Requirement::name_of_line(alloc, row)?;
+        Ok(String::from_str(alloc, name.text())?)
+    }
+}
+
 #[test]
 fn parts(rt: HostRuntime) -> Result<(), RequireFault> {
     expect_lines(
@@ -339,7 +355,9 @@ fn parts(rt: HostRuntime) -> Result<(), RequireFault> {
             "HTTPS://X.test/a/../b https://x.test/b false",
         )],
     )?;
-    expect_own(&rt, &UrlAlone, &["https://x.test/b"])
+    assert!(rt; UrlText::has_common_form("https://x.test/b") && !UrlText::has_common_form("b"));
+    expect_own(&rt, &UrlAlone, &["https://x.test/b"])?;
+    expect_lines(&rt, &NameOfLine, &[(" Foo_.Bar [ ?", "foo-bar")])
 }
 
 // Lines, and whether they apply on the machine.

@@ -4,7 +4,10 @@ use crate::tests::lines::{expect_line, expect_row};
 use pep_marker::{Environment, Name};
 use pep_require::{RequireFault, Requirement};
 use pep_table::Answer;
-use pep_tool::{ArgumentFault, Fault, Input, Kind, check_bytes, list_of, merge_bytes, project_of};
+use pep_tool::{
+    ArgumentFault, Cause, Fault, Input, Kind, ProjectFile, check_bytes, list_of, merge_bytes,
+    project_of, text_of_line,
+};
 use pep_version::Version;
 use std::alloc::{AllocError, Global};
 use std::test::Fail;
@@ -238,6 +241,54 @@ fn requirements_of_projects(rt: HostRuntime) -> Result<(), Fail> {
         expect_row(&rt, project, found.as_str(), want);
     }
     Ok(())
+}
+
+// An extra, and the texts that a file is asked for with it, each on a line.
+const ASKED: [(&str, &str); 3] = [
+    ("", "a>=1\n"),
+    ("X", "a>=1\na<2\nb\n"),
+    ("Y_z", "a>=1\na<3\n"),
+];
+
+fn asked_lines(alloc: Global, file: &ProjectFile, extra: &str) -> Result<String, Cause> {
+    let mut lines = String::new(alloc);
+    for text in file.texts(alloc, extra, None)?.as_slice() {
+        lines.push_str(text)?;
+        lines.push_str("\n")?;
+    }
+    Ok(lines)
+}
+
+#[test]
+fn texts_of_a_file(rt: HostRuntime) -> Result<(), Fail> {
+    let file = ProjectFile::read(rt.alloc(), TWO_ARRAYS.as_bytes())?;
+    for &(extra, want) in &ASKED {
+        let found = asked_lines(rt.alloc(), &file, extra)?;
+        expect_row(&rt, extra, found.as_str(), want);
+    }
+    Ok(())
+}
+
+// Lines of lists, and the texts of their requirements.
+const TEXTS_ON: [(&str, &str); 4] = [
+    (" a [ x ] \r", "a [ x ]"),
+    ("?", "?"),
+    ("\t# a", "none"),
+    ("", "none"),
+];
+
+fn text_on(line: &str) -> &str {
+    match text_of_line(line.as_bytes()) {
+        Ok(text) => text.unwrap_or("none"),
+        Err(_) => "refused",
+    }
+}
+
+#[test]
+fn texts_on_lines(rt: HostRuntime) {
+    for &(line, want) in &TEXTS_ON {
+        expect_row(&rt, line, text_on(line), want);
+    }
 }
 
 // A group of a project file, and its requirements or the line of the fault.

@@ -158,6 +158,28 @@ fn faults(rt: HostRuntime) -> Result<(), Fail> {
     Ok(())
 }
 
+// Faults of the third line of an input.
+const ON_LINES: [(LineFault, &str); 2] = [
+    (
+        LineFault::NotUtf8,
+        "refused input 1 line 3 code 57 51\ninput 1: line 3: not UTF-8",
+    ),
+    (
+        LineFault::Requirement(RequireFault::NoMemory),
+        "refused code 60\nout of memory",
+    ),
+];
+
+#[test]
+fn faults_on_lines(rt: HostRuntime) -> Result<(), Fail> {
+    for &(fault, want) in &ON_LINES {
+        let fault = Fault::of(Place::Input(1), Cause::on_line(3, fault));
+        let found = fault_line(rt.alloc(), &fault)?;
+        expect_line(&rt, found.as_str(), want);
+    }
+    Ok(())
+}
+
 #[test]
 fn faults_of_versions(rt: HostRuntime) -> Result<(), Fail> {
     for &(fault, want) in &OF_VERSIONS {

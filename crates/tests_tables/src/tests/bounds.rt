@@ -1,8 +1,8 @@
 //! Which clauses have packed ranges, and which; and what is left over where some are left out.
 
 use crate::tests::lines::expect_row;
-use packed_cuts::{LeftOut, PackedCut, PackedRange, PackedRanges};
-use pep_clause::{Clause, ClauseFault, VersionSet};
+use packed_cuts::{LeftOut, PackedRange, PackedRanges};
+use pep_clause::{Clause, ClauseFault, Cut, PackedCut, VersionSet};
 use std::alloc::Global;
 
 // The text, and the other one behind it where they differ.
@@ -15,7 +15,7 @@ fn one_text(alloc: Global, text: &str, other: &str) -> Result<String, ClauseFaul
 }
 
 fn text_of_cut(alloc: Global, cut: PackedCut) -> Result<String, ClauseFault> {
-    cut.cut(alloc)?.text(alloc)
+    Cut::of_packed(cut).text(alloc)
 }
 
 fn pushed(alloc: Global, cut: PackedCut) -> Result<String, ClauseFault> {

@@ -1,5 +1,5 @@
 use Rattle.std.proofs.Common.{◌∙◌, ap, rules}
-use Rattle.specifiers.specs.Way.OperatorEnds.{leaves_out}
+use Rattle.specifiers.specs.Operator.{leaves_out}
 use Rattle.pep_clause.specs.Way.Ends.{between}
 use Rattle.clause_memory.proofs.packed_clause.demand_of.Goals as goal
 

@@ -2,7 +2,7 @@ use Rattle.std.proofs.Common.{◌≡◌, Some, rules, take}
 use Rattle.std.proofs.lemmas.Option.{IfSome_then}
 use Rattle.texts.specs.Runs.{without_leading_blanks}
 use Rattle.specifiers.specs.Clause.{operator_of}
-use Rattle.pep_require.specs.LineParts.{after_operator}
+use Rattle.specifiers.specs.Front.{after_operator}
 use Rattle.clause_memory.proofs.PlainClauses.{plain_read, release_end}
 use Rattle.clause_memory.proofs.plain.plain_demand.Goals as goal
 

@@ -3,11 +3,11 @@ use Rattle.std.specs.Prelude.{IsTrue}
 use Rattle.pep_require.specs.Requirement.{UrlParts}
 use Rattle.clause_memory.proofs.sink.put_url.Goals as goal
 
-pub returns-then-is_its_text-clause-ok : goal.returns-then-is_its_text-clause-ok
-returns-then-is_its_text-clause-ok c =
+pub returns-then-has_common_form-clause-ok : goal.returns-then-has_common_form-clause-ok
+returns-then-has_common_form-clause-ok c =
     let url : UrlParts = record { written = c.args.written.now; text = c.args.written.now } in record {
       url = url;
-      reads = c.is_its_text.ensures.reads (subst IsTrue (sym c.if-is_its_text.true) refl);
+      reads = c.has_common_form.ensures.reads (subst IsTrue (sym c.if-has_common_form.true) refl);
       adds = c.in_ok-put_url.ensures url refl;
     }
 

@@ -3,7 +3,7 @@ use Rattle.std.specs.List.{prefix_len}
 use Rattle.texts.specs.Bytes.{is_clause_byte}
 use Rattle.specifiers.specs.Clause.{operator_of}
 use Rattle.specifiers.specs.declared.op.Op.TheVariants.{Exact}
-use Rattle.pep_require.proofs.BoundLoops.{boundary-clause, boundary-operator}
+use Rattle.specifiers.proofs.FrontClauses.{boundary-clause, boundary-operator}
 use Rattle.clause_memory.proofs.text.text_at.Goals as goal
 
 pub split_at-requires : goal.split_at-requires

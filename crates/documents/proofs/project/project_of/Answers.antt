@@ -7,5 +7,5 @@ use Rattle.documents.proofs.project.project_of.Goals as goal
 pub returns-in-Err-clause-refused : goal.returns-in-Err-clause-refused
 returns-in-Err-clause-refused c =
     placed (IsRefusedProject c.args.extra.now (option_copied c.args.group) c.args.bytes.now) (Input 1) c.in-Err.cause
-    c.fault_in.result c.in-Err.ensures.refused
-    c.fault_in.ensures.cause c.fault_in.ensures.memory c.fault_in.ensures.place
+    c.of.result c.in-Err.ensures.refused
+    c.of.ensures.cause c.of.ensures.memory c.of.ensures.place

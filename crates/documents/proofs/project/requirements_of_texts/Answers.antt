@@ -8,8 +8,8 @@ use Rattle.documents.proofs.project.requirements_of_texts.Goals as goal
 pub returns-in-Err-clause-refused : goal.returns-in-Err-clause-refused
 returns-in-Err-clause-refused c =
     text_refused c.args.texts.now c.loop-text.text-index c.loop-text.number _
-    c.in-Err.fault c.line_cause.result c.loop-text-test.true c.loop-text.invariant.1
-    c.in-Err.ensures.refused c.line_cause.ensures.memory c.line_cause.ensures.line
+    c.in-Err.fault c.on_line.result c.loop-text-test.true c.loop-text.invariant.1
+    c.in-Err.ensures.refused c.on_line.ensures.memory c.on_line.ensures.line
 
 pub loop-text-preserved : goal.loop-text-preserved
 loop-text-preserved c = (

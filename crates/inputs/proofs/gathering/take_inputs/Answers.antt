@@ -7,12 +7,12 @@ use Rattle.inputs.proofs.gathering.take_inputs.Goals as goal
 pub returns-in-Err-clause-refused : goal.returns-in-Err-clause-refused
 returns-in-Err-clause-refused c =
     input_blamed_in c.args.environment.now c.args.inputs.now c.loop-input.input-index
-    c.loop-input.number c.input-item.result c.in-Err.cause c.fault_in.result
+    c.loop-input.number c.input-item.result c.in-Err.cause c.of.result
     c.loop-input-test.true c.input-item.is c.loop-input.invariant.1
     (subst (λ e. RefusesAsInput e c.input-item.result.kind c.input-item.result.group
     c.input-item.result.bytes.items c.in-Err.cause)
     c.loop-input.invariant.2 c.in-Err.ensures.refused)
-    c.fault_in.ensures.cause c.fault_in.ensures.memory c.fault_in.ensures.place
+    c.of.ensures.cause c.of.ensures.memory c.of.ensures.place
 
 pub loop-input-preserved : goal.loop-input-preserved
 loop-input-preserved c =

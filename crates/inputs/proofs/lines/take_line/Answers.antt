@@ -1,6 +1,6 @@
 use Rattle.std.proofs.Common.{Some, inl, inr, option_map, subst}
 use Rattle.std.proofs.lemmas.Result.{IfErr-weaker, IfOk-weaker}
-use Rattle.inputs.specs.Way.LineReading.{HasText}
+use Rattle.inputs.specs.Lists.{HasText}
 use Rattle.inputs.specs.Refusal.{no_line}
 use Rattle.inputs.proofs.lines.take_line.Goals as goal
 use Rattle.inputs.proofs.lines.take_line.Goals.{In-Ok-Some}

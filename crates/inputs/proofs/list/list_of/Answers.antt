@@ -14,6 +14,6 @@ returns-in-Ok-clause-ok c =
 
 pub returns-in-Err-clause-refused : goal.returns-in-Err-clause-refused
 returns-in-Err-clause-refused c =
-    placed (IsRefusedList c.args.bytes.now) (Input 1) c.in-Err.cause c.fault_in.result
+    placed (IsRefusedList c.args.bytes.now) (Input 1) c.in-Err.cause c.of.result
     (list_refused c.args.bytes.now c.in-Err.cause c.in-Err.ensures.refused)
-    c.fault_in.ensures.cause c.fault_in.ensures.memory c.fault_in.ensures.place
+    c.of.ensures.cause c.of.ensures.memory c.of.ensures.place

@@ -31,7 +31,7 @@ returns g c = record {
     no_failure = tt;
     refused = reading_refused c.args.environment.now (g.S.Source.left c.args.source.now)
         (g.S.Source.left c.take_source.new.source) (g.S.Source.device c.take_source.new.source)
-        c.new-nothing.result c.in-Err.cause c.fault_in.result c.new-nothing.ensures
+        c.new-nothing.result c.in-Err.cause c.of.result c.new-nothing.ensures
         (subst (λ w. RefusesSource (GathersText c.args.environment.now w)
         (RefusesTextIn c.args.environment.now) (g.S.Source.left c.args.source.now)
         (g.S.Source.left c.take_source.new.source) (g.S.Source.device c.take_source.new.source).failed
@@ -41,7 +41,7 @@ returns g c = record {
         (g.S.Source.left c.take_source.new.source) (g.S.Source.device c.take_source.new.source).failed
         c.new-nothing.result c.in-Err.cause) c.new-taker.ensures.environment
         c.in-Err.ensures.refused))
-        c.fault_in.ensures.cause c.fault_in.ensures.memory c.fault_in.ensures.place;
+        c.of.ensures.cause c.of.ensures.memory c.of.ensures.place;
     failed = search rules;
     bytes = search rules;
     calls = search rules;

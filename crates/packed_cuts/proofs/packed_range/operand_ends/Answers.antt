@@ -1,7 +1,7 @@
 use Rattle.std.proofs.Common.{IfSome, ◌∙◌, string_bytes, subst, sym}
 use Rattle.specifiers.specs.Clause.{prefix_of}
 use Rattle.specifiers.specs.ClauseView.{IsStored, clause_of}
-use Rattle.specifiers.specs.Way.OperatorEnds.{leaves_out}
+use Rattle.specifiers.specs.Operator.{leaves_out}
 use Rattle.pep_clause.specs.Way.Ends.{between}
 use Rattle.packed_cuts.specs.Way.PackedRange.{IsBetween}
 use Rattle.packed_cuts.proofs.ReleaseRanges.{holds_prefix, holds_text, holds_version}

@@ -3,5 +3,5 @@ use Rattle.pep_c.proofs.within.other_clauses.Goals as goal
 
 pub returns-in-Err-clause-refused : goal.returns-in-Err-clause-refused
 returns-in-Err-clause-refused c =
-    second_refused c.args.bytes.now c.in-Err.fault c.fault_in.result c.in-Err.ensures.refused
-    c.fault_in.ensures.cause c.fault_in.ensures.memory c.fault_in.ensures.place
+    second_refused c.args.bytes.now c.in-Err.fault c.of.result c.in-Err.ensures.refused
+    c.of.ensures.cause c.of.ensures.memory c.of.ensures.place

@@ -27,7 +27,7 @@ returns-clause-shards c =
 pub returns-in-Err-clause-refused : goal.returns-in-Err-clause-refused
 returns-in-Err-clause-refused c =
     refused_or_none c.args.count c.loop-rest.number c.args.bytes.now c.first_part.result.0.now
-    (left_parts 10 c.first_part.result.1) c.loop-rest.shards.items c.in-Err.fault c.fault_in.result _
+    (left_parts 10 c.first_part.result.1) c.loop-rest.shards.items c.in-Err.fault c.of.result _
     (rw (c.in-Some.is, c.first_part.ensures.parts) at c.loop-rest.invariant.lines)
-    c.in-Err.ensures.refused c.line_cause.ensures.memory c.line_cause.ensures.line c.fault_in.ensures.cause
-    c.fault_in.ensures.memory c.fault_in.ensures.place
+    c.in-Err.ensures.refused c.on_line.ensures.memory c.on_line.ensures.line c.of.ensures.cause
+    c.of.ensures.memory c.of.ensures.place

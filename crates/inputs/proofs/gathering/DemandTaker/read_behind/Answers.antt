@@ -6,8 +6,8 @@ use Rattle.inputs.proofs.gathering.DemandTaker.read_behind.Goals as goal
 pub returns-in-Err-clause-refused : goal.returns-in-Err-clause-refused
 returns-in-Err-clause-refused c =
     behind_refused c.args.texts.now c.split_at.result.1.now c.args.number c.loop-text.text-index c.loop-text.number _
-    c.in-Err.fault c.line_cause.result c.split_at.ensures.back c.loop-text-test.true c.loop-text.invariant.counted
-    c.in-Err.ensures.refused c.line_cause.ensures.memory c.line_cause.ensures.line
+    c.in-Err.fault c.on_line.result c.split_at.ensures.back c.loop-text-test.true c.loop-text.invariant.counted
+    c.in-Err.ensures.refused c.on_line.ensures.memory c.on_line.ensures.line
 
 pub loop-text-preserved : goal.loop-text-preserved
 loop-text-preserved c =

@@ -29,5 +29,5 @@ returns-in_default-clause-refused c =
     text_blamed c.args.texts.now c.loop-text.text-index _
     (get_or_default c.args.texts.now c.loop-text.text-index _ _ c.loop-text-test.true)
     c.loop-text-test.true c.args.self.now.sink c.loop-text.self.sink c.loop-text.number
-    c.in-Err.fault c.line_cause.result at.counted c.in_default.not-Undefined
-    c.in-Err.ensures.refused c.line_cause.ensures.memory c.line_cause.ensures.line
+    c.in-Err.fault c.on_line.result at.counted c.in_default.not-Undefined
+    c.in-Err.ensures.refused c.on_line.ensures.memory c.on_line.ensures.line

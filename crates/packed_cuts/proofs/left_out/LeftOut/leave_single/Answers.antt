@@ -3,7 +3,7 @@ use Rattle.std.proofs.lemmas.List.Elements.{All-push}
 use Rattle.pep_clause.specs.OperatorTable.{outside}
 use Rattle.pep_clause.specs.VersionSet.{is_point}
 use Rattle.packed_cuts.specs.Way.LeftOut.{IsSingle, all_parts, single}
-use Rattle.packed_cuts.specs.PackedCut.{right_behind}
+use Rattle.pep_clause.specs.PackedCut.{right_behind}
 use Rattle.packed_cuts.proofs.LeftOver.{points-behind}
 use Rattle.packed_cuts.proofs.SingleCuts.{all_normal, left-single}
 use Rattle.packed_cuts.proofs.left_out.LeftOut.leave_single.Goals as goal

@@ -1,4 +1,4 @@
-use Rattle.std.proofs.Common.{◌≡◌, ◌++◌, ◌∙◌, rules}
+use Rattle.std.proofs.Common.{◌≡◌, ◌++◌, ◌∙◌}
 use Rattle.pep_clause.specs.Cut.{least}
 use Rattle.pep_clause.specs.OperatorTable.{outside, range}
 use Rattle.pep_clause.proofs.RangeRows.{IsNormal-outside}
@@ -9,7 +9,7 @@ use Rattle.pep_clause.proofs.set.VersionSet.outside.Goals.{In_ok-push_range-2}
 ranges_are : (c : In_ok-push_range-2) → c.push_range-2.new.done.items ≡ outside c.args.low c.args.high
 ranges_are c =
     let none = c.new-ranges.ensures.items in
-    let first : c.in_ok-least.least ≡ least = search rules in
+    let first = c.least.ensures in
     let last = c.end.ensures in
     let under : c.push_range.new.done.items ≡ range least c.args.low =
     c.in_ok-push_range.ensures ∙ (λ i. none i ++ range (first i) c.args.low) in

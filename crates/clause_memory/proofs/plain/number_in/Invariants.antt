@@ -1,9 +1,0 @@
-use Rattle.std.proofs.Common.{length}
-use Rattle.clause_memory.proofs.PlainClauses.{DigitsSoFar}
-use Rattle.clause_memory.proofs.plain.number_in.Given as goal
-
-abbrev pub invariant-loop-first : goal.invariant-loop-first
-invariant-loop-first l = DigitsSoFar l.fn.text l.rest l.value
-
-abbrev pub decreases-loop-first : goal.decreases-loop-first
-decreases-loop-first l = length l.rest

@@ -1,5 +1,0 @@
-use Rattle.packed_cuts.proofs.PackedRead.{packed_cuts_keep_order}
-use Rattle.packed_cuts.proofs.laws.packed_cuts_keep_order.Goals as goal
-
-pub returns : goal.returns
-returns c = packed_cuts_keep_order

@@ -1,0 +1,19 @@
+use Rattle.std.proofs.Common.{◌∙◌, None, ap, refl, subst, sym}
+use Rattle.pep_version.specs.Order.{with_suffixes}
+use Rattle.pep_clause.proofs.PackedRead.{before-read, packed-before, release-version}
+use Rattle.pep_clause.specs.PackedCut.{IsPackedCut, IsShortVersion, cut_at, release_alone}
+use Rattle.pep_clause.proofs.packed_cut.PackedCut.before_release.Goals as goal
+
+pub invariant_of-result : goal.invariant_of-result
+invariant_of-result c =
+    let r = c.args.release.now in
+    let v = with_suffixes (release_alone r) None c.args.post c.args.dev in
+    let short : IsShortVersion v = c.in_ok-word.ensures.exactly.0 refl in
+    subst IsPackedCut (sym c.in_ok-word.ensures.word)
+    (packed-before v (release-version r c.args.post c.args.dev c.requires short) short)
+
+pub returns-clause-cut : goal.returns-clause-cut
+returns-clause-cut c =
+    let v = with_suffixes (release_alone c.args.release.now) None c.args.post c.args.dev in
+    let short : IsShortVersion v = c.in_ok-word.ensures.exactly.0 refl in
+    ap cut_at c.in_ok-word.ensures.word ∙ before-read v short c.requires

@@ -1,0 +1,317 @@
+// Cuts as numbers of sixteen bytes.
+
+mod number;
+mod parts;
+mod reading;
+mod word;
+
+ghost use Rattle.std.specs.Prelude.{
+  ◌≡◌,
+  ◌+◌,
+  ◌++◌,
+  ◌↔◌,
+  ◌<◌,
+  None,
+  length,
+  refl,
+  IfErr,
+  IfSome,
+  IsSome,
+  IsTrue,
+  OnErr,
+  OnOk,
+  string_bytes,
+};
+ghost use Rattle.std.specs.Cmp.{
+  eq_by_cmp_equiv,
+  partial_equiv_from_equiv,
+  partial_order_from_total,
+};
+ghost use Rattle.std.specs.Ordering.{as_partial_cmp, eq_by_cmp};
+ghost use Rattle.pep_version.specs.Order.{with_suffixes};
+ghost use Rattle.pep_version.specs.Text.{KeepsFront};
+ghost use Rattle.pep_clause.specs.Cut.{IsCut, cut_cmp, cut_text, end, least};
+ghost use Rattle.pep_clause.specs.CutBytes.{cut_bytes};
+ghost use Rattle.pep_clause.specs.Way.Joined.{earlier, later};
+ghost use Rattle.pep_clause.specs.Laws.{cut_total};
+ghost use Rattle.pep_clause.specs.OperatorTable.{before_dev, before_place};
+ghost use Rattle.pep_clause.specs.PackedCut.{
+  IsPackedCut,
+  IsShortRelease,
+  IsShortVersion,
+  packed_word,
+  release_alone,
+  right_behind,
+  word_before,
+};
+ghost use Rattle.texts.specs.Lists.{is_empty};
+ghost use Rattle.texts.specs.TextOut.{Extends};
+
+use crate::packed_cut::parts::{key_bytes_at, put_version_at};
+use crate::packed_cut::word::{four, suffixed, word_of};
+use pep_version::{Phase, Version};
+use specifiers::ClauseFault;
+use std::cmp::Ordering;
+use std::marker::Model;
+use texts::TextOut;
+
+/// How many bytes the room has in which the bytes of a cut are written (see [`Cut::bytes`](crate::Cut::bytes)): those
+/// of the key of four numbers, three suffixes and no label, and a few more.
+pub const CUT_ROOM: usize = 80;
+
+// The bytes of the end.
+const END: [u8; 9] = [0xff; 9];
+
+/// A cut as one number of sixteen bytes, which most cuts have: the end of all versions, and those before a version
+/// of epoch 0 without a label, whose release is written with at most four numbers, each of at most 25 bits, whose
+/// pre-release number is below 128, and whose post- and developmental release numbers are below 127. Clauses see the
+/// cut. All of it is public for the crates above alone.
+///
+/// The number has four times 25 bits for the release and four times 7 for what stands behind it; the end has all
+/// bits. So numbers stand as the cuts do (PEP 440, "Summary of permitted suffixes and relative ordering").
+#[derive(Clone, Copy)]
+pub struct PackedCut {
+    word: u128,
+}
+
+impl Model for PackedCut {
+    ghost use Rattle.std.specs.Prelude.{◌≡◌};
+    ghost use Rattle.pep_clause.specs.Cut.{Cut};
+    ghost use Rattle.pep_clause.specs.PackedCut.{IsPackedCut, cut_at, packed_word};
+
+    ghost Value = { Cut };
+
+    ghost view = { λ p. cut_at p.word };
+
+    ghost invariant = { λ p. IsPackedCut p.word };
+
+    ghost inverse = { λ c. record { word = packed_word c } };
+
+    ghost inverse_ok = { λ p h. λ i. record { word = h.word i } };
+}
+
+// Whether the version has no local version label.
+fn is_public(version: &Version) -> bool
+    ensures { result ≡ is_empty version.now.label }
+{
+    version.label().is_empty()
+}
+
+// The number of the cut directly before the version with these suffixes in place of its own, where it has one.
+fn word_before(
+    version: &Version,
+    pre: Option<(Phase, u64)>,
+    post: Option<u64>,
+    dev: Option<u64>,
+) -> Option<u128>
+    ensures word { IfSome result (λ w.
+        w ≡ word_before (with_suffixes version.now pre post dev)) }
+    ensures exactly { IsSome result ↔ IsShortVersion (with_suffixes version.now pre post dev) }
+{
+    if version.epoch() != 0 || !is_public(version) {
+        return None;
+    }
+    let release = word_of(four(version.release())?)?;
+    suffixed(release, pre, post, dev)
+}
+
+// The same of the version of epoch 0 with this release and these suffixes, and nothing more.
+fn release_word_before(release: &[u64], post: Option<u64>, dev: Option<u64>) -> Option<u128>
+    ensures word { IfSome result (λ w.
+        w ≡ word_before (with_suffixes (release_alone release.now) None post dev)) }
+    ensures exactly { IsSome result
+        ↔ IsShortVersion (with_suffixes (release_alone release.now) None post dev) }
+{
+    let numbers = word_of(four(release)?)?;
+    suffixed(numbers, None, post, dev)
+}
+
+impl PackedCut {
+    /// The cut under all versions.
+    pub fn least() -> PackedCut
+        ensures least { result ≡ least }
+        ensures spelled { IsCut result }
+    {
+        PackedCut { word: 0 }
+    }
+
+    /// The end of all versions.
+    pub fn end() -> PackedCut
+        ensures end { result ≡ end }
+        ensures spelled { IsCut result }
+    {
+        PackedCut { word: u128::MAX }
+    }
+
+    /// The packed cut directly before the version with these suffixes in place of its own, or `None` where its epoch
+    /// isn't 0, its numbers are too large or too many, or it has a label.
+    pub fn before(
+        version: &Version,
+        pre: Option<(Phase, u64)>,
+        post: Option<u64>,
+        dev: Option<u64>,
+    ) -> Option<PackedCut>
+        ensures cut { IfSome result (λ p.
+            p ≡ before_place (with_suffixes version.now pre post dev)) }
+        ensures spelled { IfSome result (λ p. IsCut p) }
+        ensures exactly { IsSome result
+            ↔ IsShortVersion (with_suffixes version.now pre post dev) }
+    {
+        // Its clause tells that the parts make a version.
+        let _ = version.release();
+        let word = word_before(version, pre, post, dev)?;
+        Some(PackedCut { word })
+    }
+
+    /// The packed cut directly before the version of epoch 0 with this release and these suffixes, or `None` where its
+    /// numbers are too large or too many.
+    pub fn before_release(release: &[u64], post: Option<u64>, dev: Option<u64>) -> Option<PackedCut>
+        requires { 0 < length release.now }
+        ensures cut { IfSome result (λ p.
+            p ≡ before_place (with_suffixes (release_alone release.now) None post dev)) }
+        ensures spelled { IfSome result (λ p. IsCut p) }
+        ensures exactly { IsSome result
+            ↔ IsShortVersion (with_suffixes (release_alone release.now) None post dev) }
+    {
+        let word = release_word_before(release, post, dev)?;
+        Some(PackedCut { word })
+    }
+
+    /// The packed cut before the first developmental release of a release, or `None` where its epoch isn't 0, or its
+    /// numbers are too large or too many.
+    pub fn before_dev(epoch: u64, release: &[u64]) -> Option<PackedCut>
+        requires { 0 < length release.now }
+        ensures cut { IfSome result (λ p. p ≡ before_dev epoch release.now) }
+        ensures spelled { IfSome result (λ p. IsCut p) }
+        ensures exactly { IsSome result ↔ IsShortRelease epoch release.now }
+    {
+        if epoch != 0 {
+            return None;
+        }
+        PackedCut::before_release(release, None, Some(0))
+    }
+
+    /// Whether the packed cut is right behind another: its number is the next.
+    pub fn is_right_behind(self, other: PackedCut) -> bool
+        ensures behind { IsTrue result → self ≡ right_behind other }
+        ensures cut { IsTrue result → IsPackedCut (packed_word other + 1) }
+    {
+        other.word < u128::MAX && other.word + 1 == self.word
+    }
+
+    /// The packed cut right behind this one, where the next number is one.
+    pub fn right_behind(self) -> PackedCut
+        requires { IsPackedCut (packed_word self + 1) }
+        ensures { result ≡ right_behind self }
+    {
+        PackedCut {
+            word: self.word + 1,
+        }
+    }
+
+    /// The bytes of the cut (see [`Cut::bytes`](crate::Cut::bytes)), which may be written into the room.
+    pub(crate) fn bytes<'a>(self, room: &'a mut [u8; CUT_ROOM]) -> &'a [u8]
+        ensures bytes { result.now ≡ cut_bytes self }
+        ensures spelled { IsCut self }
+    {
+        if self.word == u128::MAX {
+            return &END;
+        }
+        key_bytes_at(room, self.word)
+    }
+
+    /// Appends the text of the cut, as `Cut::push_text`. The only fault is `NoMemory`; a refusal leaves what stood
+    /// in the text, with perhaps a part behind it.
+    pub fn push_text(self, text: &mut String) -> Result<(), ClauseFault>
+        ensures ok { OnOk result (string_bytes text.new
+            ≡ string_bytes text.old ++ cut_text self) }
+        ensures faults { IfErr result (λ e. e ≡ ClauseFault.NoMemory) }
+        ensures kept { OnErr result (KeepsFront (string_bytes text.old) (string_bytes text.new)) }
+    {
+        self.put_text(text)?;
+        Ok(())
+    }
+
+    /// The same as `push_text`, wherever the text goes.
+    pub fn put_text<T: TextOut>(self, text: &mut T) -> Result<(), T::Fault>
+        ensures ok { OnOk result (T.tells → T.written text.new
+            ≡ T.written text.old ++ cut_text self) }
+        ensures kept { OnErr result (T.tells → Extends (T.written text.old) (T.written text.new)) }
+    {
+        if self.word == u128::MAX {
+            return text.put_str("end");
+        }
+        text.put_str("before ")?;
+        put_version_at(text, self.word)
+    }
+
+    /// The later of two packed cuts.
+    pub fn later(self, other: PackedCut) -> PackedCut
+        ensures { result ≡ later cut_cmp self other }
+    {
+        if self < other { other } else { self }
+    }
+
+    /// The earlier of two packed cuts.
+    pub fn earlier(self, other: PackedCut) -> PackedCut
+        ensures { result ≡ earlier cut_cmp self other }
+    {
+        if self < other { self } else { other }
+    }
+
+    // How the cuts stand: as their numbers.
+    fn order_to(&self, other: &PackedCut) -> Ordering
+        ensures order { result ≡ cut_cmp self.now other.now }
+        ensures spelled { IsCut self.now }
+        ensures other_spelled { IsCut other.now }
+    {
+        self.word.cmp(&other.word)
+    }
+}
+
+impl PartialEq for PackedCut {
+    ghost eq = { eq_by_cmp cut_cmp };
+
+    ghost laws = { partial_equiv_from_equiv (eq_by_cmp_equiv cut_total) };
+
+    /// Whether both are the same cut.
+    fn eq(&self, other: &PackedCut) -> bool
+        ensures test { result ≡ eq_by_cmp cut_cmp self.now other.now }
+        ensures one { IsTrue result ↔ (self.now ≡ other.now) }
+    {
+        self.word == other.word
+    }
+}
+
+impl Eq for PackedCut {
+    ghost laws = { eq_by_cmp_equiv cut_total };
+}
+
+impl PartialOrd for PackedCut {
+    ghost partial_cmp = { as_partial_cmp cut_cmp };
+
+    ghost laws = { partial_order_from_total cut_total };
+
+    fn partial_cmp(&self, other: &PackedCut) -> Option<Ordering> {
+        Some(self.order_to(other))
+    }
+}
+
+impl Ord for PackedCut {
+    ghost cmp = { cut_cmp };
+
+    ghost total = { cut_total };
+
+    ghost matches_partial_cmp = { λ a b. refl };
+
+    ghost matches_eq = { λ a b. refl };
+
+    /// One is less than another exactly if its cut is.
+    fn cmp(&self, other: &PackedCut) -> Ordering
+        ensures order { result ≡ cut_cmp self.now other.now }
+        ensures spelled { IsCut self.now }
+        ensures other_spelled { IsCut other.now }
+    {
+        self.order_to(other)
+    }
+}

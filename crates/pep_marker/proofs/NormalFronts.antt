@@ -1,0 +1,135 @@
+-- Names that are normalized as they are read, byte by byte.
+use Rattle.std.proofs.Common.{◌≡◌, ℕ, ◌<◌, ◌-◌, Bool, true, false, Some, List, [], ◌∷◌, ◌++◌, length, get_or, take, take_while}
+use Rattle.std.proofs.Common.{refl, sym, ap, subst, ◌∙◌, append-nil, append_assoc, arith, length-append}
+use Rattle.std.proofs.Math.Seq.{take-append_seam}
+use Rattle.std.specs.List.{list_all, prefix_len}
+use Rattle.std.specs.Char.{to_ascii_lowercase}
+use Rattle.texts.specs.Bytes.{is_letter_or_digit, is_name_byte, is_separator}
+use Rattle.texts.specs.Runs.{begins}
+use Rattle.texts.proofs.Connectives.{and_first, and_from, or-true}
+use Rattle.texts.proofs.CutLists.{all_append}
+use Rattle.texts.proofs.RunLemmas.{prefix_len-span}
+use Rattle.pep_marker.specs.Name.{begins_with_separator, is_name, name_of, normalized}
+use Rattle.pep_marker.proofs.NormalNames.{after, after-normalized, is_nonempty, last_at, last_of, no_separator, normalized-run}
+
+-- What is written for the front of a text, which begins and, where no separator stands last, ends with a letter or
+-- digit: whatever follows, its normal form follows.
+pub record IsWritten (text rest written : List ℕ) (in_run : Bool) : Type 0 where
+  pub front : List ℕ
+  pub whole : text ≡ front ++ rest
+  pub names : list_all is_name_byte front ≡ true
+  pub follows : (x : List ℕ) → written ++ after in_run x ≡ normalized (front ++ x)
+  pub ends : in_run ≡ false → 0 < length front → is_letter_or_digit (last_of front) ≡ true
+
+pub nothing_written : (text : List ℕ) → IsWritten text text [] false
+nothing_written text = record {
+  front = [];
+  whole = refl;
+  names = refl;
+  follows = λ x. refl;
+  ends = λ e some. absurd (omega (arith, some));
+}
+
+last_of-append : (x : List ℕ) (b : ℕ) → last_of (x ++ b ∷ []) ≡ b
+last_of-append [] b = refl
+last_of-append (a ∷ []) b = refl
+last_of-append (a ∷ c ∷ x) b = last_of-append (c ∷ x) b
+
+-- the first byte of a front that begins with no separator
+front_begins : (x rest : List ℕ) → 0 < length x → begins_with_separator (x ++ rest) ≡ false →
+    begins_with_separator x ≡ false
+front_begins [] rest some h = refl
+front_begins (b ∷ x) rest some h = h
+
+no_name_byte : (b : ℕ) → is_letter_or_digit b ≡ false → is_separator b ≡ false → is_name_byte b ≡ false
+no_name_byte b e f = rw (e, f) refl
+
+first_letter : (x : List ℕ) → 0 < length x → list_all is_name_byte x ≡ true → begins_with_separator x ≡ false →
+    is_letter_or_digit (get_or x 0 0) ≡ true
+first_letter [] some names h = absurd (omega (arith, some))
+first_letter (b ∷ x) some names h = letter (is_letter_or_digit b) refl
+  where
+    letter : (p : Bool) → is_letter_or_digit b ≡ p → p ≡ true
+    letter true e = refl
+    letter false e = cc (no_name_byte b e h, and_first (is_name_byte b) (list_all is_name_byte x) names)
+
+-- one byte more, for which this is written
+write_more : (text rest written own : List ℕ) (in_run next : Bool) (b : ℕ) →
+    IsWritten text (b ∷ rest) written in_run → is_name_byte b ≡ true →
+    ((x : List ℕ) → after in_run (b ∷ x) ≡ own ++ after next x) →
+    (next ≡ false → is_letter_or_digit b ≡ true) → IsWritten text rest (written ++ own) next
+write_more text rest written own in_run next b w named step letter = record {
+  front = w.front ++ b ∷ [];
+  whole = w.whole ∙ sym (append_assoc w.front (b ∷ []) rest);
+  names = all_append is_name_byte w.front (b ∷ []) w.names (and_from _ _ named refl);
+  follows = λ x. append_assoc written own (after next x)
+      ∙ ap (λ t. written ++ t) (sym (step x))
+      ∙ w.follows (b ∷ x)
+      ∙ ap normalized (sym (append_assoc w.front (b ∷ []) x));
+  ends = λ e some. ap is_letter_or_digit (last_of-append w.front b) ∙ letter e;
+}
+
+named : (b : ℕ) → is_letter_or_digit b ≡ true → is_name_byte b ≡ true
+named b h = rw h refl
+
+named_separator : (b : ℕ) → is_separator b ≡ true → is_name_byte b ≡ true
+named_separator b h = rw (h, or-true) refl
+
+letter_step : (in_run : Bool) (b : ℕ) → is_letter_or_digit b ≡ true → (x : List ℕ) →
+    after in_run (b ∷ x) ≡ (to_ascii_lowercase b ∷ []) ++ after false x
+letter_step in_run b h x =
+    let off = no_separator b h in
+    after-normalized in_run b x off ∙ rw off refl
+
+pub write_letter : (text left rest written new : List ℕ) (in_run : Bool) (b : ℕ) →
+    IsWritten text left written in_run → left ≡ b ∷ rest → is_letter_or_digit b ≡ true →
+    new ≡ written ++ to_ascii_lowercase b ∷ [] → IsWritten text rest new false
+write_letter text left rest written new in_run b w here h is =
+    subst (λ t. IsWritten text rest t false) (sym is)
+    (write_more text rest written (to_ascii_lowercase b ∷ []) in_run false b
+    (subst (λ l. IsWritten text l written in_run) here w) (named b h) (letter_step in_run b h) (λ e. h))
+
+pub write_dash : (text left rest written new : List ℕ) (in_run : Bool) (b : ℕ) →
+    IsWritten text left written in_run → left ≡ b ∷ rest → is_separator b ≡ true → in_run ≡ false →
+    new ≡ written ++ 45 ∷ [] → IsWritten text rest new true
+write_dash text left rest written new in_run b w here h first is =
+    subst (λ t. IsWritten text rest t true) (sym is)
+    (write_more text rest written (45 ∷ []) false true b
+    (subst (λ r. IsWritten text (b ∷ rest) written r) first (subst (λ l. IsWritten text l written in_run) here w))
+    (named_separator b h) (λ x. normalized-run b x h) (λ e. absurd (cc e)))
+
+pub write_nothing : (text left rest written : List ℕ) (in_run : Bool) (b : ℕ) →
+    IsWritten text left written in_run → left ≡ b ∷ rest → is_separator b ≡ true → in_run ≡ true →
+    IsWritten text rest written true
+write_nothing text left rest written in_run b w here h going =
+    subst (λ t. IsWritten text rest t true) (append-nil written)
+    (write_more text rest written [] true true b
+    (subst (λ r. IsWritten text (b ∷ rest) written r) going (subst (λ l. IsWritten text l written in_run) here w))
+    (named_separator b h) (λ x. rw h refl) (λ e. absurd (cc e)))
+
+-- at its end
+pub written_name : (text rest written : List ℕ) (in_run : Bool) → IsWritten text rest written in_run →
+    in_run ≡ false → begins_with_separator text ≡ false → ¬ (length rest ≡ length text) →
+    begins is_name_byte rest ≡ false →
+    (length text - length rest ≡ prefix_len is_name_byte text)
+    × (name_of (take (length text - length rest) text) ≡ Some written)
+written_name text rest written in_run w still begun some ends =
+    let long : length text - length rest ≡ length w.front = rw w.whole (omega (arith, length-append w.front rest)) in
+    let nonempty : 0 < length w.front =
+    omega (arith, length-append w.front rest, ap length w.whole, some) in
+    let run : prefix_len is_name_byte text ≡ length w.front =
+    ap (prefix_len is_name_byte) w.whole ∙ prefix_len-span is_name_byte w.front rest w.names ends in
+    let cut : take (length text - length rest) text ≡ w.front =
+    ap (λ n. take n text) long ∙ ap (take (length w.front)) w.whole ∙ take-append_seam w.front rest in
+    let last : is_letter_or_digit (last_of w.front) ≡ true = w.ends still nonempty in
+    let first : is_letter_or_digit (get_or w.front 0 0) ≡ true =
+    first_letter w.front nonempty w.names (front_begins w.front rest nonempty (subst (λ t. begins_with_separator t ≡ false) w.whole begun)) in
+    let is : is_name w.front ≡ true =
+    and_from _ _ (and_from _ _ (and_from _ _ (is_nonempty w.front nonempty) w.names) first)
+    (ap is_letter_or_digit (last_at w.front) ∙ last) in
+    let text_is : written ≡ normalized w.front =
+    sym (append-nil written) ∙ subst (λ r. written ++ after r [] ≡ normalized (w.front ++ [])) still (w.follows [])
+    ∙ ap normalized (append-nil w.front) in (
+      long ∙ sym run,
+      ap name_of cut ∙ rw is (ap Some (sym text_is)),
+    )
