@@ -9,7 +9,7 @@ use Rattle.pep_require.specs.LineParts.{StartsLine}
 use Rattle.pep_require.specs.Reads.{Reads}
 use Rattle.pep_require.specs.Requirement.{Applies, MarkerSays, RequirementParts}
 use Rattle.pep_table.proofs.Taking.{marker_one}
-use Rattle.inputs.specs.Way.LineReading.{IsTextOn}
+use Rattle.inputs.specs.Lists.{IsTextOn}
 use Rattle.inputs.specs.Lists.{content}
 use Rattle.reasons.specs.Way.ClaimSearch.{FindsApplying, FindsCounted, FindsOnLine, IsCountedLine}
 
