@@ -1,8 +1,6 @@
 -- The clause in front of a text, and where it ends.
 use Rattle.std.proofs.Common.{◌≡◌, ℕ, ◌<◌, false, List, [], ◌∷◌, ◌++◌, refl, sym, subst, ap, ◌∙◌}
-use Rattle.std.proofs.Common.{◌-◌, append_assoc, arith, length, length-append, take, drop, None, Some}
-use Rattle.std.proofs.Common.{Option}
-use Rattle.std.specs.Prelude.{IfSome}
+use Rattle.std.proofs.Common.{◌-◌, append_assoc, arith, length, length-append, take, drop, Some}
 use Rattle.std.proofs.Math.Seq.{drop-append_seam}
 use Rattle.std.specs.List.{prefix_len}
 use Rattle.std.proofs.lemmas.Bool.Decides.{nat_tests}
@@ -21,8 +19,7 @@ use Rattle.pep_require.proofs.BoundPieces.{bound_found}
 use Rattle.demands.specs.Way.LineDemands.{AddsClause, DemandsRanges}
 use Rattle.demands.specs.Table.{EntryParts}
 use Rattle.clause_memory.specs.Way.Taken.{DemandsFront, TakesFront, goes_on}
-use Rattle.clause_memory.specs.Way.PackedClause.{KnowsDemand, ReadsDemand, demanded_ranges}
-use Rattle.clause_memory.specs.declared.packed_clause.PackedClause.{PackedClause}
+use Rattle.clause_memory.specs.Way.PackedClause.{ReadsDemand}
 
 -- ---- where a clause ends
 
@@ -62,13 +59,6 @@ demand_here left piece rest n ranges count front back d =
     ap (begins goes_on) (back ∙ (λ i. drop (count i) left)) ∙ begins-rest goes_on left in
     let cut = front_bound left piece rest d.clause whole stops d.read in
     record { clause = d.clause; found = cut; demands = d.demands }
-
-pub found_here : (left piece rest : List ℕ) (n : ℕ) (found : Option PackedClause) → n ≡ prefix_len goes_on left →
-    piece ≡ take n left → rest ≡ drop n left → KnowsDemand piece found →
-    IfSome found (λ d. DemandsFront left (demanded_ranges d) rest)
-found_here left piece rest n None count front back h = tt
-found_here left piece rest n (Some d) count front back h =
-    demand_here left piece rest n (demanded_ranges d) count front back h
 
 -- what stands at the end of a text, cut off by its length
 pub left_is : (x front rest : List ℕ) → x ≡ front ++ rest → drop (length x - length rest) x ≡ rest

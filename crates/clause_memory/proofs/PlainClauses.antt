@@ -1,5 +1,5 @@
 -- Clauses whose version is a release: what is read of them number by number is what they say.
-use Rattle.std.proofs.Common.{◌≡◌, ℕ, ◌==◌, ◌-◌, ◌*◌, ◌+◌, ◌<◌, Bool, true, false, List, [], ◌∷◌, ◌++◌, None, Some, Result, Ok}
+use Rattle.std.proofs.Common.{◌≡◌, ℕ, ◌==◌, ◌-◌, Bool, true, false, List, [], ◌∷◌, ◌++◌, None, Some, Result, Ok}
 use Rattle.std.proofs.Common.{codes, drop, take, length, map, refl, sym, ap, subst, ◌∙◌, arith, inl, append-nil}
 use Rattle.std.proofs.Common.{append_assoc, length-append, nat_lt, not}
 use Rattle.std.proofs.Math.Seq.{drop-append_seam, take-append_seam}
@@ -32,19 +32,15 @@ use Rattle.specifiers.proofs.OperatorLemmas.{operator_shape}
 use Rattle.specifiers.proofs.ReadLemmas.{lowered-none}
 use Rattle.specifiers.proofs.Written.{clause-ink, ink-end, is_ink, written}
 use Rattle.specifiers.proofs.WrittenLemmas.{clause-valid}
-use Rattle.pep_clause.specs.OperatorTable.{set_of}
 use Rattle.specifiers.specs.Front.{after_operator}
 use Rattle.pep_require.specs.Reads.{IsBound}
 use Rattle.pep_require.proofs.BlankLemmas.{leading, leading_blank, leading_whole}
-use Rattle.packed_cuts.specs.Way.PackedRange.{HoldsPrefix, HoldsRelease}
 use Rattle.pep_clause.specs.PackedCut.{release_alone}
-use Rattle.packed_cuts.specs.declared.packed_range.PackedRange.{PackedRange}
 use Rattle.clause_memory.specs.Way.Taken.{DemandsFront, goes_on}
-use Rattle.clause_memory.specs.Way.PackedClause.{demanded_ranges}
+use Rattle.packed_cuts.specs.Way.PackedSet.{ranges_in}
 use Rattle.clause_memory.specs.Way.Plain.{MakesClause, MakesDemand, OperandFrom, is_release_byte, star_text}
 use Rattle.pep_clause.specs.Way.Numbers.{NumberFrom}
-use Rattle.specifiers.specs.Operator.{leaves_out}
-use Rattle.clause_memory.specs.declared.packed_clause.PackedClause.{PackedClause}
+use Rattle.packed_cuts.specs.declared.packed_set.PackedSet.{PackedSet}
 use Rattle.clause_memory.proofs.FrontClauses.{front_bound}
 
 -- ---- bytes
@@ -114,9 +110,6 @@ pub record NumbersSoFar (x left numbers : List ℕ) : Type 0 where
   pub bytes : list_all is_release_byte seen ≡ true
   pub goes : (tail ns : List ℕ) → ReleaseSpelling tail ns → ReleaseSpelling (seen ++ tail) (numbers ++ ns)
   pub fit : AllByRecursion Fits numbers
-
-pub no_numbers : (x : List ℕ) → NumbersSoFar x x []
-no_numbers x = record { seen = []; whole = refl; bytes = refl; goes = λ tail ns h. h; fit = tt }
 
 digits_release : (digits : List ℕ) (n : ℕ) → NumberSpelling digits n → list_all is_release_byte digits ≡ true
 digits_release digits n h = list_all-weaker is_ascii_digit is_release_byte digit-release digits (digits-all digits h.0)
@@ -320,10 +313,10 @@ release_end x operand after o ns starred found behind f =
           ∙ sym (left_to_right (leading x) (operator_text o) (leading tail) run after),
     )
 
-pub plain_read : (x operand after rest : List ℕ) (o : Op) (ns : List ℕ) (starred : Bool) (d : PackedClause) →
+pub plain_read : (x operand after rest : List ℕ) (o : Op) (ns : List ℕ) (starred : Bool) (d : PackedSet) →
     operator_of (without_leading_blanks x) ≡ Some o → operand ≡ after_operator o (without_leading_blanks x) →
     OperandFrom operand ns starred after → rest ≡ without_leading_blanks after → begins goes_on rest ≡ false →
-    MakesDemand o ns starred d → DemandsFront x (demanded_ranges d) rest
+    MakesDemand o ns starred d → DemandsFront x (ranges_in d) rest
 unfolding release_end
 plain_read x operand after rest o ns starred d found behind f stripped stops m =
     let c = m.clause in
@@ -359,21 +352,3 @@ plain_read x operand after rest o ns starred d found behind f stripped stops m =
     }
 
 -- ---- what it demands
-
-pub makes_release : (o : Op) (r : List ℕ) (b : PackedRange) (t : Bool) → t ≡ leaves_out o → HoldsRelease o r b →
-    MakesDemand o r false (record { bounds = b; outside = t })
-makes_release o r b t out h = record {
-  clause = h.clause;
-  made = h.made;
-  versions = subst (λ t. demanded_ranges (record { bounds = b; outside = t }) ≡ set_of h.clause) (sym out)
-      h.between;
-}
-
-pub makes_prefix : (o : Op) (r : List ℕ) (b : PackedRange) (t : Bool) → t ≡ leaves_out o → HoldsPrefix o r b →
-    MakesDemand o r true (record { bounds = b; outside = t })
-makes_prefix o r b t out h = record {
-  clause = h.clause;
-  made = h.made;
-  versions = subst (λ t. demanded_ranges (record { bounds = b; outside = t }) ≡ set_of h.clause) (sym out)
-      h.between;
-}

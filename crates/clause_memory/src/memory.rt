@@ -3,8 +3,8 @@
 ghost use Rattle.std.specs.Prelude.{◌≡◌, IfOk, IfSome, Some, length, take};
 ghost use Rattle.clause_memory.specs.Way.PackedClause.{IsRemembered, KnowsDemand, remembered_demand};
 
-use crate::packed_clause::{PackedClause, demand_in};
-use packed_cuts::PackedRange;
+use crate::packed_clause::demand_in;
+use packed_cuts::{PackedRange, PackedSet};
 use pep_clause::PackedCut;
 use std::alloc::{AllocError, Global};
 use std::marker::Model;
@@ -40,7 +40,7 @@ fn kept_bytes(text: &[u8]) -> Option<[u8; LONGEST]>
 
 impl Remembered {
     // A text with what it demands, if it isn't too long.
-    fn of(text: &[u8], found: &Option<PackedClause>) -> Option<Remembered>
+    fn of(text: &[u8], found: &Option<PackedSet>) -> Option<Remembered>
         requires { KnowsDemand text.now found.now }
         ensures { IfSome result (λ it. IsRemembered (Some it)) }
     {
@@ -67,13 +67,13 @@ impl Remembered {
         }
     }
 
-    fn demand(&self) -> Option<PackedClause>
+    fn demand(&self) -> Option<PackedSet>
         ensures { result ≡ remembered_demand self.now }
     {
         if !self.is_known {
             return None;
         }
-        Some(PackedClause {
+        Some(PackedSet {
             bounds: self.bounds,
             outside: self.outside,
         })
@@ -123,7 +123,7 @@ impl ClauseMemory {
         &mut self,
         alloc: Global,
         text: &str,
-    ) -> Result<Option<PackedClause>, AllocError>
+    ) -> Result<Option<PackedSet>, AllocError>
         ensures { IfOk result (KnowsDemand text.now) }
     {
         if text.len() > LONGEST {
@@ -142,7 +142,7 @@ impl ClauseMemory {
         &mut self,
         alloc: Global,
         text: &str,
-        found: &Option<PackedClause>,
+        found: &Option<PackedSet>,
     ) -> Result<(), AllocError>
         requires { KnowsDemand text.now found.now }
     {

@@ -2,40 +2,34 @@
 
 ghost use Rattle.std.specs.Prelude.{IfOk, IfSome};
 ghost use Rattle.demands.specs.Way.LineDemands.{DemandsRanges};
-ghost use Rattle.clause_memory.specs.Way.PackedClause.{KnowsDemand, demanded_ranges};
+ghost use Rattle.packed_cuts.specs.Way.PackedSet.{ranges_in};
+ghost use Rattle.clause_memory.specs.Way.PackedClause.{KnowsDemand};
 
-use packed_cuts::PackedRange;
-use pep_clause::{Clause, ClauseFault, Op};
+use packed_cuts::PackedSet;
+use pep_clause::{Clause, ClauseFault, VersionSet};
 use std::alloc::{AllocError, Global};
 
-/// What a clause demands: a version in a packed range, or one outside of it.
-#[derive(Clone, Copy)]
-pub(crate) struct PackedClause {
-    pub(crate) bounds: PackedRange,
-    pub(crate) outside: bool,
-}
-
 // What the clause demands, but for clauses that demand a text, and versions without packed cuts.
-pub(crate) fn demand_of(clause: &Clause) -> Option<PackedClause>
-    ensures { IfSome result (λ demand. DemandsRanges clause.now (demanded_ranges demand)) }
+fn demand_of(alloc: Global, clause: &Clause) -> Result<Option<PackedSet>, AllocError>
+    ensures { IfOk result (λ found. IfSome found (λ demand.
+        DemandsRanges clause.now (ranges_in demand))) }
 {
-    if clause.op() == Op::Exact {
-        return None;
+    // Its clause tells that the clause is valid.
+    let _ = clause.op();
+    if clause.exact_text().is_some() {
+        return Ok(None);
     }
-    let bounds = PackedRange::of(clause)?;
-    Some(PackedClause {
-        bounds,
-        outside: clause.op().leaves_out(),
-    })
+    let versions = VersionSet::of(alloc, clause).map_err(|_| AllocError)?;
+    Ok(PackedSet::of(&versions))
 }
 
 /// What the clause demands that the text is, white space round it apart. `None` where it is no clause, or one that
 /// demands a text, or versions without packed cuts.
-pub(crate) fn demand_in(alloc: Global, text: &str) -> Result<Option<PackedClause>, AllocError>
+pub(crate) fn demand_in(alloc: Global, text: &str) -> Result<Option<PackedSet>, AllocError>
     ensures { IfOk result (KnowsDemand text.now) }
 {
     match Clause::at_front(alloc, text) {
-        Ok((clause, rest)) if rest.is_empty() => Ok(demand_of(&clause)),
+        Ok((clause, rest)) if rest.is_empty() => demand_of(alloc, &clause),
         Err(ClauseFault::NoMemory) => Err(AllocError),
         _ => Ok(None),
     }

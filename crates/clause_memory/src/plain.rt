@@ -3,12 +3,11 @@
 ghost use Rattle.std.specs.Prelude.{◌≡◌, ◌≤◌, ◌++◌, ◌∷◌, IfSome, List, ℕ, false, length};
 ghost use Rattle.texts.specs.Runs.{begins, without_leading_blanks};
 ghost use Rattle.clause_memory.specs.Way.Taken.{DemandsFront, goes_on};
-ghost use Rattle.clause_memory.specs.Way.PackedClause.{demanded_ranges};
+ghost use Rattle.packed_cuts.specs.Way.PackedSet.{ranges_in};
 ghost use Rattle.clause_memory.specs.Way.Plain.{MakesDemand, ReadsOperand};
 
-use crate::packed_clause::PackedClause;
 use crate::taking::goes_on;
-use packed_cuts::PackedRange;
+use packed_cuts::{PackedRange, PackedSet};
 use pep_clause::{Op, PackedCut};
 use texts::without_leading_blanks;
 
@@ -81,16 +80,16 @@ fn operand_at(text: &[u8]) -> Operand<'_>
 }
 
 // What the clause of this operator and release demands, where it has packed cuts.
-fn release_demand(operator: Op, release: &[u64], starred: bool) -> Option<PackedClause>
+fn release_demand(operator: Op, release: &[u64], starred: bool) -> Option<PackedSet>
     ensures { IfSome result (MakesDemand operator release.now starred) }
 {
     let outside = operator.leaves_out();
     if starred {
         let bounds = PackedRange::of_prefix(operator, release)?;
-        return Some(PackedClause { bounds, outside });
+        return Some(PackedSet { bounds, outside });
     }
     let bounds = PackedRange::of_release(operator, release)?;
-    Some(PackedClause { bounds, outside })
+    Some(PackedSet { bounds, outside })
 }
 
 // Whether the text goes on with a byte that ends no clause.
@@ -122,9 +121,9 @@ fn left_behind<'a>(text: &'a str, last: &[u8]) -> Option<&'a str>
 /// What the clause demands that stands in front of the text, where its version is a release (PEP 440, "Final
 /// releases"), perhaps with `.*` behind it, and what stands behind it. No demand where the clause has no packed cuts,
 /// or may be none, so that its line goes the whole way; `None` where nothing is told of the text.
-pub(crate) fn plain_demand(text: &str) -> Option<(Option<PackedClause>, &str)>
+pub(crate) fn plain_demand(text: &str) -> Option<(Option<PackedSet>, &str)>
     ensures demand { IfSome result (λ found. IfSome found.0 (λ demand.
-        DemandsFront text.now (demanded_ranges demand) found.1.now)) }
+        DemandsFront text.now (ranges_in demand) found.1.now)) }
     ensures shorter { IfSome result (λ found. length found.1.now ≤ length text.now) }
 {
     let bytes = without_leading_blanks(text.as_bytes());

@@ -5,14 +5,14 @@ ghost use Rattle.std.specs.List.{prefix_len};
 ghost use Rattle.specifiers.specs.Clause.{Clause};
 ghost use Rattle.pep_require.specs.LineParts.{RefusesBound};
 ghost use Rattle.demands.specs.Way.LineDemands.{AddsClause, DemandsRanges};
-ghost use Rattle.clause_memory.specs.Way.PackedClause.{demanded_ranges};
+ghost use Rattle.packed_cuts.specs.Way.PackedSet.{ranges_in};
 ghost use Rattle.clause_memory.specs.Way.Taken.{TakesFront, goes_on};
 
 use crate::memory::ClauseMemory;
-use crate::packed_clause::{PackedClause, demand_of};
 use crate::plain::plain_demand;
 use crate::text::text_at;
 use demands::LineDemands;
+use packed_cuts::PackedSet;
 use pep_clause::{Clause, VersionSet};
 use pep_require::RequireFault;
 use std::alloc::{AllocError, Global};
@@ -33,9 +33,9 @@ pub(crate) fn goes_on(b: u8) -> bool
 }
 
 // Keeps what a clause demands.
-fn keep(demand: PackedClause, demands: &mut LineDemands) -> Result<(), AllocError>
-    requires { (c : Clause) × DemandsRanges c (demanded_ranges demand) }
-    ensures { OnOk result ((c : Clause) → DemandsRanges c (demanded_ranges demand)
+fn keep(demand: PackedSet, demands: &mut LineDemands) -> Result<(), AllocError>
+    requires { (c : Clause) × DemandsRanges c (ranges_in demand) }
+    ensures { OnOk result ((c : Clause) → DemandsRanges c (ranges_in demand)
         → AddsClause c demands.old demands.new) }
 {
     if demand.outside {
@@ -53,9 +53,6 @@ fn keep_clause(alloc: Global, clause: &Clause, demands: &mut LineDemands) -> Res
     let _ = clause.op();
     if let Some(text) = clause.exact_text() {
         return demands.put_text(text);
-    }
-    if let Some(demand) = demand_of(clause) {
-        return keep(demand, demands);
     }
     match VersionSet::of(alloc, clause) {
         Ok(versions) => demands.admit(versions),

@@ -33,12 +33,6 @@ more_texts f items texts same more =
 all_one : (v : Version) (t : List ℕ) → normal_text v ≡ t → All (λ x. normal_text v ≡ x) (t ∷ [])
 all_one v t e = All-cons (λ x. normal_text v ≡ x) t [] e (All-nil (λ x. normal_text v ≡ x))
 
-pub fits_none : (e : EntryParts) (v : Version) → e.texts ≡ [] → FitsEntry e v ↔ In e.versions v
-fits_none e v none = (
-  λ fits. fits.0,
-  λ m. (m, subst (All (λ t. normal_text v ≡ t)) (sym none) (All-nil (λ t. normal_text v ≡ t))),
-)
-
 pub fits_one : (e : EntryParts) (v : Version) (t : List ℕ) → e.texts ≡ t ∷ [] →
     FitsEntry e v ↔ ((normal_text v ≡ t) × In e.versions v)
 fits_one e v t one = (

@@ -61,17 +61,6 @@ met-versions l h s new t k normal i = record {
       ∙ ap (λ b. b && is_point t cut) (sym (is_point-joined (range l h) s cut));
 }
 
--- where two are met, one after the other
-pub met-both : (a r b s d : List Range) → IsIntersection a r b → IsIntersection b s d →
-    IsIntersection a (joined r s) d
-met-both a r b s d h g = record {
-  normal = g.normal;
-  points = λ cut is. g.points cut is
-      ∙ (λ i. h.points cut is i && is_point s cut)
-      ∙ and_assoc (is_point a cut) (is_point r cut) (is_point s cut)
-      ∙ ap (λ x. is_point a cut && x) (sym (is_point-joined r s cut));
-}
-
 -- ---- what is beside them: what is left over, and sets
 
 pub beside-normal : (left : List Range) (sets : List (List Range)) → IsNormal left → AreNormal sets →

@@ -10,7 +10,6 @@ pub mod Verdicts
 pub mod EntryTexts
 pub mod SameLemmas
 pub mod OwnEntry
-pub mod BoundedEntries
 pub mod LineSets
 pub mod LineParts
 mod Witnesses

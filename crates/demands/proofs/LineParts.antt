@@ -5,16 +5,15 @@ use Rattle.std.proofs.lemmas.List.Elements.{All-nil, All-push}
 use Rattle.specifiers.specs.Clause.{Clause, demanded, demanded_text, is_demanded_text}
 use Rattle.specifiers.specs.Valid.{IsValidClause}
 use Rattle.pep_clause.specs.VersionSet.{IsNormal, Range, all_versions}
-use Rattle.pep_clause.proofs.LeastCut.{IsNormal-all_versions}
 use Rattle.pep_marker.specs.Name.{IsNormalName}
 use Rattle.pep_require.specs.Requirement.{RequirementParts, UrlParts, bounds}
-use Rattle.pep_require.specs.Way.Sink.{more_clauses, with_clauses, with_name, with_target}
-use Rattle.demands.specs.Gathering.{MeetsClauses, bare_entry, target_clauses, target_urls, texts_of}
+use Rattle.pep_require.specs.Way.Sink.{more_clauses, with_clauses, with_target}
+use Rattle.demands.specs.Gathering.{MeetsClauses, target_clauses, target_urls, texts_of}
 use Rattle.demands.specs.Join.{IsIntersection, IsUnion}
 use Rattle.demands.specs.Way.LineDemands.{AddsClause, AddsExtra, AddsUrl, DemandsEntry, DemandsRanges}
 use Rattle.demands.specs.Table.{EntryParts, is_url_text}
-use Rattle.demands.proofs.KeptSets.{union_more, union_none}
-use Rattle.demands.proofs.TakenClauses.{meets_more, meets_none, meets_one, meets_text, text_of_none, texts_append, texts_more}
+use Rattle.demands.proofs.KeptSets.{union_more}
+use Rattle.demands.proofs.TakenClauses.{meets_more, meets_one, meets_text, text_of_none, texts_append, texts_more}
 
 -- the URLs of clauses are none, whatever they are
 no_urls : (r : RequirementParts) (cs : List Clause) (old new : List (List ℕ)) → r.target ≡ bounds cs → new ≡ old →
@@ -120,19 +119,5 @@ url_added text old new valid e x t v u named r same h = record {
         (subst (λ s. IsUnion [] (texts_of (target_clauses s)) old.texts) same h.demands.texts);
     versions = subst (λ l. MeetsClauses all_versions [] l) (sym v)
         (subst (λ s. MeetsClauses all_versions (target_clauses s) old.versions) same h.demands.versions);
-  };
-}
-
--- a line that begins demands nothing
-pub bare_demanded : (name : List ℕ) → DemandsEntry (with_name name) bare_entry
-bare_demanded name = record {
-  extras = All-nil IsNormalName;
-  urls = All-nil (λ u. IsTrue (is_url_text u));
-  clauses = All-nil IsValidClause;
-  demands = record {
-    extras = union_none [] tt;
-    urls = union_none [] tt;
-    texts = union_none [] tt;
-    versions = meets_none all_versions IsNormal-all_versions;
   };
 }

@@ -106,9 +106,6 @@ pub no_text : (o : Option (Bor (List ℕ))) (c : Clause) → option_map (λ t. t
 no_text None c e none = sym e
 no_text (Some t) c e none = cc none
 
-pub text_of_one : (c : Clause) (t : List ℕ) → demanded_text c ≡ Some t → texts_of (c ∷ []) ≡ t ∷ []
-text_of_one c t e = rw e refl
-
 pub text_of_none : (c : Clause) → demanded_text c ≡ None → texts_of (c ∷ []) ≡ []
 text_of_none c e = rw e refl
 

@@ -5,13 +5,11 @@ ghost use Rattle.pep_clause.specs.Cut.{end, least};
 ghost use Rattle.pep_clause.specs.Way.Joined.{joined};
 ghost use Rattle.pep_clause.specs.OperatorTable.{outside, range};
 ghost use Rattle.pep_clause.specs.VersionSet.{IsNormal, all_versions};
-ghost use Rattle.demands.specs.Way.Finished.{kept_ranges};
 ghost use Rattle.demands.specs.Join.{IsIntersection};
 
-use crate::kept_ranges::{KeptRanges, set_of};
 use crate::partial_joins::{common, joined_of, narrow};
-use packed_cuts::{LeftOut, PackedRange, PackedRanges};
-use pep_clause::{PackedCut, VersionSet};
+use packed_cuts::{LeftOut, PackedRange};
+use pep_clause::{Cut, PackedCut, VersionSet};
 use std::alloc::{AllocError, Global};
 use std::marker::Model;
 
@@ -36,14 +34,30 @@ impl Model for Beside {
     ghost invariant = { λ v. IsNormal v.left_out × AreNormal v.sets.items };
 }
 
+/// The set of the versions between two packed cuts.
+pub(crate) fn set_between(alloc: Global, bounds: PackedRange) -> VersionSet
+    ensures { result ≡ range bounds.low bounds.high }
+{
+    VersionSet::between(
+        alloc,
+        Cut::of_packed(bounds.low),
+        Cut::of_packed(bounds.high),
+    )
+}
+
 // The versions between two packed cuts that are left over.
 fn left_between(
     alloc: Global,
     left_out: LeftOut,
     bounds: PackedRange,
-) -> Result<PackedRanges, AllocError>
-    ensures { IfOk result (λ r. r ≡ joined (range bounds.low bounds.high) left_out) }
+) -> Result<VersionSet, AllocError>
+    ensures { IfOk result (λ s. s ≡ joined (range bounds.low bounds.high) left_out) }
 {
+    if left_out.is_none() {
+        // Its clauses tell that both cuts are in their one spelling.
+        let _ = bounds.low.cmp(&bounds.high);
+        return Ok(set_between(alloc, bounds));
+    }
     left_out.between(alloc, bounds).map_err(|_| AllocError)
 }
 
@@ -90,22 +104,20 @@ impl Beside {
         self,
         alloc: Global,
         bounds: PackedRange,
-    ) -> Result<KeptRanges, AllocError>
-        ensures { IfOk result (λ k. kept_ranges k
-            ≡ joined (range bounds.low bounds.high) self) }
+    ) -> Result<VersionSet, AllocError>
+        ensures { IfOk result (λ s. s ≡ joined (range bounds.low bounds.high) self) }
     {
         // Its clauses tell that both cuts are in their one spelling.
         let _ = bounds.low.cmp(&bounds.high);
         let Beside { left_out, sets } = self;
         if sets.is_empty() {
-            return Ok(KeptRanges::Packed(left_between(alloc, left_out, bounds)?));
+            return left_between(alloc, left_out, bounds);
         }
         let joined = joined_of(alloc, sets)?;
         if left_out.is_none() && is_unbounded(&bounds) {
-            return Ok(KeptRanges::Set(joined));
+            return Ok(joined);
         }
-        let ranges = left_between(alloc, left_out, bounds)?;
-        let both = common(alloc, joined, set_of(alloc, &ranges)?)?;
-        Ok(KeptRanges::Set(both))
+        let left = left_between(alloc, left_out, bounds)?;
+        common(alloc, joined, left)
     }
 }

@@ -158,10 +158,7 @@ impl Join for Entry {
 }
 
 /// An equal set.
-pub(crate) fn versions_copied(
-    alloc: Global,
-    versions: &VersionSet,
-) -> Result<VersionSet, AllocError>
+fn versions_copied(alloc: Global, versions: &VersionSet) -> Result<VersionSet, AllocError>
     ensures { IfOk result (λ s. s ≡ versions.now) }
 {
     versions.copied(alloc).map_err(|_| AllocError)

@@ -1,15 +1,15 @@
 // What is demanded of one package in all.
 
 ghost use Rattle.std.specs.Prelude.{◌≡◌, ◌≢◌, ◌<◌, ◌∷◌, [], IfErr, IfOk, IsOk, length, option_map};
-ghost use Rattle.demands.specs.Way.Finished.{kept_ranges, other_parts};
+ghost use Rattle.demands.specs.Way.Finished.{other_parts};
 ghost use Rattle.demands.specs.Way.Others.{entry_with, kept_others};
 ghost use Rattle.demands.specs.Table.{EntryDemands, IsValidEntry};
 ghost use Rattle.demands.specs.Verdict.{IsEntryVerdict, IsVerdict};
 
 use crate::fault::TableFault;
-use crate::kept_ranges::KeptRanges;
 use crate::others::OtherTexts;
 use crate::verdict::{Verdict, has_version};
+use pep_clause::VersionSet;
 use std::alloc::{AllocError, Global};
 use std::marker::Model;
 
@@ -18,31 +18,28 @@ use std::marker::Model;
 pub struct Finished {
     // No extras, URLs and texts, where it is `None`.
     others: Option<Box<OtherTexts>>,
-    versions: KeptRanges,
+    versions: VersionSet,
 }
 
 impl Model for Finished {
     ghost use Rattle.std.specs.Prelude.{option_map};
-    ghost use Rattle.demands.specs.Way.Finished.{kept_ranges};
     ghost use Rattle.demands.specs.Way.Others.{entry_with, kept_others};
     ghost use Rattle.demands.specs.Table.{EntryParts, IsValidEntry};
 
     ghost Value = { EntryParts };
 
-    ghost view = { λ f. entry_with (kept_others (option_map (λ b. b.value) f.others))
-        (kept_ranges f.versions) };
+    ghost view = { λ f. entry_with (kept_others (option_map (λ b. b.value) f.others)) f.versions };
 
-    ghost invariant = { λ f. IsValidEntry (entry_with
-        (kept_others (option_map (λ b. b.value) f.others)) (kept_ranges f.versions)) };
+    ghost invariant = { λ f. IsValidEntry
+        (entry_with (kept_others (option_map (λ b. b.value) f.others)) f.versions) };
 }
 
 impl Finished {
     /// What is demanded by these, which make an entry.
-    pub(crate) fn of(others: Option<Box<OtherTexts>>, versions: KeptRanges) -> Finished
-        requires { IsValidEntry (entry_with (kept_others (option_map (λ b. b.value) others))
-            (kept_ranges versions)) }
-        ensures { result ≡ entry_with (kept_others (option_map (λ b. b.value) others))
-            (kept_ranges versions) }
+    pub(crate) fn of(others: Option<Box<OtherTexts>>, versions: VersionSet) -> Finished
+        requires { IsValidEntry
+            (entry_with (kept_others (option_map (λ b. b.value) others)) versions) }
+        ensures { result ≡ entry_with (kept_others (option_map (λ b. b.value) others)) versions }
     {
         Finished { others, versions }
     }
@@ -57,9 +54,9 @@ impl Finished {
         }
     }
 
-    /// The versions, in the form that holds them.
-    pub fn versions(&self) -> &KeptRanges
-        ensures { kept_ranges result.now ≡ self.now.versions }
+    /// The versions.
+    pub fn versions(&self) -> &VersionSet
+        ensures { result.now ≡ self.now.versions }
     {
         &self.versions
     }
@@ -100,7 +97,7 @@ impl Finished {
         requires one { self.now.texts ≡ text.now ∷ [] }
         ensures { IfOk result (IsEntryVerdict self.now) }
     {
-        if has_version(alloc, text, &self.versions.set(alloc)?)? {
+        if has_version(alloc, text, &self.versions)? {
             Ok(Verdict::Possible)
         } else {
             Ok(Verdict::Nothing)

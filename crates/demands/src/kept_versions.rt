@@ -6,16 +6,14 @@ ghost use Rattle.pep_clause.specs.Cut.{IsCut};
 ghost use Rattle.pep_clause.specs.OperatorTable.{outside, range, set_of};
 ghost use Rattle.pep_clause.specs.VersionSet.{Range, all_versions};
 ghost use Rattle.pep_require.specs.View.{target_parts};
-ghost use Rattle.demands.specs.Way.Finished.{kept_ranges};
 ghost use Rattle.demands.specs.Gathering.{MeetsClauses, target_clauses};
 ghost use Rattle.demands.specs.Join.{IsIntersection};
 ghost use Rattle.demands.specs.Way.LineSets.{left_by};
 ghost use Rattle.demands.specs.Way.PartialJoins.{beside_versions, joined_sets};
 
-use crate::beside::Beside;
-use crate::kept_ranges::KeptRanges;
+use crate::beside::{Beside, set_between};
 use crate::line_demands::LineDemands;
-use packed_cuts::PackedRange;
+use packed_cuts::{PackedRange, PackedSet};
 use pep_clause::{Clause, PackedCut, VersionSet};
 use pep_require::Target;
 use std::alloc::{AllocError, Global};
@@ -53,21 +51,6 @@ fn beside_or_all(alloc: Global, beside: Option<Box<Beside>>) -> Result<Box<Besid
         Some(kept) => Ok(kept),
         None => Ok(Box::new(alloc, Beside::all(alloc))?),
     }
-}
-
-// The packed cuts between which the versions of the set lie, if it has one range, whose cuts are held so.
-fn bounds_of(versions: &VersionSet) -> Option<PackedRange>
-    ensures versions { IfSome result (λ bounds. versions.now ≡ range bounds.low bounds.high) }
-    ensures low { IfSome result (λ bounds. IsCut bounds.low) }
-    ensures high { IfSome result (λ bounds. IsCut bounds.high) }
-{
-    let [range] = versions.ranges() else {
-        return None;
-    };
-    Some(PackedRange {
-        low: range.low().packed()?,
-        high: range.high().packed()?,
-    })
 }
 
 impl KeptVersions {
@@ -138,11 +121,14 @@ impl KeptVersions {
     pub(crate) fn meet(&mut self, alloc: Global, others: VersionSet) -> Result<(), AllocError>
         ensures { OnOk result (IsIntersection self.old others self.new) }
     {
-        if let Some(bounds) = bounds_of(&others) {
-            self.narrow_to(bounds);
-            return Ok(());
+        match PackedSet::of(&others) {
+            Some(set) if set.outside => self.leave_out(alloc, set.bounds),
+            Some(set) => {
+                self.narrow_to(set.bounds);
+                Ok(())
+            }
+            None => self.meet_beside(alloc, others),
         }
-        self.meet_beside(alloc, others)
     }
 
     // The same of any set, which is kept beside the packed cuts.
@@ -165,14 +151,6 @@ impl KeptVersions {
         Ok(())
     }
 
-    // Keeps the versions in the set of the clause.
-    fn meet_set_of(&mut self, alloc: Global, clause: &Clause) -> Result<(), AllocError>
-        ensures { OnOk result (IsIntersection self.old (set_of clause.now) self.new) }
-    {
-        let admitted = VersionSet::of(alloc, clause).map_err(|_| AllocError)?;
-        self.meet(alloc, admitted)
-    }
-
     // Keeps the versions that the clause admits. A clause that demands a text admits all of them here.
     fn meet_clause(&mut self, alloc: Global, clause: &Clause) -> Result<(), AllocError>
         ensures ok { OnOk result (MeetsClauses self.old (clause.now ∷ []) self.new) }
@@ -180,14 +158,8 @@ impl KeptVersions {
     {
         // Its clause tells that the clause is valid.
         let _ = clause.op();
-        match PackedRange::of(clause) {
-            Some(bounds) if clause.op().leaves_out() => self.leave_out(alloc, bounds),
-            Some(bounds) => {
-                self.narrow_to(bounds);
-                Ok(())
-            }
-            None => self.meet_set_of(alloc, clause),
-        }
+        let admitted = VersionSet::of(alloc, clause).map_err(|_| AllocError)?;
+        self.meet(alloc, admitted)
     }
 
     // Keeps the versions that all clauses admit.
@@ -218,15 +190,15 @@ impl KeptVersions {
         }
     }
 
-    /// The versions, in the form that holds them.
-    pub(crate) fn finish(self, alloc: Global) -> Result<KeptRanges, AllocError>
-        ensures { IfOk result (λ k. kept_ranges k ≡ self) }
+    /// The set of the versions. Where there are packed cuts alone, nothing is allocated.
+    pub(crate) fn finish(self, alloc: Global) -> Result<VersionSet, AllocError>
+        ensures { IfOk result (λ s. s ≡ self) }
     {
         let KeptVersions { low, high, beside } = self;
         let bounds = PackedRange { low, high };
         match beside {
             Some(beside) => Box::into_inner(beside).between(alloc, bounds),
-            None => Ok(KeptRanges::Bounded(bounds)),
+            None => Ok(set_between(alloc, bounds)),
         }
     }
 }

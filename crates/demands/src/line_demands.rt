@@ -11,7 +11,7 @@ ghost use Rattle.demands.specs.Way.LineDemands.{AddsClause, AddsExtra, AddsUrl, 
 ghost use Rattle.demands.specs.Table.{IsValidEntry, is_url_text};
 
 use crate::others::Others;
-use packed_cuts::PackedRange;
+use packed_cuts::{PackedRange, PackedSet};
 use pep_clause::{PackedCut, VersionSet};
 use pep_marker::Name;
 use std::alloc::{AllocError, Global};
@@ -121,6 +121,23 @@ impl LineDemands {
 
     /// The versions of the set are demanded, by a clause that admits just these.
     pub fn admit(&mut self, versions: VersionSet) -> Result<(), AllocError>
+        ensures { OnOk result ((c : Clause) → DemandsRanges c versions
+            → AddsClause c self.old self.new) }
+    {
+        // Its clause tells that the ranges are a normal list.
+        let _ = versions.ranges();
+        match PackedSet::of(&versions) {
+            Some(set) if set.outside => self.leave_out(set.bounds),
+            Some(set) => {
+                self.meet(set.bounds);
+                Ok(())
+            }
+            None => self.push_set(versions),
+        }
+    }
+
+    // The same of any set, which is kept beside the packed cuts.
+    fn push_set(&mut self, versions: VersionSet) -> Result<(), AllocError>
         ensures { OnOk result ((c : Clause) → DemandsRanges c versions
             → AddsClause c self.old self.new) }
     {

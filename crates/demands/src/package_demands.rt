@@ -213,7 +213,7 @@ impl PackageDemands {
         ensures faults { IfErr result (λ e. e ≡ TableFault.NoMemory) }
     {
         let PackageDemands { versions, others } = self;
-        let versions = versions.finish(alloc)?.into_set(alloc)?;
+        let versions = versions.finish(alloc)?;
         match finished_others(alloc, others)? {
             Some(others) => Ok(others.entry(alloc, versions)?),
             None => Ok(entry_of(alloc, versions)),

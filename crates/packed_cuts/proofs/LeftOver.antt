@@ -1,12 +1,11 @@
 -- What parts leave over of all versions: the cuts in it, and parts that are joined.
-use Rattle.std.proofs.Common.{◌≡◌, ◌&&◌, ◌||◌, Bool, true, false, not, List, [], ◌∷◌, ◌++◌, refl, sym, ap, ◌∙◌, append-nil, arith, length}
+use Rattle.std.proofs.Common.{◌≡◌, ◌&&◌, ◌||◌, Bool, true, false, not, List, [], ◌∷◌, ◌++◌, refl, sym, ap, ◌∙◌, arith, length}
 use Rattle.std.specs.Prelude.{◌≢◌, All, Some}
 use Rattle.std.specs.declared.cmp.Ordering.{Ordering}
 use Rattle.std.specs.declared.cmp.Ordering.TheVariants.{Less, Equal, Greater}
-use Rattle.std.proofs.lemmas.List.{map_push}
 use Rattle.std.specs.Ordering.{is_lt}
 use Rattle.std.specs.List.Sorted.{IsPermutation}
-use Rattle.std.proofs.lemmas.List.Elements.{All-cons, All-head, All-nil, All-pop, All-push, All-tail}
+use Rattle.std.proofs.lemmas.List.Elements.{All-head, All-nil, All-pop, All-push, All-tail}
 use Rattle.std.proofs.lemmas.List.Folds.{list_any-append}
 use Rattle.std.proofs.lemmas.List.Sorted.{All-permutation, list_any-IsPermutation}
 use Rattle.texts.proofs.Connectives.{and-true, and_parts, not-true, or-false, or_assoc}
@@ -19,9 +18,8 @@ use Rattle.pep_clause.proofs.Between.{below-later_first, below-not_above, is_bet
 use Rattle.pep_clause.proofs.JoinedPoints.{is_point-append, is_point-joined, is_point-range}
 use Rattle.pep_clause.proofs.LeastCut.{IsNormal-all_versions, end-below_none, none-below_least, point-all_versions}
 use Rattle.pep_clause.proofs.NormalJoined.{IsNormal-joined}
-use Rattle.pep_clause.proofs.NormalLists.{Apart}
 use Rattle.pep_clause.proofs.RangeRows.{IsNormal-outside}
-use Rattle.packed_cuts.specs.Way.LeftOut.{IsPart, is_left_out, left_over, meets, span, spans}
+use Rattle.packed_cuts.specs.Way.LeftOut.{IsPart, is_left_out, left_over, meets}
 use Rattle.packed_cuts.specs.declared.packed_range.PackedRange.{PackedRange}
 
 abbrev pub is_below : Cut → Cut → Bool
@@ -223,15 +221,6 @@ pub joined_all : (all joined left : List PackedRange) → length left ≡ 0 → 
 joined_all all joined [] e h c = sym (or-false (is_left_out joined c)) ∙ h.points c
 joined_all all joined (b ∷ rest) e h c = absurd (omega (arith, e))
 
--- ---- ranges that are pushed
-
-pub one_span : (bounds : List PackedRange) (l h : Cut) → cut_cmp l h ≡ Less →
-    spans (bounds ++ record { low = l; high = h } ∷ []) ≡ spans bounds ++ range l h
-one_span bounds l h e = rw e (map_push span bounds (record { low = l; high = h }))
-
-pub no_span : (bounds : List PackedRange) (l h : Cut) → is_below l h ≡ false → spans bounds ≡ spans bounds ++ range l h
-no_span bounds l h e = rw e (sym (append-nil (spans bounds)))
-
 -- what isn't below
 pub not_below : (c d : Cut) → cut_cmp c d ≢ Less → is_below c d ≡ false
 not_below c d other = by (cut_cmp c d) other
@@ -240,12 +229,6 @@ not_below c d other = by (cut_cmp c d) other
     by Less f = absurd (f refl)
     by Equal f = refl
     by Greater f = refl
-
--- ---- ranges in order
-
-pub spans_in_order : (bounds : List PackedRange) → Apart (spans bounds) → All (λ b. cut_cmp b.low b.high ≡ Less) bounds
-spans_in_order [] h = All-nil (λ b. cut_cmp b.low b.high ≡ Less)
-spans_in_order (b ∷ rest) h = All-cons (λ b. cut_cmp b.low b.high ≡ Less) b rest h.0 (spans_in_order rest h.2)
 
 -- ---- where nothing is left out
 

@@ -2,7 +2,7 @@
 use Rattle.std.proofs.Common.{◌≡◌, ◌⊎◌, ◌∙◌, Bool, ℕ, List, Option, Some, None, Ok, Err, IfSome, true, false, length, nat_lt, refl, inl, inr, subst, sym}
 use Rattle.std.specs.Prelude.{IsOk, if◌then◌else◌}
 use Rattle.pep_version.specs.Version.{Version}
-use Rattle.specifiers.specs.Clause.{Prefix, compatible, demanded, excluding_prefix, matching_prefix, version_clause}
+use Rattle.specifiers.specs.Clause.{Prefix, compatible, excluding_prefix, matching_prefix, version_clause}
 use Rattle.specifiers.specs.ClauseView.{of_prefix, of_version}
 use Rattle.specifiers.specs.Way.OperatorEnds.{begin_of, end_of}
 use Rattle.specifiers.specs.Operator.{leaves_out}
@@ -10,29 +10,24 @@ use Rattle.specifiers.specs.declared.fault.ClauseFault.TheVariants as fault
 use Rattle.specifiers.specs.declared.op.Op.{Op}
 use Rattle.specifiers.specs.declared.op.Op.TheVariants as op
 use Rattle.pep_clause.proofs.EndRows.{between-ends, between-prefix}
-use Rattle.pep_clause.specs.Cut.{end, least}
-use Rattle.pep_clause.specs.OperatorTable.{before_prefix, prefix_end, set_of}
+use Rattle.pep_clause.specs.OperatorTable.{before_prefix, prefix_end}
 use Rattle.pep_clause.specs.Way.Ends.{begin_cut, between, end_cut}
 use Rattle.packed_cuts.specs.Way.PackedRange.{HoldsPrefix, HoldsRelease, IsBetween, release_prefix}
 use Rattle.pep_clause.specs.PackedCut.{release_alone}
 use Rattle.packed_cuts.specs.declared.packed_range.PackedRange.{PackedRange}
 
 -- the packed cuts of an operator and a version hold what its clause admits
-pub holds_version : (o : Op) (v : Version) (found : Option PackedRange) →
+holds_version : (o : Op) (v : Version) (found : Option PackedRange) →
     IfSome found (λ b. b.low ≡ begin_cut (begin_of o) v) → IfSome found (λ b. b.high ≡ end_cut (end_of o) v) →
     IfSome found (λ b. IsBetween o b (of_version o v))
 holds_version o v None low high = tt
 holds_version o v (Some b) low high = (λ i. between (leaves_out o) (low i) (high i)) ∙ between-ends o v
 
-pub holds_prefix : (o : Op) (p : Prefix) (found : Option PackedRange) →
+holds_prefix : (o : Op) (p : Prefix) (found : Option PackedRange) →
     IfSome found (λ b. b.low ≡ before_prefix p) → IfSome found (λ b. b.high ≡ prefix_end p) →
     IfSome found (λ b. IsBetween o b (of_prefix o p))
 holds_prefix o p None low high = tt
 holds_prefix o p (Some b) low high = (λ i. between (leaves_out o) (low i) (high i)) ∙ between-prefix o p
-
--- all versions, of a text
-pub holds_text : (o : Op) (t : List ℕ) → op.Exact ≡ o → between (leaves_out o) least end ≡ set_of (demanded t)
-holds_text o t e = subst (λ o. between (leaves_out o) least end ≡ set_of (demanded t)) e refl
 
 -- ---- a release alone
 

@@ -1,3 +1,4 @@
 -- Definitions that say how the code goes. No promise rests on them.
 pub mod PackedRange
+pub mod PackedSet
 pub mod LeftOut

@@ -41,13 +41,11 @@ ghost use Rattle.packed_cuts.specs.Way.LeftOut.{
   meets,
   itself,
   single,
-  spans,
 };
 ghost use Rattle.pep_clause.specs.PackedCut.{right_behind};
 
 use crate::packed_range::PackedRange;
-use crate::packed_ranges::PackedRanges;
-use pep_clause::{ClauseFault, PackedCut};
+use pep_clause::{ClauseFault, Cut, PackedCut, Range, VersionSet};
 use std::alloc::{AllocError, Global};
 use std::cmp::Ordering;
 use std::marker::Model;
@@ -166,16 +164,11 @@ fn merged(alloc: Global, parts: Vec<PackedRange>) -> Result<Vec<PackedRange>, Al
 }
 
 // Puts the range between two packed cuts behind the others, where it isn't empty.
-fn push_range(
-    ranges: &mut Vec<PackedRange>,
-    low: PackedCut,
-    high: PackedCut,
-) -> Result<(), AllocError>
-    ensures { OnOk result (spans ranges.new.items
-        ≡ spans ranges.old.items ++ range low high) }
+fn push_range(ranges: &mut Vec<Range>, low: PackedCut, high: PackedCut) -> Result<(), AllocError>
+    ensures { OnOk result (ranges.new.items ≡ ranges.old.items ++ range low high) }
 {
-    if low.cmp(&high) == Ordering::Less {
-        ranges.push(PackedRange { low, high })?;
+    if let Some(range) = Range::of(Cut::of_packed(low), Cut::of_packed(high)) {
+        ranges.push(range)?;
     }
     Ok(())
 }
@@ -212,13 +205,13 @@ fn take_first(singles: &mut Vec<PackedCut>, parts: &mut Vec<PackedRange>) -> Opt
     Some(PackedRange { low, high })
 }
 
-// Gives memory back where there is much, and most of it is no longer needed.
-fn give_back(singles: &mut Vec<PackedCut>)
-    ensures same { singles.new.items ≡ singles.old.items }
+// Gives memory back where there is much, and most of it is not needed.
+fn give_back<T>(list: &mut Vec<T>)
+    ensures same { list.new.items ≡ list.old.items }
 {
-    let capacity = singles.capacity();
-    if capacity > LARGE && capacity / 2 > singles.len() {
-        singles.shrink_to_fit();
+    let capacity = list.capacity();
+    if capacity > LARGE && capacity / 2 > list.len() {
+        list.shrink_to_fit();
     }
 }
 
@@ -228,10 +221,10 @@ fn swept(
     low: PackedCut,
     singles: Vec<PackedCut>,
     parts: Vec<PackedRange>,
-) -> Result<Vec<PackedRange>, AllocError>
+) -> Result<Vec<Range>, AllocError>
     requires low { IsCut low }
     requires falling { AreFalling singles.items parts.items }
-    ensures { IfOk result (λ r. spans r.items
+    ensures { IfOk result (λ r. r.items
         ≡ joined (range low end) (left_over (all_parts singles.items parts.items))) }
 {
     let most = singles.len().saturating_add(parts.len()).saturating_add(1);
@@ -244,6 +237,7 @@ fn swept(
         give_back(&mut cuts);
     }
     push_range(&mut ranges, from, PackedCut::end())?;
+    give_back(&mut ranges);
     Ok(ranges)
 }
 
@@ -363,8 +357,8 @@ impl LeftOut {
     }
 
     /// The versions between two packed cuts that are left over. The only fault is `NoMemory`.
-    pub fn between(self, alloc: Global, bounds: PackedRange) -> Result<PackedRanges, ClauseFault>
-        ensures ranges { IfOk result (λ r. r ≡ joined (range bounds.low bounds.high) self) }
+    pub fn between(self, alloc: Global, bounds: PackedRange) -> Result<VersionSet, ClauseFault>
+        ensures ranges { IfOk result (λ s. s ≡ joined (range bounds.low bounds.high) self) }
         ensures faults { IfErr result (λ e. e ≡ ClauseFault.NoMemory) }
     {
         // Its clauses tell that both cuts are in their one spelling.
@@ -379,6 +373,9 @@ impl LeftOut {
         let mut parts = closed(parts, bounds.high)?;
         sort_falling(&mut parts);
         let ranges = swept(alloc, bounds.low, singles, parts)?;
-        Ok(PackedRanges::of(ranges))
+        match VersionSet::of_ranges(ranges) {
+            Some(versions) => Ok(versions),
+            None => unreachable!(),
+        }
     }
 }

@@ -4,9 +4,9 @@
 
 mod left_out;
 mod packed_range;
-mod packed_ranges;
+mod packed_set;
 mod release_range;
 
 pub use crate::left_out::LeftOut;
 pub use crate::packed_range::PackedRange;
-pub use crate::packed_ranges::PackedRanges;
+pub use crate::packed_set::PackedSet;

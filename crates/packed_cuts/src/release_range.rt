@@ -21,7 +21,7 @@ use specifiers::{Begin, End, Op};
 fn packed_begin(begin: Begin, release: &[u64]) -> Option<PackedCut>
     requires { 0 < length release.now }
     ensures cut { IfSome result (λ p. p ≡ begin_cut begin (release_alone release.now)) }
-    ensures exactly { IsSome result ↔ BeginsShort begin (release_alone release.now) }
+    ensures exactly { IsSome result ↔ BeginsShort begin release.now }
 {
     match begin {
         Begin::Least => Some(PackedCut::least()),
@@ -34,12 +34,12 @@ fn packed_begin(begin: Begin, release: &[u64]) -> Option<PackedCut>
 fn packed_end(end: End, release: &[u64]) -> Option<PackedCut>
     requires { 0 < length release.now }
     ensures cut { IfSome result (λ p. p ≡ end_cut end (release_alone release.now)) }
-    ensures exactly { IsSome result ↔ EndsShort end (release_alone release.now) }
+    ensures exactly { IsSome result ↔ EndsShort end release.now }
 {
     match end {
         End::Version | End::Matching => PackedCut::before_release(release, Some(0), Some(0)),
         End::Less => PackedCut::before_release(release, None, Some(0)),
-        End::Prefix => prefix_end(0, &release[..release.len() - 1]),
+        End::Prefix => prefix_end(&release[..release.len() - 1]),
         End::All => Some(PackedCut::end()),
     }
 }
@@ -57,8 +57,10 @@ fn makes_clause(operator: Op, release: &[u64]) -> bool
 
 impl PackedRange {
     /// What the clause of this operator and this release of epoch 0, with nothing behind it, admits, or with `!=`
-    /// leaves out, between two packed cuts (PEP 440, "Version specifiers"). `None` where [`PackedRange::of`] has none,
-    /// for `===`, for an empty release, and for `~=` and one number, which make no clause.
+    /// leaves out, between two packed cuts (PEP 440, "Version specifiers"). `None` for `>`, which begins past the
+    /// release; where the release is written with more than four numbers, or one is too large for a packed cut (see
+    /// [`PackedCut`]), with `~=` also the last but one raised by one; for `===`, for an empty release, and for `~=` and
+    /// one number, which make no clause.
     pub fn of_release(operator: Op, release: &[u64]) -> Option<PackedRange>
         ensures clause { IfSome result (HoldsRelease operator release.now) }
         ensures exactly { IsSome result
@@ -73,9 +75,9 @@ impl PackedRange {
     }
 
     /// What the clause of this operator and this release of epoch 0, with `.*` behind it, admits, or with `!=` leaves
-    /// out, between two packed cuts (PEP 440, "Version matching", "Version exclusion"). `None` where
-    /// [`PackedRange::of`] has none, for an empty release, and for other operators than `==` and `!=`, which take no
-    /// prefix.
+    /// out, between two packed cuts (PEP 440, "Version matching", "Version exclusion"). `None` where the release is
+    /// written with more than four numbers, or one, or the last raised by one, is too large for a packed cut; for an
+    /// empty release, and for other operators than `==` and `!=`, which take no prefix.
     pub fn of_prefix(operator: Op, release: &[u64]) -> Option<PackedRange>
         ensures clause { IfSome result (HoldsPrefix operator release.now) }
         ensures exactly { IsSome result
@@ -85,7 +87,7 @@ impl PackedRange {
             return None;
         }
         match operator {
-            Op::Equal | Op::NotEqual => prefix_ends(0, release),
+            Op::Equal | Op::NotEqual => prefix_ends(release),
             _ => None,
         }
     }

@@ -14,13 +14,11 @@ ghost use Rattle.std.specs.Prelude.{
   None,
   length,
   refl,
-  IfErr,
   IfSome,
   IsSome,
   IsTrue,
   OnErr,
   OnOk,
-  string_bytes,
 };
 ghost use Rattle.std.specs.Cmp.{
   eq_by_cmp_equiv,
@@ -29,7 +27,6 @@ ghost use Rattle.std.specs.Cmp.{
 };
 ghost use Rattle.std.specs.Ordering.{as_partial_cmp, eq_by_cmp};
 ghost use Rattle.pep_version.specs.Order.{with_suffixes};
-ghost use Rattle.pep_version.specs.Text.{KeepsFront};
 ghost use Rattle.pep_clause.specs.Cut.{IsCut, cut_cmp, cut_text, end, least};
 ghost use Rattle.pep_clause.specs.CutBytes.{cut_bytes};
 ghost use Rattle.pep_clause.specs.Way.Joined.{earlier, later};
@@ -39,6 +36,7 @@ ghost use Rattle.pep_clause.specs.PackedCut.{
   IsPackedCut,
   IsShortRelease,
   IsShortVersion,
+  cut_at,
   packed_word,
   release_alone,
   right_behind,
@@ -50,7 +48,6 @@ ghost use Rattle.texts.specs.TextOut.{Extends};
 use crate::packed_cut::parts::{key_bytes_at, put_version_at};
 use crate::packed_cut::word::{four, suffixed, word_of};
 use pep_version::{Phase, Version};
-use specifiers::ClauseFault;
 use std::cmp::Ordering;
 use std::marker::Model;
 use texts::TextOut;
@@ -58,6 +55,9 @@ use texts::TextOut;
 /// How many bytes the room has in which the bytes of a cut are written (see [`Cut::bytes`](crate::Cut::bytes)): those
 /// of the key of four numbers, three suffixes and no label, and a few more.
 pub const CUT_ROOM: usize = 80;
+
+// The halves of a number have eight bytes.
+const HALF: u128 = 1 << 64;
 
 // The bytes of the end.
 const END: [u8; 9] = [0xff; 9];
@@ -71,23 +71,32 @@ const END: [u8; 9] = [0xff; 9];
 /// bits. So numbers stand as the cuts do (PEP 440, "Summary of permitted suffixes and relative ordering").
 #[derive(Clone, Copy)]
 pub struct PackedCut {
-    word: u128,
+    // The halves of the number: so a cut that has one takes no more than these and a tag.
+    high: u64,
+    low: u64,
 }
 
 impl Model for PackedCut {
-    ghost use Rattle.std.specs.Prelude.{◌≡◌};
+    ghost use Rattle.std.specs.Prelude.{◌≡◌, ◌/◌, ◌%◌};
     ghost use Rattle.pep_clause.specs.Cut.{Cut};
-    ghost use Rattle.pep_clause.specs.PackedCut.{IsPackedCut, cut_at, packed_word};
+    ghost use Rattle.pep_clause.specs.PackedCut.{cut_at, packed_word};
+    ghost use Rattle.pep_clause.specs.PackedHalves.{AreHalves, half_unit, high_half, low_half, whole_word};
 
     ghost Value = { Cut };
 
-    ghost view = { λ p. cut_at p.word };
+    ghost view = { λ p. cut_at (whole_word p.high p.low) };
 
-    ghost invariant = { λ p. IsPackedCut p.word };
+    ghost invariant = { λ p. AreHalves p.high p.low };
 
-    ghost inverse = { λ c. record { word = packed_word c } };
+    ghost inverse = { λ c. record {
+      high = packed_word c / half_unit;
+      low = packed_word c % half_unit;
+    } };
 
-    ghost inverse_ok = { λ p h. λ i. record { word = h.word i } };
+    ghost inverse_ok = { λ p h. λ i. record {
+      high = high_half p.high p.low h i;
+      low = low_half p.high p.low h i;
+    } };
 }
 
 // Whether the version has no local version label.
@@ -127,12 +136,32 @@ fn release_word_before(release: &[u64], post: Option<u64>, dev: Option<u64>) -> 
 }
 
 impl PackedCut {
+    // The packed cut with this number.
+    fn of_word(word: u128) -> PackedCut
+        requires { IsPackedCut word }
+        ensures { result ≡ cut_at word }
+    {
+        PackedCut {
+            high: (word / HALF) as u64,
+            low: (word % HALF) as u64,
+        }
+    }
+
+    // Its number.
+    fn word(&self) -> u128
+        ensures number { result ≡ packed_word self.now }
+        ensures packed { IsPackedCut result }
+        ensures cut { cut_at result ≡ self.now }
+    {
+        self.high as u128 * HALF + self.low as u128
+    }
+
     /// The cut under all versions.
     pub fn least() -> PackedCut
         ensures least { result ≡ least }
         ensures spelled { IsCut result }
     {
-        PackedCut { word: 0 }
+        PackedCut::of_word(0)
     }
 
     /// The end of all versions.
@@ -140,12 +169,12 @@ impl PackedCut {
         ensures end { result ≡ end }
         ensures spelled { IsCut result }
     {
-        PackedCut { word: u128::MAX }
+        PackedCut::of_word(u128::MAX)
     }
 
     /// The packed cut directly before the version with these suffixes in place of its own, or `None` where its epoch
     /// isn't 0, its numbers are too large or too many, or it has a label.
-    pub fn before(
+    pub(crate) fn before(
         version: &Version,
         pre: Option<(Phase, u64)>,
         post: Option<u64>,
@@ -160,7 +189,7 @@ impl PackedCut {
         // Its clause tells that the parts make a version.
         let _ = version.release();
         let word = word_before(version, pre, post, dev)?;
-        Some(PackedCut { word })
+        Some(PackedCut::of_word(word))
     }
 
     /// The packed cut directly before the version of epoch 0 with this release and these suffixes, or `None` where its
@@ -174,7 +203,7 @@ impl PackedCut {
             ↔ IsShortVersion (with_suffixes (release_alone release.now) None post dev) }
     {
         let word = release_word_before(release, post, dev)?;
-        Some(PackedCut { word })
+        Some(PackedCut::of_word(word))
     }
 
     /// The packed cut before the first developmental release of a release, or `None` where its epoch isn't 0, or its
@@ -193,10 +222,10 @@ impl PackedCut {
 
     /// Whether the packed cut is right behind another: its number is the next.
     pub fn is_right_behind(self, other: PackedCut) -> bool
-        ensures behind { IsTrue result → self ≡ right_behind other }
-        ensures cut { IsTrue result → IsPackedCut (packed_word other + 1) }
+        ensures exactly { IsTrue result
+            ↔ ((self ≡ right_behind other) × IsPackedCut (packed_word other + 1)) }
     {
-        other.word < u128::MAX && other.word + 1 == self.word
+        other.word() < u128::MAX && other.word() + 1 == self.word()
     }
 
     /// The packed cut right behind this one, where the next number is one.
@@ -204,9 +233,7 @@ impl PackedCut {
         requires { IsPackedCut (packed_word self + 1) }
         ensures { result ≡ right_behind self }
     {
-        PackedCut {
-            word: self.word + 1,
-        }
+        PackedCut::of_word(self.word() + 1)
     }
 
     /// The bytes of the cut (see [`Cut::bytes`](crate::Cut::bytes)), which may be written into the room.
@@ -214,35 +241,25 @@ impl PackedCut {
         ensures bytes { result.now ≡ cut_bytes self }
         ensures spelled { IsCut self }
     {
-        if self.word == u128::MAX {
+        let word = self.word();
+        if word == u128::MAX {
             return &END;
         }
-        key_bytes_at(room, self.word)
+        key_bytes_at(room, word)
     }
 
-    /// Appends the text of the cut, as `Cut::push_text`. The only fault is `NoMemory`; a refusal leaves what stood
-    /// in the text, with perhaps a part behind it.
-    pub fn push_text(self, text: &mut String) -> Result<(), ClauseFault>
-        ensures ok { OnOk result (string_bytes text.new
-            ≡ string_bytes text.old ++ cut_text self) }
-        ensures faults { IfErr result (λ e. e ≡ ClauseFault.NoMemory) }
-        ensures kept { OnErr result (KeepsFront (string_bytes text.old) (string_bytes text.new)) }
-    {
-        self.put_text(text)?;
-        Ok(())
-    }
-
-    /// The same as `push_text`, wherever the text goes.
+    /// Writes the text of the cut, as [`Cut::put_text`](crate::Cut::put_text).
     pub fn put_text<T: TextOut>(self, text: &mut T) -> Result<(), T::Fault>
         ensures ok { OnOk result (T.tells → T.written text.new
             ≡ T.written text.old ++ cut_text self) }
         ensures kept { OnErr result (T.tells → Extends (T.written text.old) (T.written text.new)) }
     {
-        if self.word == u128::MAX {
+        let word = self.word();
+        if word == u128::MAX {
             return text.put_str("end");
         }
         text.put_str("before ")?;
-        put_version_at(text, self.word)
+        put_version_at(text, word)
     }
 
     /// The later of two packed cuts.
@@ -265,7 +282,7 @@ impl PackedCut {
         ensures spelled { IsCut self.now }
         ensures other_spelled { IsCut other.now }
     {
-        self.word.cmp(&other.word)
+        self.word().cmp(&other.word())
     }
 }
 
@@ -279,7 +296,7 @@ impl PartialEq for PackedCut {
         ensures test { result ≡ eq_by_cmp cut_cmp self.now other.now }
         ensures one { IsTrue result ↔ (self.now ≡ other.now) }
     {
-        self.word == other.word
+        self.word() == other.word()
     }
 }
 

@@ -13,6 +13,7 @@ ghost use Rattle.std.specs.Prelude.{
   IfErr,
   IfOk,
   IfSome,
+  IsOk,
   IsSome,
   IsTrue,
   None,
@@ -41,7 +42,8 @@ ghost use Rattle.pep_clause.specs.VersionSet.{HasFewRanges, is_point};
 use crate::cut::Cut;
 use crate::range::Range;
 use crate::range_ends::{begin_cut, end_cut, prefix_end};
-use crate::sweep::{moved_ranges, swept_ranges};
+use crate::ranges::Ranges;
+use crate::sweep::swept_ranges;
 use crate::turns::Turns;
 use pep_version::{Key, Version};
 use specifiers::{Clause, ClauseFault, Op, Operand};
@@ -52,18 +54,19 @@ use std::marker::Model;
 /// A set of versions: ranges in order, each of which begins above the end of the one before.
 #[derive(Drop)]
 pub struct VersionSet {
-    ranges: Vec<Range>,
+    ranges: Ranges,
 }
 
 impl Model for VersionSet {
     ghost use Rattle.std.specs.Prelude.{List};
+    ghost use Rattle.pep_clause.specs.SetView.{ranges_of};
     ghost use Rattle.pep_clause.specs.VersionSet.{IsNormal, Range};
 
     ghost Value = { List Range };
 
-    ghost view = { λ a. a.ranges.items };
+    ghost view = { λ a. ranges_of a.ranges };
 
-    ghost invariant = { λ a. IsNormal a.ranges.items };
+    ghost invariant = { λ a. IsNormal (ranges_of a.ranges) };
 }
 
 // Whether the cut lies above the end of the ranges before it, if there are any.
@@ -102,28 +105,6 @@ fn push_range(done: &mut Vec<Range>, low: Cut, high: Cut) -> Result<(), AllocErr
     Ok(())
 }
 
-// What two lists of ranges have in common, which are used up: no cut is copied.
-fn common_ranges(
-    alloc: Global,
-    ranges: Vec<Range>,
-    others: Vec<Range>,
-) -> Result<Vec<Range>, AllocError>
-    requires ranges { IsNormal ranges.items }
-    requires others { IsNormal others.items }
-    ensures { IfOk result (λ done. done.items ≡ joined ranges.items others.items) }
-{
-    if ranges.len() != 1 || others.len() != 1 {
-        return moved_ranges(alloc, ranges, others);
-    }
-    let (mut ranges, mut others) = (ranges, others);
-    if let (Some(range), Some(other)) = (ranges.pop(), others.pop()) {
-        if let Some(both) = range.common(other) {
-            ranges.push(both)?;
-        }
-    }
-    Ok(ranges)
-}
-
 fn all_within(ranges: &[Range], other: &Range) -> bool
     ensures { result ≡ all_within ranges.now other.now }
 {
@@ -140,16 +121,6 @@ fn are_within(ranges: &[Range], others: &[Range]) -> bool
     }
 }
 
-fn ranges_copied(alloc: Global, ranges: &[Range]) -> Result<Vec<Range>, AllocError>
-    ensures { IfOk result (λ copy. copy.items ≡ ranges.now) }
-{
-    let mut copy = Vec::with_capacity(alloc, ranges.len())?;
-    for range in ranges {
-        copy.push(range.copied(alloc).map_err(|_| AllocError)?)?;
-    }
-    Ok(copy)
-}
-
 impl VersionSet {
     /// The set of no version.
     pub fn none(alloc: Global) -> VersionSet
@@ -157,7 +128,7 @@ impl VersionSet {
         ensures versions { (v : Version) → ¬ In result v }
     {
         VersionSet {
-            ranges: Vec::new(alloc),
+            ranges: Ranges::of_option(alloc, None),
         }
     }
 
@@ -168,34 +139,32 @@ impl VersionSet {
         ensures in_order { IsSome result ↔ IsIncreasing (cuts ranges.items) }
     {
         if are_increasing(ranges.as_slice()) {
-            Some(VersionSet { ranges })
+            Some(VersionSet {
+                ranges: Ranges::of_list(ranges),
+            })
         } else {
             None
         }
     }
 
-    /// The set of all versions. The only fault is `NoMemory`.
+    /// The set of all versions. Nothing is allocated, so there is no fault.
     pub fn all(alloc: Global) -> Result<VersionSet, ClauseFault>
         ensures all { IfOk result (λ s. s ≡ all_versions) }
         ensures versions { IfOk result (λ s. (v : Version) → In s v) }
+        ensures found { IsOk result }
         ensures faults { IfErr result (λ e. e ≡ ClauseFault.NoMemory) }
     {
-        Ok(VersionSet::between(alloc, Cut::least(), Cut::end())?)
+        Ok(VersionSet::between(alloc, Cut::least(), Cut::end()))
     }
 
-    /// The versions between two cuts.
-    fn between(alloc: Global, low: Cut, high: Cut) -> Result<VersionSet, AllocError>
-        requires low { IsCut low }
-        requires high { IsCut high }
-        ensures { IfOk result (λ s. s ≡ range low high) }
+    /// The versions between two cuts, of which there are none where the first is not below the second. Nothing is
+    /// allocated.
+    pub fn between(alloc: Global, low: Cut, high: Cut) -> VersionSet
+        ensures ranges { result ≡ range low high }
     {
-        if low.order_to(&high) != Ordering::Less {
-            return Ok(VersionSet {
-                ranges: Vec::new(alloc),
-            });
+        VersionSet {
+            ranges: Ranges::of_option(alloc, Range::of(low, high)),
         }
-        let ranges = Vec::from_array(alloc, [Range::between(low, high)])?;
-        Ok(VersionSet { ranges })
     }
 
     /// The versions under the low cut, and those not under the high one.
@@ -208,7 +177,9 @@ impl VersionSet {
         let mut ranges = Vec::new(alloc);
         push_range(&mut ranges, Cut::least(), low)?;
         push_range(&mut ranges, high, Cut::end())?;
-        Ok(VersionSet { ranges })
+        Ok(VersionSet {
+            ranges: Ranges::of_list(ranges),
+        })
     }
 
     // The versions between two cuts, or where these are left out the others.
@@ -221,7 +192,7 @@ impl VersionSet {
         if left_out {
             VersionSet::outside(alloc, low, high)
         } else {
-            VersionSet::between(alloc, low, high)
+            Ok(VersionSet::between(alloc, low, high))
         }
     }
 
@@ -295,7 +266,9 @@ impl VersionSet {
     {
         let (ranges, others) = (self.ranges.as_slice(), other.ranges.as_slice());
         let ranges = swept_ranges(alloc, ranges, others, turns)?;
-        Ok(VersionSet { ranges })
+        Ok(VersionSet {
+            ranges: Ranges::of_list(ranges),
+        })
     }
 
     /// The versions that are in both sets. The only fault is `NoMemory`.
@@ -326,7 +299,7 @@ impl VersionSet {
         if are_within(self.ranges.as_slice(), other.ranges.as_slice()) {
             return Ok(self);
         }
-        let ranges = common_ranges(alloc, self.ranges, other.ranges)?;
+        let ranges = self.ranges.common(alloc, other.ranges)?;
         Ok(VersionSet { ranges })
     }
 
@@ -353,7 +326,7 @@ impl VersionSet {
         ensures ranges { IsTrue result ↔ (self.now ≡ []) }
         ensures exactly { IsTrue result ↔ ((v : Version) → IsVersion v → ¬ In self.now v) }
     {
-        self.ranges.is_empty()
+        self.ranges.as_slice().is_empty()
     }
 
     /// The ranges, in order.
@@ -361,14 +334,17 @@ impl VersionSet {
         ensures ranges { result.now ≡ self.now }
         ensures normal { IsNormal self.now }
     {
-        &self.ranges
+        self.ranges.as_slice()
     }
 
     /// Whether the version at this place is in the set.
     pub fn contains(&self, key: &Key) -> bool
         ensures { result ≡ is_in self.now key.now }
     {
-        self.ranges.iter().any(|range| range.contains(key))
+        self.ranges
+            .as_slice()
+            .iter()
+            .any(|range| range.contains(key))
     }
 
     /// An equal set in storage of its own. The only fault is `NoMemory`.
@@ -376,7 +352,7 @@ impl VersionSet {
         ensures same { IfOk result (λ s. s ≡ self.now) }
         ensures faults { IfErr result (λ e. e ≡ ClauseFault.NoMemory) }
     {
-        let ranges = ranges_copied(alloc, self.ranges.as_slice())?;
+        let ranges = self.ranges.copied(alloc)?;
         Ok(VersionSet { ranges })
     }
 }

@@ -1,3 +1,4 @@
+pub mod FormTable
 pub mod NormalNames
 pub mod NormalRuns
 pub mod NormalFronts

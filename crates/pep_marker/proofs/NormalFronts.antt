@@ -1,14 +1,19 @@
 -- Names that are normalized as they are read, byte by byte.
-use Rattle.std.proofs.Common.{◌≡◌, ℕ, ◌<◌, ◌-◌, Bool, true, false, Some, List, [], ◌∷◌, ◌++◌, length, get_or, take, take_while}
+use Rattle.std.proofs.Common.{◌≡◌, ℕ, ◌<◌, ◌-◌, Bool, true, false, Some, List, [], ◌∷◌, ◌++◌, length, get_or, take}
 use Rattle.std.proofs.Common.{refl, sym, ap, subst, ◌∙◌, append-nil, append_assoc, arith, length-append}
 use Rattle.std.proofs.Math.Seq.{take-append_seam}
 use Rattle.std.specs.List.{list_all, prefix_len}
 use Rattle.std.specs.Char.{to_ascii_lowercase}
 use Rattle.texts.specs.Bytes.{is_letter_or_digit, is_name_byte, is_separator}
 use Rattle.texts.specs.Runs.{begins}
-use Rattle.texts.proofs.Connectives.{and_first, and_from, or-true}
+use Rattle.texts.proofs.Connectives.{and_first, and_from, and_second, or-true}
 use Rattle.texts.proofs.CutLists.{all_append}
 use Rattle.texts.proofs.RunLemmas.{prefix_len-span}
+use Rattle.pep_marker.specs.Way.PutLetters.{PutsLetters}
+use Rattle.std.proofs.Common.{◌≤◌, ◌+◌, suc, drop, map}
+use Rattle.std.proofs.Math.Seq.{take-suc}
+use Rattle.std.proofs.lemmas.List.{length-drop, length-take, map-append, take-append-drop}
+use Rattle.texts.proofs.RunLemmas.{all-run}
 use Rattle.pep_marker.specs.Name.{begins_with_separator, is_name, name_of, normalized}
 use Rattle.pep_marker.proofs.NormalNames.{after, after-normalized, is_nonempty, last_at, last_of, no_separator, normalized-run}
 
@@ -81,7 +86,7 @@ letter_step in_run b h x =
     let off = no_separator b h in
     after-normalized in_run b x off ∙ rw off refl
 
-pub write_letter : (text left rest written new : List ℕ) (in_run : Bool) (b : ℕ) →
+write_letter : (text left rest written new : List ℕ) (in_run : Bool) (b : ℕ) →
     IsWritten text left written in_run → left ≡ b ∷ rest → is_letter_or_digit b ≡ true →
     new ≡ written ++ to_ascii_lowercase b ∷ [] → IsWritten text rest new false
 write_letter text left rest written new in_run b w here h is =
@@ -89,7 +94,7 @@ write_letter text left rest written new in_run b w here h is =
     (write_more text rest written (to_ascii_lowercase b ∷ []) in_run false b
     (subst (λ l. IsWritten text l written in_run) here w) (named b h) (letter_step in_run b h) (λ e. h))
 
-pub write_dash : (text left rest written new : List ℕ) (in_run : Bool) (b : ℕ) →
+write_dash : (text left rest written new : List ℕ) (in_run : Bool) (b : ℕ) →
     IsWritten text left written in_run → left ≡ b ∷ rest → is_separator b ≡ true → in_run ≡ false →
     new ≡ written ++ 45 ∷ [] → IsWritten text rest new true
 write_dash text left rest written new in_run b w here h first is =
@@ -98,7 +103,7 @@ write_dash text left rest written new in_run b w here h first is =
     (subst (λ r. IsWritten text (b ∷ rest) written r) first (subst (λ l. IsWritten text l written in_run) here w))
     (named_separator b h) (λ x. normalized-run b x h) (λ e. absurd (cc e)))
 
-pub write_nothing : (text left rest written : List ℕ) (in_run : Bool) (b : ℕ) →
+write_nothing : (text left rest written : List ℕ) (in_run : Bool) (b : ℕ) →
     IsWritten text left written in_run → left ≡ b ∷ rest → is_separator b ≡ true → in_run ≡ true →
     IsWritten text rest written true
 write_nothing text left rest written in_run b w here h going =
@@ -106,6 +111,104 @@ write_nothing text left rest written in_run b w here h going =
     (write_more text rest written [] true true b
     (subst (λ r. IsWritten text (b ∷ rest) written r) going (subst (λ l. IsWritten text l written in_run) here w))
     (named_separator b h) (λ x. rw h refl) (λ e. absurd (cc e)))
+
+-- ---- letters and digits written in a row
+
+pub no_letters : (text old new : List ℕ) → new ≡ old → PutsLetters text old new 0
+no_letters text old new same = record { letters = refl; written = same ∙ sym (append-nil old) }
+
+pub one_letter : (text old new last : List ℕ) (n form : ℕ) → PutsLetters text old new n → n < length text →
+    is_letter_or_digit (get_or text n 0) ≡ true → form ≡ to_ascii_lowercase (get_or text n 0) →
+    last ≡ new ++ form ∷ [] → PutsLetters text old last (n + 1)
+one_letter text old new last n form p within letter lower is = record {
+  letters = ap (list_all is_letter_or_digit) more
+      ∙ all_append is_letter_or_digit (take n text) (b ∷ []) p.letters (and_from _ _ letter refl);
+  written = is
+      ∙ ap (λ c. new ++ c ∷ []) lower
+      ∙ ap (λ t. t ++ to_ascii_lowercase b ∷ []) p.written
+      ∙ append_assoc old (map to_ascii_lowercase (take n text)) (to_ascii_lowercase b ∷ [])
+      ∙ ap (λ t. old ++ t) (sym (map-append to_ascii_lowercase (take n text) (b ∷ [])))
+      ∙ ap (λ t. old ++ map to_ascii_lowercase t) (sym more);
+}
+  where
+    b : ℕ
+    b = get_or text n 0
+
+    more : take (n + 1) text ≡ take n text ++ b ∷ []
+    more = let next : n + 1 ≡ suc n = omega arith in ap (λ k. take k text) next ∙ take-suc text n 0 within
+
+letters_more : (text rest written run : List ℕ) (in_run : Bool) → IsWritten text (run ++ rest) written in_run →
+    list_all is_letter_or_digit run ≡ true → 0 < length run →
+    IsWritten text rest (written ++ map to_ascii_lowercase run) false
+letters_more text rest written [] in_run w h some = absurd (omega (arith, some))
+letters_more text rest written (b ∷ []) in_run w h some =
+    write_letter text (b ∷ rest) rest written (written ++ to_ascii_lowercase b ∷ []) in_run b w refl
+    (and_first (is_letter_or_digit b) true h) refl
+letters_more text rest written (b ∷ c ∷ run) in_run w h some =
+    let letter = and_first (is_letter_or_digit b) (list_all is_letter_or_digit (c ∷ run)) h in
+    let others = and_second (is_letter_or_digit b) (list_all is_letter_or_digit (c ∷ run)) h in
+    let one = write_letter text (b ∷ c ∷ (run ++ rest)) (c ∷ (run ++ rest)) written
+    (written ++ to_ascii_lowercase b ∷ [])
+    in_run b w refl letter refl in
+    subst (λ t. IsWritten text rest t false)
+    (append_assoc written (to_ascii_lowercase b ∷ []) (map to_ascii_lowercase (c ∷ run)))
+    (letters_more text rest (written ++ to_ascii_lowercase b ∷ []) (c ∷ run) false one others (omega arith))
+
+pub write_letters : (text left rest written new : List ℕ) (in_run : Bool) (n : ℕ) → IsWritten text left written in_run →
+    PutsLetters left written new n → n ≤ length left → ¬ (n ≡ 0) → rest ≡ drop n left → IsWritten text rest new false
+write_letters text left rest written new in_run n w p within some behind =
+    subst (λ t. IsWritten text rest t false) (sym p.written)
+    (letters_more text rest written (take n left) in_run (subst (λ l. IsWritten text l written in_run) whole w)
+    p.letters
+    (omega (arith, some, within, length-take n left)))
+  where
+    whole : left ≡ take n left ++ rest
+    whole = sym (take-append-drop n left) ∙ ap (λ t. take n left ++ t) (sym behind)
+
+separators_more : (text rest written run : List ℕ) → IsWritten text (run ++ rest) written true →
+    list_all is_separator run ≡ true → IsWritten text rest written true
+separators_more text rest written [] w h = w
+separators_more text rest written (b ∷ run) w h =
+    separators_more text rest written run
+    (write_nothing text (b ∷ (run ++ rest)) (run ++ rest) written true b w refl (and_first _ _ h) refl)
+    (and_second (is_separator b) (list_all is_separator run) h)
+
+-- the separators in front, for which one `-` is written
+pub write_separators : (text left rest written new : List ℕ) → IsWritten text left written false →
+    begins_with_separator left ≡ true → new ≡ written ++ 45 ∷ [] →
+    rest ≡ drop (prefix_len is_separator left) left → IsWritten text rest new true
+write_separators text [] rest written new w begun is behind = absurd (cc begun)
+write_separators text (b ∷ left) rest written new w begun is behind =
+    separators_more text rest new run
+    (subst (λ l. IsWritten text l new true) whole
+    (write_dash text (b ∷ left) left written new false b w refl begun refl is))
+    (all-run is_separator left)
+  where
+    run : List ℕ
+    run = take (prefix_len is_separator left) left
+
+    further : drop (prefix_len is_separator (b ∷ left)) (b ∷ left) ≡ drop (prefix_len is_separator left) left
+    further =
+        let n : 1 + prefix_len is_separator left ≡ suc (prefix_len is_separator left) = omega arith in
+        rw (begun, n) refl
+
+    whole : left ≡ run ++ rest
+    whole = sym (take-append-drop (prefix_len is_separator left) left)
+        ∙ ap (λ t. run ++ t) (sym (behind ∙ further))
+
+pub shorter : (text left rest written : List ℕ) (in_run : Bool) (n : ℕ) → IsWritten text left written in_run →
+    n ≤ length left → ¬ (n ≡ 0) → rest ≡ drop n left → ¬ (length rest ≡ length text)
+shorter text left rest written in_run n w within some behind same =
+    omega (
+      arith,
+      same,
+      some,
+      within,
+      ap length behind,
+      length-drop n left,
+      ap length w.whole,
+      length-append w.front left,
+    )
 
 -- at its end
 pub written_name : (text rest written : List ℕ) (in_run : Bool) → IsWritten text rest written in_run →

@@ -6,8 +6,13 @@ use Rattle.std.specs.List.{list_all, prefix_len}
 use Rattle.std.specs.Char.{to_ascii_lowercase}
 use Rattle.texts.specs.Bytes.{is_letter_or_digit, is_name_byte}
 use Rattle.texts.specs.Runs.{begins}
-use Rattle.texts.proofs.Connectives.{and_from}
-use Rattle.texts.proofs.RunLemmas.{prefix_len-span}
+use Rattle.texts.proofs.Connectives.{and_first, and_from, and_second}
+use Rattle.texts.proofs.RunLemmas.{all-run, prefix_len-span}
+use Rattle.std.specs.Prelude.{⊤, ◌==◌, drop}
+use Rattle.std.proofs.lemmas.Bool.Decides.{nat_tests}
+use Rattle.std.proofs.lemmas.List.Sums.{prefix_len-le-length}
+use Rattle.std.proofs.lemmas.List.{length-take, take-append-drop}
+use Rattle.pep_marker.specs.Way.PlainBytes.{is_plain}
 use Rattle.pep_marker.specs.Name.{IsNormalName, begins_with_separator, normalized}
 use Rattle.pep_marker.proofs.NormalNames.{is_nonempty, last_at, last_of, no_separator}
 
@@ -16,6 +21,18 @@ pub record IsPlain (b : ℕ) : Type 0 where
   pub name : is_name_byte b ≡ true
   pub lower : to_ascii_lowercase b ≡ b
   pub letter : is_letter_or_digit b ≡ true
+
+one_plain : (b : ℕ) → is_plain b ≡ true → IsPlain b
+one_plain b h =
+    let letter = and_first (is_letter_or_digit b) (to_ascii_lowercase b == b) h in
+    record { name = rw letter refl; lower = same (and_second _ _ h); letter = letter }
+  where
+    same : (to_ascii_lowercase b == b) ≡ true → to_ascii_lowercase b ≡ b
+    same e = grind (arith, nat_tests)
+
+abbrev ArePlain : List ℕ → Type 0
+ArePlain [] = ⊤
+ArePlain (b ∷ x) = IsPlain b × ArePlain x
 
 -- What may follow in a name in its normalized form, up to its end: inside, behind a letter or digit, a `-` too, or
 -- nothing.
@@ -84,25 +101,58 @@ read_more text rest inside next b r step = record {
   goes = λ x f. subst (Follows false) (sym (append_assoc r.front (b ∷ []) x)) (r.goes (b ∷ x) (step x f));
 }
 
-pub read_plain : (text left rest : List ℕ) (inside : Bool) (b : ℕ) → IsRead text left inside → left ≡ b ∷ rest →
-    IsPlain b → IsRead text rest true
-read_plain text left rest inside b r here p =
-    read_more text rest inside true b (subst (λ l. IsRead text l inside) here r) (λ x f. plain p f)
+are_plain : (x : List ℕ) → list_all is_plain x ≡ true → ArePlain x
+unfolding is_letter_or_digit
+are_plain [] h = tt
+are_plain (b ∷ x) h =
+    let this = and_first (is_plain b) (list_all is_plain x) h in
+    (one_plain b this, are_plain x (and_second (is_plain b) (list_all is_plain x) h))
 
-pub read_dash : (text left rest : List ℕ) (inside : Bool) (b : ℕ) → IsRead text left inside → left ≡ b ∷ rest →
-    b ≡ 45 → inside ≡ true → IsRead text rest false
-read_dash text left rest inside b r here is may =
-    read_more text rest inside false b (subst (λ l. IsRead text l inside) here r)
-    (λ x f. subst (λ i. Follows i (b ∷ x)) (sym may) (subst (λ c. Follows true (c ∷ x)) (sym is) (dash f)))
+-- digits and letters in lower case in front, of which there is one
+pub read_plain : (text left rest : List ℕ) (n : ℕ) → IsRead text left false → n ≡ prefix_len is_plain left →
+    rest ≡ drop n left → ¬ (n ≡ 0) → IsRead text rest true
+read_plain text left rest n r count behind some = record {
+  front = r.front ++ run;
+  whole = r.whole ∙ ap (λ t. r.front ++ t) whole ∙ sym (append_assoc r.front run rest);
+  goes = λ x f. subst (Follows false) (sym (append_assoc r.front run x))
+      (r.goes (run ++ x) (begun run plain_run nonempty x f));
+}
+  where
+    run : List ℕ
+    run = take (prefix_len is_plain left) left
+
+    plain_run : ArePlain run
+    plain_run = are_plain run (all-run is_plain left)
+
+    whole : left ≡ run ++ rest
+    whole = sym (take-append-drop (prefix_len is_plain left) left)
+        ∙ ap (λ t. run ++ t) (sym (behind ∙ ap (λ k. drop k left) count))
+
+    nonempty : 0 < length run
+    nonempty =
+        omega (arith, some, count, length-take (prefix_len is_plain left) left, prefix_len-le-length is_plain left)
+
+    more : (front : List ℕ) → ArePlain front → (x : List ℕ) → Follows true x → Follows true (front ++ x)
+    more [] h x f = f
+    more (b ∷ front) h x f = plain h.0 (more front h.1 x f)
+
+    begun : (front : List ℕ) → ArePlain front → 0 < length front → (x : List ℕ) → Follows true x →
+        Follows false (front ++ x)
+    begun [] h some x f = absurd (omega (arith, some))
+    begun (b ∷ front) h some x f = plain h.0 (more front h.1 x f)
+
+pub read_dash : (text left rest : List ℕ) (b : ℕ) → IsRead text left true → left ≡ b ∷ rest → b ≡ 45 →
+    IsRead text rest false
+read_dash text left rest b r here is =
+    read_more text rest true false b (subst (λ l. IsRead text l true) here r)
+    (λ x f. subst (λ c. Follows true (c ∷ x)) (sym is) (dash f))
 
 -- at its end
-pub read_name : (text rest : List ℕ) (inside : Bool) → IsRead text rest inside → inside ≡ true →
-    begins is_name_byte rest ≡ false →
+pub read_name : (text rest : List ℕ) → IsRead text rest true → begins is_name_byte rest ≡ false →
     (length text - length rest ≡ prefix_len is_name_byte text)
     × IsNormalName (take (length text - length rest) text)
-read_name text rest inside r may ends =
-    let whole : Follows false r.front =
-    subst (Follows false) (append-nil r.front) (r.goes [] (subst (λ i. Follows i []) (sym may) over)) in
+read_name text rest r ends =
+    let whole : Follows false r.front = subst (Follows false) (append-nil r.front) (r.goes [] over) in
     let long : length text - length rest ≡ length r.front = rw r.whole (omega (arith, length-append r.front rest)) in
     let run : prefix_len is_name_byte text ≡ length r.front =
     ap (prefix_len is_name_byte) r.whole ∙ prefix_len-span is_name_byte r.front rest (all_names r.front whole) ends in

@@ -79,9 +79,9 @@ unfolding is_letter_or_digit
 Name_in_front-name_again_behind_it e = cc e
 
 -- `a--b`
-pub Name_in_front-each_separator_kept : ¬ (name_of (codes "a--b") ≡ Some (codes "a--b"))
+pub Name_in_front-underscore_for_separators : ¬ (name_of (codes "a--b") ≡ Some (codes "a_b"))
 unfolding is_letter_or_digit
-Name_in_front-each_separator_kept e = cc e
+Name_in_front-underscore_for_separators e = cc e
 
 -- `-`
 pub Name_read-any_name : ¬ (name_of (codes "-") ≡ Some (codes "-"))

@@ -3,6 +3,8 @@ pub mod Chains
 pub mod ComparedView
 pub mod HeaderLines
 pub mod MarkerTokens
+pub mod PlainBytes
+pub mod PutLetters
 pub mod Slots
 pub mod Token
 pub mod TokenReading

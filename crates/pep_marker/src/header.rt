@@ -138,9 +138,18 @@ impl Environment {
         }
     }
 
-    /// What header stands in front of a text: that of this environment, of another one, or none. So a user can tell
-    /// in which environment a printed table was made: its text has that environment's header there (see
-    /// [`Environment::header`]), and the lines of a table alone have none. The only fault is lack of memory, 29.
+    /// Reads the header in front of a text, as [`Environment::header`] writes one, and compares it with that of this
+    /// environment. It tells whether a printed table was made in this environment:
+    ///
+    /// - [`HeaderIn::Missing`]: the text doesn't begin with the line `pep-table 2`, so it has no header, as the lines
+    ///   of a table alone have none.
+    /// - [`HeaderIn::Own`]: this environment's header stands there. The text behind it is given.
+    /// - [`HeaderIn::Other`]: another environment's header stands there. The number of its first line that differs
+    ///   from this environment's is given, counted from 1, and the text behind the header.
+    /// - [`HeaderIn::Bad`]: the line `pep-table 2` stands there, but no environment has the header that it begins. The
+    ///   text from the first line that can't stand there is given.
+    ///
+    /// The only fault is lack of memory, 29.
     pub fn header_in<'a>(&self, alloc: Global, text: &'a str) -> Result<HeaderIn<'a>, MarkerFault>
         ensures found { IfOk result (FindsHeader self.now text.now) }
         ensures environment { IsEnvironment self.now }

@@ -5,6 +5,7 @@ mod chains;
 mod compared_text;
 mod environment;
 mod fault;
+mod forms;
 mod header;
 mod holds;
 mod judged;

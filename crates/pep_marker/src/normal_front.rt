@@ -1,13 +1,15 @@
 //! Names that are normalized as they are read.
 
-ghost use Rattle.std.specs.Prelude.{◌≡◌, ◌≤◌, ◌++◌, ◌∷◌, [], IfSome, Some, length, take};
+ghost use Rattle.std.specs.Prelude.{◌≡◌, ◌≤◌, ◌+◌, ◌++◌, ◌∷◌, [], IfSome, Some, length, take};
 ghost use Rattle.std.specs.List.{prefix_len};
 ghost use Rattle.pep_marker.specs.Name.{name_of};
-ghost use Rattle.texts.specs.Bytes.{is_name_byte};
+ghost use Rattle.pep_marker.specs.Way.PutLetters.{PutsLetters};
+ghost use Rattle.texts.specs.Bytes.{is_name_byte, is_separator};
 
+use crate::forms::form_of;
 use crate::name::{begins_with_separator, goes_on};
 use crate::name_text::SHORT;
-use texts::{is_letter_or_digit, is_separator};
+use texts::is_separator;
 
 /// A name in its normalized form, of few bytes.
 #[derive(Clone, Copy)]
@@ -30,6 +32,36 @@ fn put(bytes: &mut [u8; SHORT], len: usize, byte: u8) -> Option<usize>
     Some(len + 1)
 }
 
+// Writes the letters and digits in front of a text in lower case behind so many bytes, as far as there is room: how
+// many these are.
+#[inline(always)]
+fn put_letters(bytes: &mut [u8; SHORT], len: usize, text: &[u8]) -> usize
+    requires { len ≤ 24 }
+    ensures within { len + result ≤ length bytes.new }
+    ensures in_text { result ≤ length text.now }
+    ensures written { PutsLetters text.now (take len bytes.old) (take (len + result) bytes.new) result }
+{
+    let room = text.len().min(SHORT - len);
+    let mut count = 0;
+    while count < room {
+        let form = form_of(text[count]);
+        if form <= b'.' {
+            break;
+        }
+        bytes[len + count] = form;
+        count += 1;
+    }
+    count
+}
+
+// How many separators stand in front.
+fn separator_run(text: &[u8]) -> usize
+    ensures count { result ≡ prefix_len is_separator text.now }
+    ensures within { result ≤ length text.now }
+{
+    text.iter().take_while(|b| is_separator(**b)).count()
+}
+
 /// The name in front of a text (PEP 508, "Names"), which goes on as long as there are bytes that a name may hold, in
 /// its normalized form (PEP 503, "Normalized Names"). `None` where these bytes are no name, or a long one.
 pub(crate) fn normal_front(text: &[u8]) -> Option<NormalFront>
@@ -43,29 +75,26 @@ pub(crate) fn normal_front(text: &[u8]) -> Option<NormalFront>
     }
     let mut bytes = [0; SHORT];
     let mut len = 0;
-    // Whether a `-` is written for the separators right before what is left.
-    let mut in_run = false;
-    let mut rest = text;
-    while let Some((first, others)) = rest.split_first() {
-        if is_letter_or_digit(*first) {
-            len = put(&mut bytes, len, first.to_ascii_lowercase())?;
-            in_run = false;
-        } else if is_separator(*first) {
-            if !in_run {
-                len = put(&mut bytes, len, b'-')?;
-            }
-            in_run = true;
-        } else {
-            break;
+    let mut left = text;
+    loop {
+        let count = put_letters(&mut bytes, len, left);
+        if count == 0 {
+            return None;
         }
-        rest = others;
+        len += count;
+        let (_, rest) = left.split_at(count);
+        if !begins_with_separator(rest) {
+            if goes_on(rest) {
+                return None;
+            }
+            return Some(NormalFront {
+                bytes,
+                len,
+                count: text.len() - rest.len(),
+            });
+        }
+        len = put(&mut bytes, len, b'-')?;
+        let (_, others) = rest.split_at(separator_run(rest));
+        left = others;
     }
-    if in_run || rest.len() == text.len() || goes_on(rest) {
-        return None;
-    }
-    Some(NormalFront {
-        bytes,
-        len,
-        count: text.len() - rest.len(),
-    })
 }

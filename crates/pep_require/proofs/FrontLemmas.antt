@@ -3,7 +3,8 @@ use Rattle.std.proofs.Common.{◌≡◌, ◌≢◌, ℕ, ◌==◌, ◌<◌, Bool
 use Rattle.std.proofs.Common.{length, take, drop, Option, Some, None, Bor, refl, ap, arith}
 use Rattle.std.proofs.Common.{◌≤◌, ◌⊎◌, inl, inr, get_or, drop-cons, sym, ◌∙◌}
 use Rattle.std.specs.Prelude.{MatchOption}
-use Rattle.std.specs.List.{prefix_len}
+use Rattle.std.specs.List.{prefix_len, take_while}
+use Rattle.std.proofs.lemmas.List.Folds.{length-prefix_len}
 use Rattle.std.specs.Str.{IsCharBoundary}
 use Rattle.std.proofs.lemmas.Bool.Decides.{nat_tests}
 use Rattle.std.proofs.lemmas.List.Sums.{prefix_len-le-length}
@@ -58,6 +59,14 @@ run_cut p {x = x} {n = n} stripped same count front left =
       front = front ∙ ap (take n) stripped ∙ ap (λ k. take k y) long;
       left = left ∙ ap (drop n) stripped ∙ ap (λ k. drop k y) long;
     }
+
+-- .. or behind the run itself
+pub run_taken : (p : ℕ → Bool) {x text behind : List ℕ} → text ≡ without_leading_blanks x →
+    behind ≡ drop (length (take_while p text)) text → RunCut p x (take_while p text) behind
+run_taken p {text = text} stripped left = record {
+  front = ap (take_while p) stripped;
+  left = left ∙ ap (λ n. drop n text) (length-prefix_len p text) ∙ ap (λ t. drop (prefix_len p t) t) stripped;
+}
 
 -- ---- a fault of a part is a fault of what it is a part of
 

@@ -1,8 +1,8 @@
 -- The parts of a line from left to right, each with what is left behind it, and the first check
 -- that fails where the line is refused, as the code goes. The grammar stands in `Reads`; PyPA
 -- "Dependency specifiers", "Grammar" (PEP 508).
-use Rattle.std.specs.Prelude.{◌≡◌, ◌≢◌, ℕ, ◌==◌, ◌⊎◌, Bool, true, false, not, ◌||◌, List, []}
-use Rattle.std.specs.Prelude.{◌∷◌, ◌++◌, drop, length, take_while, Option, Some, None, Err, IsTrue}
+use Rattle.std.specs.Prelude.{◌≡◌, ℕ, ◌==◌, ◌⊎◌, Bool, true, false, not, ◌||◌, List, []}
+use Rattle.std.specs.Prelude.{◌∷◌, ◌++◌, drop, length, take_while, Option, Some, None, IsTrue}
 use Rattle.std.specs.Prelude.{nat_lt}
 use Rattle.std.specs.List.{list_all}
 use Rattle.specifiers.specs.Clause.{Clause}

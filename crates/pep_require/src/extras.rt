@@ -28,7 +28,7 @@ use crate::sink::LineSink;
 use memchr::memchr;
 use pep_marker::{MarkerFault, Name};
 use std::alloc::Global;
-use texts::{name_run, stripped};
+use texts::stripped;
 
 // The name of one extra, with white space round it.
 fn extra(alloc: Global, piece: &str) -> Result<Name, RequireFault>
@@ -36,13 +36,14 @@ fn extra(alloc: Global, piece: &str) -> Result<Name, RequireFault>
     ensures refused { IfErr result (λ e. (e ≡ RequireFault.NoMemory)
         ⊎ ((e ≡ RequireFault.BadExtras) × NoExtra piece.now)) }
 {
-    let text = stripped(piece);
-    let (written, after) = text.split_at(name_run(text.as_bytes()));
-    if !stripped(after).is_empty() {
-        return Err(RequireFault::BadExtras);
-    }
-    match Name::read(alloc, written) {
-        Ok(name) => Ok(name),
+    match Name::in_front(alloc, stripped(piece)) {
+        Ok((name, after)) => {
+            if stripped(after).is_empty() {
+                Ok(name)
+            } else {
+                Err(RequireFault::BadExtras)
+            }
+        }
         Err(MarkerFault::BadName) => Err(RequireFault::BadExtras),
         // The only other fault is lack of memory.
         Err(_) => Err(RequireFault::NoMemory),

@@ -47,14 +47,15 @@ pub(crate) fn walk_target<'a, S: LineSink>(
     ensures refused { IfErr result (λ e. (e ≡ RequireFault.NoMemory)
         ⊎ RefusesTarget text.now e) }
 {
+    // Most targets are these.
+    if is_bare(text) {
+        return walk_bare(sink, line, text);
+    }
     if let Some(rest) = behind(text, '@') {
         return walk_url(sink, line, rest);
     }
     if let Some(rest) = behind(text, '(') {
         return walk_closed(sink, line, rest);
-    }
-    if is_bare(text) {
-        return walk_bare(sink, line, text);
     }
     Ok(text)
 }

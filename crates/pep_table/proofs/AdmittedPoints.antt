@@ -1,5 +1,5 @@
 -- The points that a demand admits, by the ranges of its versions.
-use Rattle.std.proofs.Common.{◌≡◌, List}
+use Rattle.std.proofs.Common.{List}
 use Rattle.pep_version.specs.Version.{IsVersion, Version}
 use Rattle.pep_clause.proofs.LeastCut.{IsNormal-all_versions}
 use Rattle.pep_clause.proofs.SameVersions.{point-versions, versions-point}

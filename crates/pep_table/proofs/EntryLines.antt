@@ -1,10 +1,5 @@
 -- The lines of an entry: its head, what is demanded besides versions, and the ranges.
-use Rattle.std.proofs.Common.{◌≡◌, ◌++◌, ℕ, List, ap, append-nil, append_assoc, codes, map, sym, ◌∙◌}
-use Rattle.std.specs.Prelude.{◌≢◌}
-use Rattle.std.specs.declared.cmp.Ordering.TheVariants.{Less}
-use Rattle.pep_clause.specs.Cut.{Cut, cut_cmp}
-use Rattle.pep_clause.specs.OperatorTable.{range}
-use Rattle.demands.proofs.BoundedEntries.{no_range, one_range}
+use Rattle.std.proofs.Common.{◌≡◌, ◌++◌, ℕ, List, ap, append_assoc, codes, map, sym, ◌∙◌}
 use Rattle.demands.specs.Way.Finished.{other_parts}
 use Rattle.demands.specs.Way.Others.{OtherParts}
 use Rattle.demands.specs.Table.{EntryParts}
@@ -14,22 +9,6 @@ use Rattle.pep_table.specs.TableText.{entry_text, kind_lines, line, other_lines,
 
 abbrev pub head_line : List ℕ → Verdict → List ℕ
 head_line name w = line (name ++ codes " " ++ verdict_word w)
-
-abbrev range_line : Cut → Cut → List ℕ
-range_line l h = line (codes "  range " ++ range_text (record { low = l; high = h }))
-
--- ---- the ranges between two cuts
-
-pub line_between : (old new : List ℕ) (l h : Cut) → cut_cmp l h ≡ Less → new ≡ old ++ range_line l h →
-    new ≡ old ++ kind_lines (codes "range") (map range_text (range l h))
-line_between old new l h e is =
-    is ∙ ap (λ x. old ++ x) (sym (append-nil (range_line l h)))
-    ∙ (λ i. old ++ kind_lines (codes "range") (map range_text (sym (one_range l h e) i)))
-
-pub no_line_between : (old : List ℕ) (l h : Cut) → cut_cmp l h ≢ Less →
-    old ≡ old ++ kind_lines (codes "range") (map range_text (range l h))
-no_line_between old l h e =
-    sym (append-nil old) ∙ (λ i. old ++ kind_lines (codes "range") (map range_text (sym (no_range l h e) i)))
 
 -- ---- what is demanded besides versions
 

@@ -7,10 +7,8 @@ use Rattle.std.proofs.lemmas.List.Folds.{concat-append}
 use Rattle.std.specs.List.{concat}
 use Rattle.std.specs.Prelude.{Vec}
 use Rattle.std.specs.declared.alloc.Global.{Global}
-use Rattle.packed_cuts.specs.Way.LeftOut.{span, spans}
-use Rattle.packed_cuts.specs.declared.packed_range.PackedRange.{PackedRange}
 use Rattle.pep_table.specs.Way.Printout.{in_blocks, row_text, rows_text}
-use Rattle.pep_table.specs.TableText.{kind_lines, line, range_text}
+use Rattle.pep_table.specs.TableText.{kind_lines, line}
 use Rattle.pep_table.specs.declared.printout.Row.{Row}
 
 -- a part more
@@ -45,21 +43,6 @@ lines_push kind f xs i d lt =
     ∙ ap (λ l. concat (map g l)) (sym (map-append f (take i xs) (x ∷ [])))
     ∙ ap (λ l. concat (map g (map f l))) (sym (take_more xs i d lt))
 
--- one line more of ranges between packed cuts
-pub spans_push : (bounds : List PackedRange) (i : ℕ) (d : PackedRange) → i < length bounds →
-    kind_lines (codes "range") (map range_text (spans (take i bounds)))
-    ++ kind_line (codes "range") (range_text (span (get_or bounds i d)))
-    ≡ kind_lines (codes "range") (map range_text (spans (take (i + 1) bounds)))
-spans_push bounds i d lt =
-    let b = get_or bounds i d in
-    let g = kind_line (codes "range") in
-    let done = spans (take i bounds) in
-    concat-push (map g (map range_text done)) (g (range_text (span b)))
-    ∙ ap concat (sym (map-append g (map range_text done) (range_text (span b) ∷ [])))
-    ∙ ap (λ l. concat (map g l)) (sym (map-append range_text done (span b ∷ [])))
-    ∙ ap (λ l. concat (map g (map range_text l))) (sym (map-append span (take i bounds) (b ∷ [])))
-    ∙ ap (λ l. concat (map g (map range_text (spans l)))) (sym (take_more bounds i d lt))
-
 -- ---- rows
 
 -- rows behind rows
@@ -83,10 +66,3 @@ pub block_lines : (blocks : List (Vec Row Global)) (i : ℕ) (d : Vec Row Global
 block_lines blocks i d lt =
     sym (rows_text-append (in_blocks (take i blocks)) (get_or blocks i d).items)
     ∙ ap rows_text (blocks_push blocks i d lt)
-
--- a full block is put away, and a row stands in the next one
-pub in_blocks-push : (blocks : List (Vec Row Global)) (b : Vec Row Global) →
-    in_blocks (blocks ++ b ∷ []) ≡ in_blocks blocks ++ b.items
-in_blocks-push blocks b =
-    flat_map-append (λ (v : Vec Row Global). v.items) blocks (b ∷ [])
-    ∙ ap (λ l. in_blocks blocks ++ l) (append-nil b.items)

@@ -12,7 +12,6 @@ ghost use Rattle.std.specs.Prelude.{
   map,
   option_map,
 };
-ghost use Rattle.pep_clause.specs.OperatorTable.{range};
 ghost use Rattle.pep_marker.specs.Header.{header};
 ghost use Rattle.pep_table.specs.TableText.{
   IsTableText,
@@ -23,19 +22,16 @@ ghost use Rattle.pep_table.specs.TableText.{
   other_lines,
   range_text,
 };
-ghost use Rattle.demands.specs.Way.Finished.{kept_ranges, other_parts};
+ghost use Rattle.demands.specs.Way.Finished.{other_parts};
 ghost use Rattle.demands.specs.Way.Others.{kept_others};
-ghost use Rattle.packed_cuts.specs.Way.LeftOut.{spans};
 ghost use Rattle.demands.specs.Verdict.{verdict_word};
 ghost use Rattle.texts.specs.TextOut.{Extends};
 
 use crate::table::Table;
-use demands::{Entry, Finished, Kept, KeptRanges, OtherTexts, TableFault, Verdict};
-use packed_cuts::PackedRange;
+use demands::{Entry, Finished, Kept, OtherTexts, TableFault, Verdict};
 use pep_clause::Range;
 use pep_marker::{Environment, Name};
 use std::alloc::{AllocError, Global};
-use std::cmp::Ordering;
 use texts::{Arena, TextOut};
 
 fn put_line<T: TextOut>(text: &mut T, kind: &str, value: &str) -> Result<(), T::Fault>
@@ -164,60 +160,6 @@ pub fn entry_text(alloc: Global, name: &Name, entry: &Entry) -> Result<String, T
     Ok(lines)
 }
 
-// Writes the line of the range between two packed cuts.
-fn put_bounds<T: TextOut>(text: &mut T, bounds: PackedRange) -> Result<(), T::Fault>
-    ensures ok { OnOk result (T.tells → T.written text.new ≡ T.written text.old
-        ++ line (codes "  range " ++ range_text (record {
-          low = bounds.low;
-          high = bounds.high;
-        }))) }
-    ensures kept { OnErr result (T.tells → Extends (T.written text.old) (T.written text.new)) }
-{
-    text.put_str("  range ")?;
-    bounds.low.put_text(text)?;
-    text.put_str(" to ")?;
-    bounds.high.put_text(text)?;
-    text.put_str("\n")?;
-    Ok(())
-}
-
-// Writes the line of the range between two packed cuts, where a version lies between them.
-fn put_between<T: TextOut>(text: &mut T, bounds: PackedRange) -> Result<(), T::Fault>
-    ensures ok { OnOk result (T.tells → T.written text.new ≡ T.written text.old
-        ++ kind_lines (codes "range") (map range_text (range bounds.low bounds.high))) }
-    ensures kept { OnErr result (T.tells → Extends (T.written text.old) (T.written text.new)) }
-{
-    if bounds.low.cmp(&bounds.high) != Ordering::Less {
-        return Ok(());
-    }
-    put_bounds(text, bounds)
-}
-
-// Writes the lines of ranges between packed cuts.
-fn put_spans<T: TextOut>(text: &mut T, ranges: &[PackedRange]) -> Result<(), T::Fault>
-    ensures ok { OnOk result (T.tells → T.written text.new ≡ T.written text.old
-        ++ kind_lines (codes "range") (map range_text (spans ranges.now))) }
-    ensures kept { OnErr result (T.tells → Extends (T.written text.old) (T.written text.new)) }
-{
-    for bounds in ranges {
-        put_bounds(text, *bounds)?;
-    }
-    Ok(())
-}
-
-// Writes the lines of the ranges.
-fn put_kept<T: TextOut>(text: &mut T, versions: &KeptRanges) -> Result<(), T::Fault>
-    ensures ok { OnOk result (T.tells → T.written text.new ≡ T.written text.old
-        ++ kind_lines (codes "range") (map range_text (kept_ranges versions.now))) }
-    ensures kept { OnErr result (T.tells → Extends (T.written text.old) (T.written text.new)) }
-{
-    match versions {
-        KeptRanges::Bounded(bounds) => put_between(text, *bounds),
-        KeptRanges::Packed(ranges) => put_spans(text, ranges.as_slice()),
-        KeptRanges::Set(versions) => put_ranges(text, versions.ranges()),
-    }
-}
-
 // Writes the lines of what is demanded besides versions.
 fn put_others<T: TextOut>(text: &mut T, others: Option<&OtherTexts>) -> Result<(), T::Fault>
     ensures ok { OnOk result (T.tells → T.written text.new ≡ T.written text.old
@@ -245,7 +187,7 @@ pub(crate) fn put_finished<T: TextOut>(
 {
     put_head(text, name.text(), verdict)?;
     put_others(text, finished.others())?;
-    put_kept(text, finished.versions())
+    put_ranges(text, finished.versions().ranges())
 }
 
 /// The header of the environment.

@@ -140,8 +140,8 @@ pub(crate) fn put_part<T: TextOut>(
 
 /// Writes the normal text (PEP 440, "Normalization") of the version of epoch 0 with this release and these suffixes,
 /// and no local version label ("Public version identifiers"), as [`Version::put_text`](crate::Version::put_text) does;
-/// an empty release has no number to write, and makes no version. Public for the crate of packed cuts, which has its
-/// numbers and no version.
+/// an empty release has no number to write, and makes no version. Public for the crate of cuts, which has its numbers
+/// and no version.
 pub fn put_public<T: TextOut>(
     text: &mut T,
     release: &[u64],

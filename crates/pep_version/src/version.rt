@@ -297,7 +297,7 @@ impl Version {
     }
 
     /// Writes the normal text (PEP 440, "Normalization") to what takes it part by part, as `push_text` does to a
-    /// `String`. The fault is the first of what takes it, which has then taken some of the text at most.
+    /// `String`. A fault is one of what takes it; what had been taken before stays, with perhaps a part behind it.
     pub fn put_text<T: TextOut>(&self, text: &mut T) -> Result<(), T::Fault>
         ensures ok { OnOk result (T.tells → T.written text.new
             ≡ T.written text.old ++ normal_text self.now) }

@@ -1,54 +1,35 @@
 //! What claims leave out, between cuts that are numbered in order.
 
 use crate::cover::Part;
-use packed_cuts::PackedRange;
-use pep_clause::{Clause, ClauseFault, Cut, PackedCut, Range, VersionSet};
+use pep_clause::{Clause, ClauseFault, Cut, Range, VersionSet};
 use std::alloc::{AllocError, Global};
-
-/// What stands for a cut.
-pub(crate) trait Standing: Ord + Drop {
-    /// The cut.
-    fn stands_for(&self, alloc: Global) -> Result<Cut, ClauseFault>;
-}
-
-impl Standing for PackedCut {
-    fn stands_for(&self, _alloc: Global) -> Result<Cut, ClauseFault> {
-        Ok(Cut::of_packed(*self))
-    }
-}
-
-impl Standing for Cut {
-    fn stands_for(&self, alloc: Global) -> Result<Cut, ClauseFault> {
-        self.copied(alloc)
-    }
-}
 
 // Where a part begins or ends.
 #[derive(Drop)]
-struct End<T> {
-    cut: T,
+struct End {
+    cut: Cut,
     part: usize,
     is_high: bool,
 }
 
 /// What claims leave out, part by part, in the order of the claims.
 #[derive(Drop)]
-pub(crate) struct Ends<T> {
-    ends: Vec<End<T>>,
+pub(crate) struct Ends {
+    ends: Vec<End>,
     parts: Vec<Part>,
 }
 
 /// The same with the cuts by their numbers.
 #[derive(Drop)]
-pub(crate) struct Numbered<T> {
-    ends: Vec<End<T>>,
+pub(crate) struct Numbered {
+    ends: Vec<End>,
     pub(crate) parts: Vec<Part>,
     // For each cut one of the ends that stand there.
     cuts: Vec<usize>,
 }
 
-impl<T: Standing> Ends<T> {
-    pub(crate) fn none(alloc: Global) -> Ends<T> {
+impl Ends {
+    pub(crate) fn none(alloc: Global) -> Ends {
         Ends {
             ends: Vec::new(alloc),
             parts: Vec::new(alloc),
@@ -56,7 +37,7 @@ impl<T: Standing> Ends<T> {
     }
 
     /// Puts what the claim leaves out between two cuts behind the others.
-    pub(crate) fn push(&mut self, claim: usize, low: T, high: T) -> Result<(), AllocError> {
+    pub(crate) fn push(&mut self, claim: usize, low: Cut, high: Cut) -> Result<(), AllocError> {
         if low >= high {
             return Ok(());
         }
@@ -79,19 +60,8 @@ impl<T: Standing> Ends<T> {
         Ok(())
     }
 
-    /// How many parts there are.
-    pub(crate) fn count(&self) -> usize {
-        self.parts.len()
-    }
-
-    /// Keeps the first so many parts alone.
-    pub(crate) fn keep(&mut self, count: usize) {
-        self.parts.truncate(count);
-        self.ends.truncate(count.saturating_mul(2));
-    }
-
     // Puts a cut behind the others where nothing begins or ends.
-    fn push_cut(&mut self, cut: T) -> Result<(), AllocError> {
+    fn push_cut(&mut self, cut: Cut) -> Result<(), AllocError> {
         self.ends.push(End {
             cut,
             part: usize::MAX,
@@ -104,9 +74,9 @@ impl<T: Standing> Ends<T> {
     pub(crate) fn numbered(
         self,
         alloc: Global,
-        first: T,
-        last: T,
-    ) -> Result<Numbered<T>, AllocError> {
+        first: Cut,
+        last: Cut,
+    ) -> Result<Numbered, AllocError> {
         let mut all = self;
         all.push_cut(first)?;
         all.push_cut(last)?;
@@ -121,7 +91,7 @@ impl<T: Standing> Ends<T> {
 }
 
 // Whether the cut of the end is not that of the one before it.
-fn is_next<T: Ord>(ends: &[End<T>], index: usize) -> bool {
+fn is_next(ends: &[End], index: usize) -> bool {
     match (index.checked_sub(1), ends.get(index)) {
         (Some(before), Some(end)) => match ends.get(before) {
             Some(other) => other.cut != end.cut,
@@ -142,11 +112,7 @@ fn number_end(parts: &mut [Part], part: usize, is_high: bool, number: usize) {
 }
 
 // Puts the numbers of cuts into the parts, whose ends are sorted. For each cut one of the ends that stand there.
-fn number_parts<T: Ord>(
-    alloc: Global,
-    ends: &[End<T>],
-    parts: &mut [Part],
-) -> Result<Vec<usize>, AllocError> {
+fn number_parts(alloc: Global, ends: &[End], parts: &mut [Part]) -> Result<Vec<usize>, AllocError> {
     let mut cuts = Vec::new(alloc);
     for (index, end) in ends.iter().enumerate() {
         if is_next(ends, index) {
@@ -157,7 +123,7 @@ fn number_parts<T: Ord>(
     Ok(cuts)
 }
 
-impl<T: Standing> Numbered<T> {
+impl Numbered {
     /// The number of the last cut.
     pub(crate) fn last(&self) -> usize {
         self.cuts.len().saturating_sub(1)
@@ -169,38 +135,16 @@ impl<T: Standing> Numbered<T> {
             return Ok(None);
         };
         match self.ends.get(index) {
-            Some(end) => Ok(Some(end.cut.stands_for(alloc)?)),
+            Some(end) => Ok(Some(end.cut.copied(alloc)?)),
             None => Ok(None),
         }
     }
 }
 
-// ---- between packed cuts
-
-/// Puts what the clause leaves out behind the rest, and says whether packed cuts tell it.
-pub(crate) fn push_packed(
-    ends: &mut Ends<PackedCut>,
-    claim: usize,
-    clause: &Clause,
-) -> Result<bool, AllocError> {
-    let Some(bounds) = PackedRange::of(clause) else {
-        return Ok(false);
-    };
-    if clause.op().leaves_out() {
-        ends.push(claim, bounds.low, bounds.high)?;
-    } else {
-        ends.push(claim, PackedCut::least(), bounds.low)?;
-        ends.push(claim, bounds.high, PackedCut::end())?;
-    }
-    Ok(true)
-}
-
-// ---- between cuts
-
 /// Puts what is in none of the ranges behind the rest.
 pub(crate) fn push_others(
     alloc: Global,
-    ends: &mut Ends<Cut>,
+    ends: &mut Ends,
     claim: usize,
     ranges: &[Range],
 ) -> Result<(), ClauseFault> {
@@ -216,7 +160,7 @@ pub(crate) fn push_others(
 /// Puts what the clause leaves out behind the rest.
 pub(crate) fn push_cuts(
     alloc: Global,
-    ends: &mut Ends<Cut>,
+    ends: &mut Ends,
     claim: usize,
     clause: &Clause,
 ) -> Result<(), ClauseFault> {

@@ -3,10 +3,10 @@
 use crate::apart::Point;
 use crate::claims::{Claim, PlacedClaim};
 use crate::cover::{Needed, covering};
-use crate::ends::{Ends, Numbered, Standing, push_cuts, push_others, push_packed};
+use crate::ends::{Ends, Numbered, push_cuts, push_others};
 use demands::Entry;
-use packed_cuts::PackedRange;
-use pep_clause::{Clause, ClauseFault, Cut, PackedCut};
+use packed_cuts::{PackedRange, PackedSet};
+use pep_clause::{Clause, ClauseFault, Cut, PackedCut, VersionSet};
 use pep_require::Target;
 use pep_version::{Key, Version, VersionFault};
 use std::alloc::{AllocError, Global};
@@ -29,53 +29,64 @@ impl Hint {
     }
 }
 
-// The packed cuts between which all clauses admit versions, as far as packed cuts tell.
-fn between(clauses: &[Clause]) -> PackedRange {
-    let mut low = PackedCut::least();
-    let mut high = PackedCut::end();
-    for clause in clauses {
-        match PackedRange::of(clause) {
-            Some(own) if !clause.op().leaves_out() => {
-                low = low.later(own.low);
-                high = high.earlier(own.high);
-            }
-            _ => {}
-        }
+// All versions, and none, between two packed cuts.
+fn all_versions() -> PackedRange {
+    PackedRange {
+        low: PackedCut::least(),
+        high: PackedCut::end(),
     }
-    PackedRange { low, high }
+}
+
+fn no_version() -> PackedRange {
+    PackedRange {
+        low: PackedCut::end(),
+        high: PackedCut::least(),
+    }
+}
+
+// The packed cuts between which the versions lie that are in the set too, as far as packed cuts tell.
+fn narrowed(bounds: PackedRange, versions: &VersionSet) -> PackedRange {
+    match PackedSet::of(versions) {
+        Some(set) if !set.outside => PackedRange {
+            low: bounds.low.later(set.bounds.low),
+            high: bounds.high.earlier(set.bounds.high),
+        },
+        _ => bounds,
+    }
+}
+
+// The packed cuts between which all clauses admit versions, as far as packed cuts tell.
+fn between(alloc: Global, clauses: &[Clause]) -> Result<PackedRange, ClauseFault> {
+    let mut bounds = all_versions();
+    for clause in clauses {
+        bounds = narrowed(bounds, &VersionSet::of(alloc, clause)?);
+    }
+    Ok(bounds)
 }
 
 // The same of a claim. Of an entry no more is told than whether it admits a version.
-fn bounds_of(claim: &Claim) -> PackedRange {
+fn bounds_of(alloc: Global, claim: &Claim) -> Result<PackedRange, ClauseFault> {
     match claim {
         Claim::Required(requirement) => match requirement.target() {
-            Target::Bounds(clauses) => between(clauses.as_slice()),
-            Target::Direct(_) => between(&[]),
+            Target::Bounds(clauses) => between(alloc, clauses.as_slice()),
+            Target::Direct(_) => Ok(all_versions()),
         },
-        Claim::Entered(_, entry) => {
-            if entry.versions().is_empty() {
-                PackedRange {
-                    low: PackedCut::end(),
-                    high: PackedCut::least(),
-                }
-            } else {
-                between(&[])
-            }
-        }
+        Claim::Entered(_, entry) if entry.versions().is_empty() => Ok(no_version()),
+        Claim::Entered(..) => Ok(all_versions()),
     }
 }
 
 // The claim whose versions begin last, and the one whose versions end first, by their indices, where no version is
 // between them: one that admits no version by itself is both.
-fn narrowest(claims: &[PlacedClaim]) -> Option<(usize, usize)> {
+fn narrowest(alloc: Global, claims: &[PlacedClaim]) -> Result<Option<(usize, usize)>, ClauseFault> {
     let mut first = 0;
     let mut last = 0;
     let mut low = PackedCut::least();
     let mut high = PackedCut::end();
     for (index, placed) in claims.iter().enumerate() {
-        let own = bounds_of(&placed.claim);
+        let own = bounds_of(alloc, &placed.claim)?;
         if own.low >= own.high {
-            return Some((index, index));
+            return Ok(Some((index, index)));
         }
         if own.low > low {
             low = own.low;
@@ -87,9 +98,9 @@ fn narrowest(claims: &[PlacedClaim]) -> Option<(usize, usize)> {
         }
     }
     if low >= high {
-        Some((first, last))
+        Ok(Some((first, last)))
     } else {
-        None
+        Ok(None)
     }
 }
 
@@ -219,55 +230,9 @@ fn text_apart(
 
 // ---- a cover of all versions by what claims leave out
 
-// Whether packed cuts tell all that the clauses leave out. It is put behind the rest as far as they do.
-fn push_clauses(
-    ends: &mut Ends<PackedCut>,
-    index: usize,
-    clauses: &[Clause],
-) -> Result<bool, AllocError> {
-    for clause in clauses {
-        if !push_packed(ends, index, clause)? {
-            return Ok(false);
-        }
-    }
-    Ok(true)
-}
-
-// Puts what the claim leaves out behind the rest, if packed cuts tell it all: else a point of another one may be left
-// out.
-fn push_claim_packed(
-    ends: &mut Ends<PackedCut>,
-    index: usize,
-    claim: &Claim,
-) -> Result<(), AllocError> {
-    let Claim::Required(requirement) = claim else {
-        return Ok(());
-    };
-    let Target::Bounds(clauses) = requirement.target() else {
-        return Ok(());
-    };
-    let before = ends.count();
-    if !push_clauses(ends, index, clauses.as_slice())? {
-        ends.keep(before);
-    }
-    Ok(())
-}
-
-// What the claims leave out between packed cuts.
-fn between_packed(
+fn push_claim(
     alloc: Global,
-    claims: &[PlacedClaim],
-) -> Result<Numbered<PackedCut>, ClauseFault> {
-    let mut ends = Ends::none(alloc);
-    for (index, placed) in claims.iter().enumerate() {
-        push_claim_packed(&mut ends, index, &placed.claim)?;
-    }
-    Ok(ends.numbered(alloc, PackedCut::least(), PackedCut::end())?)
-}
-
-fn push_claim_cuts(
-    alloc: Global,
-    ends: &mut Ends<Cut>,
+    ends: &mut Ends,
     index: usize,
     claim: &Claim,
 ) -> Result<(), ClauseFault> {
@@ -284,19 +249,19 @@ fn push_claim_cuts(
     }
 }
 
-// What the claims leave out between cuts.
-fn between_cuts(alloc: Global, claims: &[PlacedClaim]) -> Result<Numbered<Cut>, ClauseFault> {
+// What the claims leave out.
+fn left_out(alloc: Global, claims: &[PlacedClaim]) -> Result<Numbered, ClauseFault> {
     let mut ends = Ends::none(alloc);
     for (index, placed) in claims.iter().enumerate() {
-        push_claim_cuts(alloc, &mut ends, index, &placed.claim)?;
+        push_claim(alloc, &mut ends, index, &placed.claim)?;
     }
     Ok(ends.numbered(alloc, Cut::least(), Cut::end())?)
 }
 
 // A point for each claim that is needed, in the order of the cuts.
-fn points_of<T: Standing>(
+fn points_of(
     alloc: Global,
-    numbered: &Numbered<T>,
+    numbered: &Numbered,
     needed: &[Needed],
 ) -> Result<Vec<Point>, ClauseFault> {
     let mut places = Vec::with_capacity(alloc, needed.len())?;
@@ -308,9 +273,9 @@ fn points_of<T: Standing>(
 }
 
 // Points at the cuts with these numbers, each with its owner.
-fn points_at<T: Standing>(
+fn points_at(
     alloc: Global,
-    numbered: &Numbered<T>,
+    numbered: &Numbered,
     places: &[(usize, usize)],
 ) -> Result<Vec<Point>, ClauseFault> {
     let mut points = Vec::with_capacity(alloc, places.len())?;
@@ -322,12 +287,8 @@ fn points_at<T: Standing>(
     Ok(points)
 }
 
-// The claims of a cover that are needed, and for each a point.
-fn hint_of<T: Standing>(
-    alloc: Global,
-    numbered: &Numbered<T>,
-    claims: usize,
-) -> Result<Hint, ClauseFault> {
+// Claims that leave out all versions together, none of which may be left away, and for each a point.
+fn hint_of(alloc: Global, numbered: &Numbered, claims: usize) -> Result<Hint, ClauseFault> {
     let needed = covering(alloc, numbered.parts.as_slice(), numbered.last(), claims)?;
     let points = points_of(alloc, numbered, needed.as_slice())?;
     let mut few = Vec::with_capacity(alloc, needed.len())?;
@@ -337,27 +298,18 @@ fn hint_of<T: Standing>(
     Ok(Hint { few, points })
 }
 
-// Claims that leave out all versions together, none of which may be left away, where packed cuts or cuts tell.
-fn covered(alloc: Global, claims: &[PlacedClaim]) -> Result<Hint, ClauseFault> {
-    let hint = hint_of(alloc, &between_packed(alloc, claims)?, claims.len())?;
-    if !hint.few.is_empty() {
-        return Ok(hint);
-    }
-    hint_of(alloc, &between_cuts(alloc, claims)?, claims.len())
-}
-
 /// Claims that may clash by the versions that they admit, and points.
 pub(crate) fn clashing_versions(
     alloc: Global,
     claims: &[PlacedClaim],
 ) -> Result<Hint, ClauseFault> {
-    if let Some(pair) = narrowest(claims) {
+    if let Some(pair) = narrowest(alloc, claims)? {
         return Ok(Hint::of_pair(alloc, pair)?);
     }
     if let Some(pair) = text_apart(alloc, claims)? {
         return Ok(Hint::of_pair(alloc, pair)?);
     }
-    covered(alloc, claims)
+    hint_of(alloc, &left_out(alloc, claims)?, claims.len())
 }
 
 /// Claims that may clash by their URLs.

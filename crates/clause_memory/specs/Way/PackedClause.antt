@@ -1,16 +1,12 @@
 -- What a clause demands of versions, and texts that are such clauses.
 use Rattle.std.specs.Prelude.{ℕ, List, Option, Some, None, IfSome, if◌then◌else◌, take, ⊤}
 use Rattle.specifiers.specs.Clause.{Clause}
-use Rattle.pep_clause.specs.Way.Ends.{between}
+use Rattle.packed_cuts.specs.Way.PackedSet.{ranges_in}
 use Rattle.pep_clause.specs.VersionSet.{Range}
 use Rattle.pep_require.specs.Reads.{IsBound}
 use Rattle.demands.specs.Way.LineDemands.{DemandsRanges}
-use Rattle.clause_memory.specs.declared.packed_clause.PackedClause.{PackedClause}
+use Rattle.packed_cuts.specs.declared.packed_set.PackedSet.{PackedSet}
 use Rattle.clause_memory.specs.declared.memory.Remembered.{Remembered}
-
--- the ranges in which the versions lie
-abbrev pub demanded_ranges : PackedClause → List Range
-demanded_ranges d = between d.outside d.bounds.low d.bounds.high
 
 -- the text is a clause, with white space round it, that demands the versions in these ranges, and no text
 pub record ReadsDemand (x : List ℕ) (ranges : List Range) : Type 0 where
@@ -19,14 +15,14 @@ pub record ReadsDemand (x : List ℕ) (ranges : List Range) : Type 0 where
   pub demands : DemandsRanges clause ranges
 
 -- what is known of a text: what it demands, or nothing
-abbrev pub KnowsDemand : List ℕ → Option PackedClause → Type 0
-KnowsDemand x found = IfSome found (λ d. ReadsDemand x (demanded_ranges d))
+abbrev pub KnowsDemand : List ℕ → Option PackedSet → Type 0
+KnowsDemand x found = IfSome found (λ d. ReadsDemand x (ranges_in d))
 
 -- the text that is remembered, and what is known of it
 abbrev pub remembered_text : Remembered → List ℕ
 remembered_text it = take it.len it.text
 
-abbrev pub remembered_demand : Remembered → Option PackedClause
+abbrev pub remembered_demand : Remembered → Option PackedSet
 remembered_demand it =
     if it.is_known then Some (record { bounds = it.bounds; outside = it.outside }) else None
 

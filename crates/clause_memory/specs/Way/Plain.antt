@@ -9,8 +9,8 @@ use Rattle.specifiers.specs.declared.op.Op.{Op}
 use Rattle.pep_clause.specs.OperatorTable.{set_of}
 use Rattle.packed_cuts.specs.Way.PackedRange.{release_prefix}
 use Rattle.pep_clause.specs.PackedCut.{release_alone}
-use Rattle.clause_memory.specs.Way.PackedClause.{demanded_ranges}
-use Rattle.clause_memory.specs.declared.packed_clause.PackedClause.{PackedClause}
+use Rattle.packed_cuts.specs.Way.PackedSet.{ranges_in}
+use Rattle.packed_cuts.specs.declared.packed_set.PackedSet.{PackedSet}
 use Rattle.clause_memory.specs.declared.plain.Operand.{Operand}
 use Rattle.clause_memory.specs.declared.plain.Operand.TheVariants as operand
 use Rattle.clause_memory.specs.declared.plain.Release.{Release}
@@ -45,7 +45,7 @@ MakesClause o r true c = prefix_clause o (release_prefix r) ≡ Ok c
 MakesClause o r false c = version_clause o (release_alone r) ≡ Ok c
 
 -- .. and it demands this
-pub record MakesDemand (o : Op) (r : List ℕ) (starred : Bool) (d : PackedClause) : Type 0 where
+pub record MakesDemand (o : Op) (r : List ℕ) (starred : Bool) (d : PackedSet) : Type 0 where
   pub clause : Clause
   pub made : MakesClause o r starred clause
-  pub versions : demanded_ranges d ≡ set_of clause
+  pub versions : ranges_in d ≡ set_of clause

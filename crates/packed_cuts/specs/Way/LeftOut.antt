@@ -1,5 +1,5 @@
--- Ranges between packed cuts, and what is left of all versions where those between two packed cuts are left out, part by part. How parts
--- are kept, as single packed cuts or as two, is told from `single` on: no public clause names that.
+-- What is left of all versions where those between two packed cuts are left out, part by part. How parts are kept, as single packed cuts
+-- or as two, is told from `single` on: no public clause names that.
 use Rattle.std.specs.Prelude.{◌≡◌, ◌+◌, ◌++◌, ◌<◌, ◌≤◌, ◌&&◌, ◌||◌, ℕ, All, Bool, false, not, List, [], ◌∷◌, get_or, length, map}
 use Rattle.std.specs.List.{list_any}
 use Rattle.std.specs.Ordering.{is_lt}
@@ -10,13 +10,6 @@ use Rattle.pep_clause.specs.OperatorTable.{outside}
 use Rattle.pep_clause.specs.VersionSet.{Range, all_versions}
 use Rattle.pep_clause.specs.PackedCut.{IsPackedCut, packed_word, right_behind}
 use Rattle.packed_cuts.specs.declared.packed_range.PackedRange.{PackedRange}
-
--- the range between two packed cuts
-abbrev pub span : PackedRange → Range
-span b = record { low = b.low; high = b.high }
-
-abbrev pub spans : List PackedRange → List Range
-spans bounds = map span bounds
 
 -- what is left over of all versions
 abbrev pub left_over : List PackedRange → List Range

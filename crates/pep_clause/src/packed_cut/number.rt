@@ -1,7 +1,9 @@
 // How the number in front of a text is read.
 
-ghost use Rattle.std.specs.Prelude.{◌<◌, IfSome, length};
+ghost use Rattle.std.specs.Prelude.{◌≡◌, ◌<◌, IfSome, false, length};
+ghost use Rattle.std.specs.Char.{is_ascii_digit};
 ghost use Rattle.pep_clause.specs.Way.Numbers.{NumberFrom};
+ghost use Rattle.texts.specs.Runs.{begins};
 
 use crate::packed_cut::PackedCut;
 
@@ -9,10 +11,13 @@ use crate::packed_cut::PackedCut;
 const LARGE: u64 = 1 << 32;
 
 impl PackedCut {
-    /// The number in front of a text, as a release may have it, and what stands behind it: `None` where no digit stands
-    /// there, or a digit behind a number that is too large for a packed cut.
+    /// The number that all digits in front of a text write, as a release may have it, and what stands behind it. `None`
+    /// where no digit stands there, or one behind a number that is too large for a packed cut: no clause says so.
+    // It is called for each number of most lines.
+    #[inline(always)]
     pub fn number_in(text: &[u8]) -> Option<(u64, &[u8])>
         ensures number { IfSome result (λ found. NumberFrom text.now found.0 found.1.now) }
+        ensures whole { IfSome result (λ found. begins is_ascii_digit found.1.now ≡ false) }
         ensures shorter { IfSome result (λ found. length found.1.now < length text.now) }
     {
         let mut value: u64 = 0;

@@ -145,7 +145,8 @@ fn put_suffix(
     put(buffer, end, &[0])
 }
 
-// The key with these parts, whose release has no zeros at its end. Inlined, since its callers know how long the buffer is.
+// The key with these parts, whose release has no zeros at its end. Inlined, since its callers know how long the
+// buffer is.
 #[inline(always)]
 fn put_key(
     buffer: &mut [u8],

@@ -178,8 +178,8 @@ fn put_label_at<T: TextOut>(text: &mut T, bytes: &[u8]) -> Result<(), T::Fault>
 }
 
 impl Version {
-    /// The bytes behind the key at the front (see [`Version::at_front`]), found with no version made. Public for the
-    /// crate of cuts.
+    /// The bytes behind the key at the front (see [`Key::bytes`](crate::Key::bytes)), found with no version
+    /// made. Public for the crate of cuts.
     pub fn behind_front(bytes: &[u8]) -> &[u8]
         ensures { result.now ≡ (read_version bytes.now).1 }
     {
@@ -190,7 +190,7 @@ impl Version {
     }
 
     /// Writes the normal text of the version whose place has its key at the front of these bytes (see
-    /// [`Version::at_front`]), wherever it goes, with no version made. Public for the crate of cuts.
+    /// [`Key::bytes`](crate::Key::bytes)), wherever it goes, with no version made. Public for the crate of cuts.
     pub fn put_front<T: TextOut>(text: &mut T, bytes: &[u8]) -> Result<(), T::Fault>
         requires { IsVersion (read_version bytes.now).0 }
         ensures ok { OnOk result (T.tells → T.written text.new ≡ T.written text.old

@@ -194,8 +194,8 @@ impl Clause {
     }
 
     /// The clause in front of a text, as the first of a list of clauses stands there, and what stands behind it, without
-    /// white space before that (PEP 508, "Grammar"). White space may stand before and behind the operator, and then the
-    /// clause takes the longest run of letters, digits and bytes of `-_.*+!`.
+    /// white space before that (PEP 508, "Grammar"). Spaces and tabs may stand before and behind the operator, and then
+    /// the clause takes the longest run of letters, digits and bytes of `-_.*+!`.
     ///
     /// A text that begins with no operator is refused with 11 `NoOperator`; else each refusal is that of `Clause::of`
     /// for the run.

@@ -1,7 +1,7 @@
 //! Which clauses have packed ranges, and which; and what is left over where some are left out.
 
 use crate::tests::lines::expect_row;
-use packed_cuts::{LeftOut, PackedRange, PackedRanges};
+use packed_cuts::{LeftOut, PackedRange, PackedSet};
 use pep_clause::{Clause, ClauseFault, Cut, PackedCut, VersionSet};
 use std::alloc::Global;
 
@@ -20,7 +20,7 @@ fn text_of_cut(alloc: Global, cut: PackedCut) -> Result<String, ClauseFault> {
 
 fn pushed(alloc: Global, cut: PackedCut) -> Result<String, ClauseFault> {
     let mut pushed = String::new(alloc);
-    cut.push_text(&mut pushed)?;
+    cut.put_text(&mut pushed)?;
     Ok(pushed)
 }
 
@@ -42,31 +42,28 @@ fn left_out_text(alloc: Global, bounds: PackedRange) -> Result<String, ClauseFau
     Ok(format!(in alloc; "not {text}")?)
 }
 
-// The bounds of the clause of a text, and whether it leaves out what lies between them.
-fn bounds_of(alloc: Global, text: &str) -> Result<Option<(PackedRange, bool)>, ClauseFault> {
+// What the clause of a text admits, where it is between packed cuts or outside of them.
+fn set_of(alloc: Global, text: &str) -> Result<Option<PackedSet>, ClauseFault> {
     let clause = Clause::read(alloc, text)?;
-    match PackedRange::of(&clause) {
-        Some(bounds) => Ok(Some((bounds, clause.op().leaves_out()))),
-        None => Ok(None),
-    }
+    Ok(PackedSet::of(&VersionSet::of(alloc, &clause)?))
 }
 
 // The cuts between which the clause of this text admits versions, or leaves them out, where both have a packed cut.
 fn bounds_line(alloc: Global, text: &str) -> Result<String, ClauseFault> {
-    match bounds_of(alloc, text)? {
-        Some((bounds, true)) => left_out_text(alloc, bounds),
-        Some((bounds, false)) => bounds_text(alloc, bounds),
+    match set_of(alloc, text)? {
+        Some(set) if set.outside => left_out_text(alloc, set.bounds),
+        Some(set) => bounds_text(alloc, set.bounds),
         None => Ok(String::from_str(alloc, "none")?),
     }
 }
 
-// Clauses, and the cuts between which they admit versions. No packed cut is past a release, after a label, in another
-// epoch, written with five numbers, of a number over 25 bits or of a digit over 7.
+// Clauses, and the cuts between which they admit versions, if they admit any. No packed cut is past a release, after a
+// label, in another epoch, written with five numbers, of a number over 25 bits or of a digit over 7.
 const BOUNDS: [(&str, &str); 46] = [
     (">=1.2.3", "before 1.2.3 to end"),
     (">=1.0", "before 1 to end"),
     ("<2", "before 0.dev0 to before 2.dev0"),
-    ("<0", "before 0.dev0 to before 0.dev0"),
+    ("<0", "end to before 0.dev0"),
     ("<2.0rc1", "before 0.dev0 to before 2rc1"),
     ("<2.0.post3", "before 0.dev0 to before 2.post3.dev0"),
     ("<=1.2", "before 0.dev0 to before 1.2.post0.dev0"),
@@ -103,7 +100,7 @@ const BOUNDS: [(&str, &str); 46] = [
     (">=1.2.3.4.0", "none"),
     ("~=1.2.3.0.0", "none"),
     ("~=33554431.5", "none"),
-    (">1.0rc18446744073709551615", "none"),
+    (">1.0rc18446744073709551615", "before 1 to end"),
     (">=1!1.0", "none"),
     ("==1!1.*", "none"),
     ("==1.0+x", "none"),
@@ -130,7 +127,13 @@ fn bounds(rt: HostRuntime) -> Result<(), ClauseFault> {
 fn left_over_by(alloc: Global, clauses: &[&str]) -> Result<LeftOut, ClauseFault> {
     let mut left_out = LeftOut::none(alloc);
     for text in clauses {
-        if let Some((bounds, true)) = bounds_of(alloc, text)? {
+        if let Some(
+            PackedSet {
+                bounds,
+                outside: true,
+            },
+        ) = set_of(alloc, text)?
+        {
             left_out.leave_out(alloc, bounds)?;
         }
     }
@@ -138,16 +141,6 @@ fn left_over_by(alloc: Global, clauses: &[&str]) -> Result<LeftOut, ClauseFault>
 }
 
 // The cuts of each range.
-fn ranges_text(alloc: Global, ranges: &PackedRanges) -> Result<String, ClauseFault> {
-    let mut text = String::new(alloc);
-    for bounds in ranges.as_slice() {
-        let range = bounds_text(alloc, *bounds)?;
-        text.push_str(range.as_str())?;
-        text.push_str(";")?;
-    }
-    Ok(text)
-}
-
 fn set_text(alloc: Global, set: &VersionSet) -> Result<String, ClauseFault> {
     let mut text = String::new(alloc);
     for range in set.ranges() {
@@ -159,28 +152,18 @@ fn set_text(alloc: Global, set: &VersionSet) -> Result<String, ClauseFault> {
     Ok(text)
 }
 
-fn ranges_between(
+fn set_between(
     alloc: Global,
     clauses: &[&str],
     bounds: PackedRange,
-) -> Result<PackedRanges, ClauseFault> {
+) -> Result<VersionSet, ClauseFault> {
     left_over_by(alloc, clauses)?.between(alloc, bounds)
-}
-
-fn text_of_set(alloc: Global, ranges: PackedRanges) -> Result<String, ClauseFault> {
-    set_text(alloc, &ranges.to_set(alloc)?)
-}
-
-// Ranges by their packed cuts, and by the set of them.
-fn ranges_line(alloc: Global, ranges: PackedRanges) -> Result<String, ClauseFault> {
-    let text = ranges_text(alloc, &ranges)?;
-    one_text(alloc, text.as_str(), text_of_set(alloc, ranges)?.as_str())
 }
 
 // The ranges of what is left over between the bounds of a clause.
 fn left_line(alloc: Global, within: &str, clauses: &[&str]) -> Result<String, ClauseFault> {
-    match bounds_of(alloc, within)? {
-        Some((bounds, false)) => ranges_line(alloc, ranges_between(alloc, clauses, bounds)?),
+    match set_of(alloc, within)? {
+        Some(set) if !set.outside => set_text(alloc, &set_between(alloc, clauses, set.bounds)?),
         _ => Ok(String::from_str(alloc, "none")?),
     }
 }

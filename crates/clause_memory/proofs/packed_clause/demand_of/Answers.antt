@@ -1,14 +1,12 @@
-use Rattle.std.proofs.Common.{◌∙◌, ap, rules}
-use Rattle.specifiers.specs.Operator.{leaves_out}
-use Rattle.pep_clause.specs.Way.Ends.{between}
+use Rattle.std.proofs.Common.{◌≡◌, None, ap, rules, sym, ◌∙◌}
+use Rattle.std.specs.Prelude.{option_map}
+use Rattle.pep_clause.specs.OperatorTable.{set_of}
+use Rattle.clause_memory.proofs.Demands.{packed_demand, nothing_there}
 use Rattle.clause_memory.proofs.packed_clause.demand_of.Goals as goal
 
 pub returns : goal.returns
 returns c =
-    let b = c.in_ok-bounds.bounds in
-    let left_out = c.leaves_out.ensures ∙ ap leaves_out c.op-2.ensures.operator in
-    record {
-      valid = c.op.ensures.valid;
-      no_text = search rules;
-      versions = (λ i. between (left_out i) b.low b.high) ∙ c.in_ok-bounds.ensures.between;
-    }
+    let none : c.exact_text.result ≡ None = nothing_there c.exact_text.result (search rules) in
+    let set : c.in_ok-versions.versions ≡ set_of c.args.clause.now = search rules in
+    packed_demand c.args.clause.now c.in_ok-versions.versions c.of-2.result c.op.ensures.valid
+    (sym c.exact_text.ensures ∙ ap (option_map (λ t. t.now)) none) set c.of-2.ensures.ranges

@@ -12,10 +12,6 @@ returns-in-Some c =
     subst (λ clause. OnOk c.put_text.result (AddsClause clause c.args.demands.now c.put_text.new.self))
     (sym (demanded_is c.args.clause.now c.in-Some.text.now text)) c.put_text.ensures
 
-pub returns-in-Some-demand_of : goal.returns-in-Some-demand_of
-returns-in-Some-demand_of c =
-    on_ok_weaker c.keep.result (λ h. h c.args.clause.now c.in-Some-demand_of.ensures) c.keep.ensures
-
 pub returns-in-Ok : goal.returns-in-Ok
 returns-in-Ok c =
     let none : demanded_text c.args.clause.now ≡ None =

@@ -1,9 +1,9 @@
-use Rattle.std.proofs.Common.{length}
+use Rattle.std.proofs.Common.{false, length}
 use Rattle.pep_marker.proofs.NormalRuns.{IsRead}
 use Rattle.pep_marker.proofs.name.normal_run.Given as goal
 
-abbrev pub invariant-loop-first : goal.invariant-loop-first
-invariant-loop-first l = IsRead l.text l.rest l.inside
+abbrev pub invariant-loop-left : goal.invariant-loop-left
+invariant-loop-left l = IsRead l.text l.left false
 
-abbrev pub decreases-loop-first : goal.decreases-loop-first
-decreases-loop-first l = length l.rest
+abbrev pub decreases-loop-left : goal.decreases-loop-left
+decreases-loop-left l = length l.left

@@ -1,35 +1,47 @@
-use Rattle.std.proofs.Common.{rules, ◌≤◌, ◌∷◌, length, take}
-use Rattle.pep_marker.proofs.NormalFronts.{write_dash, write_letter, write_nothing, written_name}
+use Rattle.std.proofs.Common.{◌+◌, rules, false, take, true, ap, ◌∙◌, drop, refl}
+use Rattle.pep_marker.proofs.NormalFronts.{IsWritten, nothing_written, shorter, written_name}
+use Rattle.pep_marker.proofs.NormalFronts.{write_letters, write_separators}
 use Rattle.pep_marker.proofs.normal_front.normal_front.Goals as goal
+use Rattle.pep_marker.proofs.normal_front.normal_front.Goals.{After-split_at}
 
-pub loop-first-preserved-in_ok-len : goal.loop-first-preserved-in_ok-len
-loop-first-preserved-in_ok-len c = (
-  write_letter c.args.text.now c.loop-first.rest.now c.in-Some.others.now (take c.loop-first.len c.loop-first.bytes) _
-      c.loop-first.in_run c.in-Some.first.now c.loop-first.invariant.0 c.in-Some.ensures.cases.0 (search rules) (search rules),
+-- what is written up to the rest
+written : (c : After-split_at) → IsWritten c.args.text.now c.split_at.result.1.now
+    (take (c.loop-left.len + c.put_letters-count.result) c.put_letters-count.new.bytes) false
+written c =
+    let before = c.loop-left.invariant.0 in
+    write_letters c.args.text.now c.loop-left.left.now c.split_at.result.1.now
+    (take c.loop-left.len c.loop-left.bytes) _ before.0 c.put_letters-count.result before.1
+    c.put_letters-count.ensures.written c.put_letters-count.ensures.in_text (search rules) c.split_at.ensures.back
+
+pub loop-left-init : goal.loop-left-init
+loop-left-init c = ((false, nothing_written c.args.text.now), search rules)
+
+pub loop-left-preserved : goal.loop-left-preserved
+loop-left-preserved c = (
+  (
+    true,
+    write_separators c.args.text.now c.split_at.result.1.now c.split_at-in-loop-left.result.1.now _ _
+        (written (goal.at.loop-left-preserved c).After-split_at) (search rules) c.in_ok-len.ensures.written
+        (c.split_at-in-loop-left.ensures.back
+        ∙ ap (λ n. drop n c.split_at.result.1.now) c.separator_run.ensures.count),
+  ),
   search rules,
 )
 
-pub loop-first-preserved-in_ok-len-2 : goal.loop-first-preserved-in_ok-len-2
-loop-first-preserved-in_ok-len-2 c = (
-  write_dash c.args.text.now c.loop-first.rest.now c.in-Some.others.now (take c.loop-first.len c.loop-first.bytes) _
-      c.loop-first.in_run c.in-Some.first.now c.loop-first.invariant.0 c.in-Some.ensures.cases.0 (search rules) (search rules)
-      (search rules),
-  search rules,
-)
+pub returns-then-not-begins_with_separator-clause-name : goal.returns-then-not-begins_with_separator-clause-name
+returns-then-not-begins_with_separator-clause-name c =
+    let before = c.loop-left.invariant.0 in
+    (written_name c.args.text.now c.split_at.result.1.now _ false
+    (written (goal.at.returns-then-not-begins_with_separator-clause-name c).After-split_at) refl (search rules)
+    (shorter c.args.text.now c.loop-left.left.now c.split_at.result.1.now _ _ c.put_letters-count.result before.1
+    c.put_letters-count.ensures.in_text (search rules) c.split_at.ensures.back)
+    (search rules)).1
 
-pub loop-first-preserved : goal.loop-first-preserved
-loop-first-preserved c = (
-  write_nothing c.args.text.now c.loop-first.rest.now c.in-Some.others.now (take c.loop-first.len c.loop-first.bytes)
-      c.loop-first.in_run c.in-Some.first.now c.loop-first.invariant.0 c.in-Some.ensures.cases.0 (search rules) (search rules),
-  search rules,
-)
-
-pub returns-clause-name : goal.returns-clause-name
-returns-clause-name c =
-    (written_name c.args.text.now c.loop-first.rest.now (take c.loop-first.len c.loop-first.bytes) c.loop-first.in_run
-    c.loop-first.invariant.0 (search rules) (search rules) (search rules) (search rules)).1
-
-pub returns-clause-count : goal.returns-clause-count
-returns-clause-count c =
-    (written_name c.args.text.now c.loop-first.rest.now (take c.loop-first.len c.loop-first.bytes) c.loop-first.in_run
-    c.loop-first.invariant.0 (search rules) (search rules) (search rules) (search rules)).0
+pub returns-then-not-begins_with_separator-clause-count : goal.returns-then-not-begins_with_separator-clause-count
+returns-then-not-begins_with_separator-clause-count c =
+    let before = c.loop-left.invariant.0 in
+    (written_name c.args.text.now c.split_at.result.1.now _ false
+    (written (goal.at.returns-then-not-begins_with_separator-clause-count c).After-split_at) refl (search rules)
+    (shorter c.args.text.now c.loop-left.left.now c.split_at.result.1.now _ _ c.put_letters-count.result before.1
+    c.put_letters-count.ensures.in_text (search rules) c.split_at.ensures.back)
+    (search rules)).0

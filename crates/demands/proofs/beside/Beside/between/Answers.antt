@@ -1,4 +1,5 @@
 use Rattle.std.proofs.Common.{◌≡◌, ◌∙◌, ap, length, rules, subst, sym}
+use Rattle.std.proofs.lemmas.Result.{IfOk-weaker}
 use Rattle.pep_clause.specs.Cut.{end, least}
 use Rattle.pep_clause.specs.Way.Joined.{joined}
 use Rattle.pep_clause.specs.OperatorTable.{range}
@@ -15,9 +16,10 @@ returns-then-is_empty c =
     let left = c.self.inside.left_out in
     let sets = c.self.inside.sets.items in
     let none : length sets ≡ 0 = search rules in
-    kept-left b.low b.high left c.in_ok-left_between.field-0 c.self.invariant.0 c.in_ok-left_between.ensures
+    IfOk-weaker c.left_between.result _ _ (λ ranges is.
+    kept-left b.low b.high left ranges c.self.invariant.0 is
     ∙ ap (λ s. joined (range b.low b.high) (joined left s)) (sym (no_sets sets none))
-    ∙ ap (joined (range b.low b.high)) c.self.view_is
+    ∙ ap (joined (range b.low b.high)) c.self.view_is) c.left_between.ensures
 
 pub returns-then-is_unbounded : goal.returns-then-is_unbounded
 returns-then-is_unbounded c =
@@ -36,9 +38,8 @@ returns c =
     let b = c.args.bounds in
     let left = c.self.inside.left_out in
     let sets = c.self.inside.sets.items in
-    let both : IsIntersection (joined_sets sets) c.in_ok-set_of.field-0 c.in_ok-both.both =
-    subst (λ s. IsIntersection s c.in_ok-set_of.field-0 c.in_ok-both.both) (c.joined.view_is ∙ c.in_ok-joined.ensures) c.in_ok-both.ensures in
-    kept-both b.low b.high left (joined_sets sets) c.in_ok-set_of.field-0 c.in_ok-both.both c.cmp.ensures.spelled
-    c.cmp.ensures.other_spelled c.self.invariant.0 (normal_sets sets c.self.invariant.1)
-    (c.in_ok-set_of.ensures ∙ c.in_ok-ranges.ensures) both
-    ∙ ap (joined (range b.low b.high)) c.self.view_is
+    IfOk-weaker c.common.result _ _ (λ both is.
+    kept-both b.low b.high left (joined_sets sets) c.in_ok-left.left both c.cmp.ensures.spelled c.cmp.ensures.other_spelled
+    c.self.invariant.0 (normal_sets sets c.self.invariant.1) c.in_ok-left.ensures
+    (subst (λ s. IsIntersection s c.in_ok-left.left both) c.in_ok-joined.ensures is)
+    ∙ ap (joined (range b.low b.high)) c.self.view_is) c.common.ensures

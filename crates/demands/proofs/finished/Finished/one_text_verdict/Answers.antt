@@ -7,7 +7,7 @@ pub returns-else-branch : goal.returns-else-branch
 returns-else-branch c =
     let e = c.args.self.now in
     let some : 0 < length e.texts = search rules in
-    let same : c.in_ok-set.field-0 ≡ e.versions = c.in_ok-set.ensures ∙ ap (λ x. x.versions) c.self.view_is in (
+    let same : c.self.inside.versions ≡ e.versions = ap (λ x. x.versions) c.self.view_is in (
       c.requires.few,
       inr (
         some,

@@ -24,4 +24,4 @@ pub returns-then-is_right_behind-clause-points : goal.returns-then-is_right_behi
 returns-then-is_right_behind-clause-points c x =
     let b = c.args.bounds in
     c.in_ok-leave_single.ensures.points x
-    ∙ (λ i. is_point c.args.self.now x && is_point (outside b.low (sym (c.if-is_right_behind.ensures.behind refl) i)) x)
+    ∙ (λ i. is_point c.args.self.now x && is_point (outside b.low (sym (c.if-is_right_behind.ensures.exactly.0 refl).0 i)) x)

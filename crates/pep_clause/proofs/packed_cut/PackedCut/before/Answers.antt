@@ -4,8 +4,8 @@ use Rattle.pep_clause.proofs.PackedRead.{before-read, packed-before, short-suffi
 use Rattle.pep_clause.specs.PackedCut.{IsPackedCut, IsShortVersion, cut_at}
 use Rattle.pep_clause.proofs.packed_cut.PackedCut.before.Goals as goal
 
-pub invariant_of-result : goal.invariant_of-result
-invariant_of-result c =
+pub of_word-requires : goal.of_word-requires
+of_word-requires c =
     let a = c.args in
     let v = with_suffixes a.version.now a.pre a.post a.dev in
     let short : IsShortVersion v = c.in_ok-word.ensures.exactly.0 refl in
@@ -17,4 +17,4 @@ returns-clause-cut c =
     let a = c.args in
     let v = with_suffixes a.version.now a.pre a.post a.dev in
     let short : IsShortVersion v = c.in_ok-word.ensures.exactly.0 refl in
-    ap cut_at c.in_ok-word.ensures.word ∙ before-read v short c.release.ensures.version.release
+    c.of_word.ensures ∙ ap cut_at c.in_ok-word.ensures.word ∙ before-read v short c.release.ensures.version.release

@@ -4,8 +4,8 @@ use Rattle.pep_clause.proofs.PackedRead.{before-read, packed-before, release-ver
 use Rattle.pep_clause.specs.PackedCut.{IsPackedCut, IsShortVersion, cut_at, release_alone}
 use Rattle.pep_clause.proofs.packed_cut.PackedCut.before_release.Goals as goal
 
-pub invariant_of-result : goal.invariant_of-result
-invariant_of-result c =
+pub of_word-requires : goal.of_word-requires
+of_word-requires c =
     let r = c.args.release.now in
     let v = with_suffixes (release_alone r) None c.args.post c.args.dev in
     let short : IsShortVersion v = c.in_ok-word.ensures.exactly.0 refl in
@@ -16,4 +16,4 @@ pub returns-clause-cut : goal.returns-clause-cut
 returns-clause-cut c =
     let v = with_suffixes (release_alone c.args.release.now) None c.args.post c.args.dev in
     let short : IsShortVersion v = c.in_ok-word.ensures.exactly.0 refl in
-    ap cut_at c.in_ok-word.ensures.word ∙ before-read v short c.requires
+    c.of_word.ensures ∙ ap cut_at c.in_ok-word.ensures.word ∙ before-read v short c.requires

@@ -5,5 +5,5 @@ use Rattle.pep_clause.proofs.packed_cut.PackedCut.order_to.Goals as goal
 
 pub returns-clause-order : goal.returns-clause-order
 returns-clause-order c =
-    c.cmp.ensures ∙ words-order _ _ c.self.invariant c.other.invariant
-    ∙ (λ i. cut_cmp (c.self.view_is i) (c.other.view_is i))
+    c.cmp.ensures ∙ words-order _ _ c.word.ensures.packed c.word-2.ensures.packed
+    ∙ (λ i. cut_cmp (c.word.ensures.cut i) (c.word-2.ensures.cut i))

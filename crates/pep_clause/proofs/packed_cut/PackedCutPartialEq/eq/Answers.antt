@@ -6,5 +6,5 @@ use Rattle.pep_clause.proofs.packed_cut.PackedCutPartialEq.eq.Goals as goal
 
 pub returns-clause-test : goal.returns-clause-test
 returns-clause-test c =
-    words-same _ _ c.self.invariant c.other.invariant
-    ∙ (λ i. eq_by_cmp cut_cmp (c.self.view_is i) (c.other.view_is i))
+    words-same _ _ c.word.ensures.packed c.word-2.ensures.packed
+    ∙ (λ i. eq_by_cmp cut_cmp (c.word.ensures.cut i) (c.word-2.ensures.cut i))

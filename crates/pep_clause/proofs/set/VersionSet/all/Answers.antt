@@ -5,5 +5,5 @@ use Rattle.pep_clause.proofs.set.VersionSet.all.Goals as goal
 
 pub returns-clause-versions : goal.returns-clause-versions
 returns-clause-versions c v =
-    let all : c.in_ok-between.field-0 ≡ all_versions = search rules in
+    let all : c.between.result ≡ all_versions = search rules in
     subst (λ list. In list v) (sym all) (In-all_versions v)

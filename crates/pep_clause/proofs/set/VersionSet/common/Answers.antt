@@ -1,6 +1,7 @@
 use Rattle.std.proofs.Common.{◌≡◌, rules, subst, true}
 use Rattle.pep_clause.proofs.Density.{normal-has_version}
 use Rattle.pep_clause.specs.Way.Joined.{are_within}
+use Rattle.pep_clause.specs.SetView.{ranges_of}
 use Rattle.pep_clause.specs.VersionSet.{IsNormal}
 use Rattle.pep_clause.proofs.JoinedPoints.{is_in-within, is_point-within, joined_points}
 use Rattle.pep_clause.proofs.JoinedPoints.{joined_versions}
@@ -23,7 +24,7 @@ returns-then-are_within-clause-inhabited c =
 
 pub invariant_of-result : goal.invariant_of-result
 invariant_of-result c =
-    joined_normal c.args.self c.args.other c.in_ok-ranges.ranges.items
+    joined_normal c.args.self c.args.other (ranges_of c.in_ok-ranges.ranges)
     (cc (c.in_ok-ranges.ensures)) (subst IsNormal c.self.view_is c.self.invariant)
     (subst IsNormal c.other.view_is c.other.invariant)
 
@@ -31,14 +32,14 @@ pub returns-clause-normal : goal.returns-clause-normal
 returns-clause-normal c = invariant_of-result c
 
 pub returns-clause-inhabited : goal.returns-clause-inhabited
-returns-clause-inhabited c = normal-has_version c.in_ok-ranges.ranges.items (invariant_of-result c)
+returns-clause-inhabited c = normal-has_version (ranges_of c.in_ok-ranges.ranges) (invariant_of-result c)
 
 pub returns-clause-points : goal.returns-clause-points
 returns-clause-points c =
-    joined_points c.args.self c.args.other c.in_ok-ranges.ranges.items
+    joined_points c.args.self c.args.other (ranges_of c.in_ok-ranges.ranges)
     (cc (c.in_ok-ranges.ensures))
 
 pub returns-clause-versions : goal.returns-clause-versions
 returns-clause-versions c =
-    joined_versions c.args.self c.args.other c.in_ok-ranges.ranges.items
+    joined_versions c.args.self c.args.other (ranges_of c.in_ok-ranges.ranges)
     (cc (c.in_ok-ranges.ensures))
