@@ -3,15 +3,13 @@ use Rattle.std.proofs.Common.{◌≡◌, ◌⊎◌, ◌∙◌, Bool, ℕ, List, 
 use Rattle.std.specs.Prelude.{IsOk, if◌then◌else◌}
 use Rattle.pep_version.specs.Version.{Version}
 use Rattle.specifiers.specs.Clause.{Prefix, compatible, excluding_prefix, matching_prefix, version_clause}
-use Rattle.specifiers.specs.ClauseView.{of_prefix, of_version}
-use Rattle.specifiers.specs.Way.OperatorEnds.{begin_of, end_of}
-use Rattle.specifiers.specs.Operator.{leaves_out}
+use Rattle.specifiers.specs.Operator.{begin_of, end_of, leaves_out, of_prefix, of_version}
 use Rattle.specifiers.specs.declared.fault.ClauseFault.TheVariants as fault
 use Rattle.specifiers.specs.declared.op.Op.{Op}
 use Rattle.specifiers.specs.declared.op.Op.TheVariants as op
 use Rattle.pep_clause.proofs.EndRows.{between-ends, between-prefix}
 use Rattle.pep_clause.specs.OperatorTable.{before_prefix, prefix_end}
-use Rattle.pep_clause.specs.Way.Ends.{begin_cut, between, end_cut}
+use Rattle.pep_clause.specs.Ends.{begin_cut, between, end_cut}
 use Rattle.packed_cuts.specs.Way.PackedRange.{HoldsPrefix, HoldsRelease, IsBetween, release_prefix}
 use Rattle.pep_clause.specs.PackedCut.{release_alone}
 use Rattle.packed_cuts.specs.declared.packed_range.PackedRange.{PackedRange}
@@ -31,7 +29,7 @@ holds_prefix o p (Some b) low high = (λ i. between (leaves_out o) (low i) (high
 
 -- ---- a release alone
 
--- every operator but `===` makes a clause with it, `~=` of two numbers or more
+-- a clause that it makes with an operator is that of both
 made_release : (o : Op) (r : List ℕ) → IsOk (version_clause o (release_alone r)) →
     version_clause o (release_alone r) ≡ Ok (of_version o (release_alone r))
 made_release op.Compatible r h = by (nat_lt 1 (length r)) h
@@ -40,13 +38,8 @@ made_release op.Compatible r h = by (nat_lt 1 (length r)) h
         (if b then Ok (compatible (release_alone r)) else Err fault.OneNumber) ≡ Ok (compatible (release_alone r))
     by true h = refl
     by false h = cc h
-made_release op.Equal r h = refl
-made_release op.NotEqual r h = refl
-made_release op.AtMost r h = refl
-made_release op.AtLeast r h = refl
-made_release op.Less r h = refl
-made_release op.More r h = refl
 made_release op.Exact r h = cc h
+made_release o r h = refl
 
 pub holds_release : (o : Op) (r : List ℕ) (found : Option PackedRange) → IsOk (version_clause o (release_alone r)) →
     IfSome found (λ b. b.low ≡ begin_cut (begin_of o) (release_alone r)) →

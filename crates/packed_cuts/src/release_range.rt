@@ -2,7 +2,7 @@
 
 ghost use Rattle.std.specs.Prelude.{◌≡◌, ◌↔◌, ◌<◌, length, IfSome, IsOk, IsSome, IsTrue};
 ghost use Rattle.specifiers.specs.Clause.{version_clause};
-ghost use Rattle.pep_clause.specs.Way.Ends.{begin_cut, end_cut};
+ghost use Rattle.pep_clause.specs.Ends.{begin_cut, end_cut};
 ghost use Rattle.packed_cuts.specs.Way.PackedRange.{
   BeginsShort,
   EndsShort,
@@ -44,29 +44,26 @@ fn packed_end(end: End, release: &[u64]) -> Option<PackedCut>
     }
 }
 
-// Whether the operator and the release make a clause.
+// Whether the release has numbers, and makes a clause with the operator.
 fn makes_clause(operator: Op, release: &[u64]) -> bool
-    ensures { IsTrue result ↔ IsOk (version_clause operator (release_alone release.now)) }
+    ensures { IsTrue result
+        ↔ ((0 < length release.now) × IsOk (version_clause operator (release_alone release.now))) }
 {
-    match operator {
-        Op::Exact => false,
-        Op::Compatible => release.len() > 1,
-        _ => true,
-    }
+    operator != Op::Exact && release.len() >= operator.least_numbers()
 }
 
 impl PackedRange {
     /// What the clause of this operator and this release of epoch 0, with nothing behind it, admits, or with `!=`
     /// leaves out, between two packed cuts (PEP 440, "Version specifiers"). `None` for `>`, which begins past the
     /// release; where the release is written with more than four numbers, or one is too large for a packed cut (see
-    /// [`PackedCut`]), with `~=` also the last but one raised by one; for `===`, for an empty release, and for `~=` and
-    /// one number, which make no clause.
+    /// [`PackedCut`]), with [`End::Prefix`] also the last but one raised by one; for an empty release; and where they
+    /// make no clause, with `===` or with fewer numbers than the operator wants (see [`Op::least_numbers`]).
     pub fn of_release(operator: Op, release: &[u64]) -> Option<PackedRange>
         ensures clause { IfSome result (HoldsRelease operator release.now) }
         ensures exactly { IsSome result
             ↔ ((0 < length release.now) × ReleaseHasRange operator release.now) }
     {
-        if release.is_empty() || !makes_clause(operator, release) {
+        if !makes_clause(operator, release) {
             return None;
         }
         let low = packed_begin(operator.begin(), release)?;

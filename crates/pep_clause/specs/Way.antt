@@ -1,4 +1,3 @@
 -- Definitions that say how the code goes. No promise rests on them.
-pub mod Ends
 pub mod Joined
 pub mod Numbers

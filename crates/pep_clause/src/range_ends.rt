@@ -18,7 +18,7 @@ ghost use Rattle.pep_clause.specs.Cut.{IsCut};
 ghost use Rattle.specifiers.specs.Admits.{compatible_prefix};
 ghost use Rattle.pep_clause.specs.OperatorTable.{after_last_dev, done, greater_from, last, less_to, matching_to, next};
 ghost use Rattle.pep_clause.specs.OperatorTable.{next_phase, prefix_end, raised};
-ghost use Rattle.pep_clause.specs.Way.Ends.{begin_cut, end_cut};
+ghost use Rattle.pep_clause.specs.Ends.{begin_cut, end_cut};
 
 use crate::cut::Cut;
 use pep_version::{Phase, Version};
@@ -171,8 +171,8 @@ pub(crate) fn prefix_end(alloc: Global, epoch: u64, release: &[u64]) -> Result<C
     }
 }
 
-// Where `~=` ends: behind all versions that begin with the release but its last number (PEP 440, "Compatible release").
-fn compatible_to(alloc: Global, version: &Version) -> Result<Cut, AllocError>
+// Behind all versions that begin with the release but its last number (PEP 440, "Compatible release").
+fn behind_prefix(alloc: Global, version: &Version) -> Result<Cut, AllocError>
     ensures place { IfOk result (λ c. c ≡ prefix_end (compatible_prefix version.now)) }
     ensures spelled { IfOk result (λ c. IsCut c) }
 {
@@ -201,7 +201,7 @@ pub(crate) fn end_cut(alloc: Global, end: End, version: &Version) -> Result<Cut,
         End::Version => next(alloc, version),
         End::Matching => matching_to(alloc, version),
         End::Less => less_to(alloc, version),
-        End::Prefix => compatible_to(alloc, version),
+        End::Prefix => behind_prefix(alloc, version),
         End::All => Ok(Cut::end()),
     }
 }

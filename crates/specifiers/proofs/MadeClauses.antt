@@ -1,70 +1,26 @@
 -- The clause that an operator makes with a version or a prefix.
-use Rattle.std.proofs.Common.{◌≡◌, ◌≢◌, ◌⊎◌, ◌∙◌, Bool, true, false, Some, None, Ok, Err, ap, inl, inr, refl, sym, subst}
-use Rattle.std.specs.Prelude.{IsTrue, MatchOption, if◌then◌else◌, length, nat_lt}
+use Rattle.std.proofs.Common.{◌≡◌, ◌≢◌, ◌⊎◌, ◌∙◌, Bool, Some, None, Ok, Err, ap, inl, inr, refl, sym, subst}
+use Rattle.std.specs.Prelude.{IsTrue}
 use Rattle.pep_version.specs.Version.{IsVersion, Version}
-use Rattle.texts.specs.Lists.{is_empty}
 use Rattle.specifiers.proofs.FinalVersion.{IsVersion-prefix_of}
 use Rattle.specifiers.proofs.WrittenLemmas.{version-valid}
 use Rattle.specifiers.specs.Admits.{admits, has_prefix, says}
-use Rattle.specifiers.specs.Clause.{Clause, Prefix, at_least, at_most, compatible, greater_than, less_than}
+use Rattle.specifiers.specs.Clause.{Prefix, prefix_of, version_clause}
 use Rattle.pep_version.specs.Final.{is_final}
-use Rattle.specifiers.specs.Clause.{prefix_of}
-use Rattle.specifiers.specs.Clause.{version_clause}
-use Rattle.specifiers.specs.ClauseView.{IsStored, clause_of, of_version}
-use Rattle.specifiers.specs.Way.VersionFaults.{TellsVersion, compatible_fault, label_fault}
-use Rattle.specifiers.specs.ClauseView.{of_prefix, operand_parts}
-use Rattle.specifiers.specs.Operator.{operand, operator, prefix_part, version_part}
+use Rattle.specifiers.specs.ClauseView.{IsStored, clause_of, operand_parts}
+use Rattle.specifiers.specs.Operator.{of_prefix, of_version, operand, operator, prefix_part, version_part}
 use Rattle.specifiers.specs.Valid.{IsValidClause}
 use Rattle.specifiers.specs.declared.clause.Operand.{Operand}
 use Rattle.specifiers.specs.declared.clause.Operand.TheVariants as stored
 use Rattle.specifiers.specs.declared.fault.ClauseFault.{ClauseFault}
-use Rattle.specifiers.specs.declared.fault.ClauseFault.TheVariants as fault
 use Rattle.specifiers.specs.declared.op.Op.{Op}
 use Rattle.specifiers.specs.declared.op.Op.TheVariants as op
-
--- ---- which clause, or why none
-
-by_label : (b : Bool) (c : Clause) →
-    MatchOption (if b then None else Some fault.LocalNotAllowed)
-    ((if b then Ok c else Err fault.LocalNotAllowed) ≡ Ok c)
-    (λ e. (if b then Ok c else Err fault.LocalNotAllowed) ≡ Err e)
-by_label true c = refl
-by_label false c = refl
-
-by_numbers : (b t : Bool) (c : Clause) →
-    MatchOption (if b then (if t then None else Some fault.OneNumber) else Some fault.LocalNotAllowed)
-    ((if b then (if t then Ok c else Err fault.OneNumber) else Err fault.LocalNotAllowed) ≡ Ok c)
-    (λ e. (if b then (if t then Ok c else Err fault.OneNumber) else Err fault.LocalNotAllowed) ≡ Err e)
-by_numbers true true c = refl
-by_numbers true false c = refl
-by_numbers false t c = refl
-
--- an operator that takes no label
-pub tells-label : (o : Op) (v : Version) → ¬ (o ≡ op.Equal) → ¬ (o ≡ op.NotEqual) → ¬ (o ≡ op.Exact) →
-    ¬ (o ≡ op.Compatible) → TellsVersion o v (label_fault v)
-tells-label op.AtMost v a b c d = by_label (is_empty v.label) (at_most v)
-tells-label op.AtLeast v a b c d = by_label (is_empty v.label) (at_least v)
-tells-label op.Less v a b c d = by_label (is_empty v.label) (less_than v)
-tells-label op.More v a b c d = by_label (is_empty v.label) (greater_than v)
-tells-label op.Equal v a b c d = absurd (a refl)
-tells-label op.NotEqual v a b c d = absurd (b refl)
-tells-label op.Exact v a b c d = absurd (c refl)
-tells-label op.Compatible v a b c d = absurd (d refl)
-
-pub tells-compatible : (v : Version) → TellsVersion op.Compatible v (compatible_fault v)
-tells-compatible v = by_numbers (is_empty v.label) (nat_lt 1 (length v.release)) (compatible v)
 
 -- ---- it may be stored
 
 pub operator-of_version : (o : Op) (v : Version) → operator (of_version o v) ≡ o
-operator-of_version op.Compatible v = refl
-operator-of_version op.Equal v = refl
-operator-of_version op.NotEqual v = refl
-operator-of_version op.AtMost v = refl
-operator-of_version op.AtLeast v = refl
-operator-of_version op.Less v = refl
-operator-of_version op.More v = refl
 operator-of_version op.Exact v = refl
+operator-of_version o v = refl
 
 pub stored-version : (o : Op) (v : Version) → IsVersion v → version_clause o v ≡ Ok (of_version o v) →
     IsStored o (stored.Version v)
@@ -91,24 +47,12 @@ stored-prefix o v (inr e) h final = subst (λ o. IsStored o (stored.Prefix v)) (
 
 parts-version : (o : Op) (v : Version) → IsValidClause (of_version o v) →
     version_part v ≡ operand (of_version o v)
-parts-version op.Compatible v h = refl
-parts-version op.Equal v h = refl
-parts-version op.NotEqual v h = refl
-parts-version op.AtMost v h = refl
-parts-version op.AtLeast v h = refl
-parts-version op.Less v h = refl
-parts-version op.More v h = refl
 parts-version op.Exact v h = cc h
+parts-version o v h = refl
 
 parts-prefix : (o : Op) (p : Prefix) → prefix_part p ≡ operand (of_prefix o p)
-parts-prefix op.Compatible p = refl
-parts-prefix op.Equal p = refl
 parts-prefix op.NotEqual p = refl
-parts-prefix op.AtMost p = refl
-parts-prefix op.AtLeast p = refl
-parts-prefix op.Less p = refl
-parts-prefix op.More p = refl
-parts-prefix op.Exact p = refl
+parts-prefix o p = refl
 
 pub parts-clause_of : (o : Op) (x : Operand) → IsStored o x → operand_parts x ≡ operand (clause_of o x)
 parts-clause_of o (stored.Version v) h = parts-version o v h.valid
@@ -141,10 +85,4 @@ differs-exact o v h e = exact_valid v (subst (λ o. IsValidClause (of_version o 
 pub admits-of_prefix : (o : Op) (p : Prefix) (v : Version) → ¬ (o ≡ op.NotEqual) →
     has_prefix p v ≡ admits (of_prefix o p) v
 admits-of_prefix op.NotEqual p v n = absurd (n refl)
-admits-of_prefix op.Compatible p v n = refl
-admits-of_prefix op.Equal p v n = refl
-admits-of_prefix op.AtMost p v n = refl
-admits-of_prefix op.AtLeast p v n = refl
-admits-of_prefix op.Less p v n = refl
-admits-of_prefix op.More p v n = refl
-admits-of_prefix op.Exact p v n = refl
+admits-of_prefix o p v n = refl

@@ -10,8 +10,7 @@ use Rattle.texts.specs.Lists.{is_empty}
 use Rattle.pep_version.specs.declared.fault.VersionFault.{VersionFault}
 use Rattle.pep_version.specs.declared.fault.VersionFault.TheVariants as version_fault
 use Rattle.specifiers.specs.Clause.{Clause, ClauseOf, Prefix, TargetAnswers, PrefixAnswers}
-use Rattle.specifiers.specs.Clause.{at_least, at_most, compatible, demanded_text, greater_than}
-use Rattle.specifiers.specs.Clause.{less_than, prefix_clause, prefix_of, version_clause}
+use Rattle.specifiers.specs.Clause.{compatible, demanded_text, prefix_clause, prefix_of, version_clause}
 use Rattle.pep_version.specs.Final.{is_final}
 use Rattle.specifiers.specs.Clause.{ReadsThen, VersionAnswers, demanded_of, ends_in_space}
 use Rattle.specifiers.specs.Clause.{prefix_answer, version_answer}
@@ -151,24 +150,16 @@ if-told false a e h = refl
 version-told : (o : Op) (v : Version) → text_in (version_clause o v) ≡ None
 version-told op.Equal v = refl
 version-told op.NotEqual v = refl
-version-told op.AtMost v = if-told (is_empty v.label) (Ok (at_most v)) fault.LocalNotAllowed refl
-version-told op.AtLeast v = if-told (is_empty v.label) (Ok (at_least v)) fault.LocalNotAllowed refl
-version-told op.Less v = if-told (is_empty v.label) (Ok (less_than v)) fault.LocalNotAllowed refl
-version-told op.More v = if-told (is_empty v.label) (Ok (greater_than v)) fault.LocalNotAllowed refl
+version-told op.Exact v = refl
 version-told op.Compatible v =
     if-told (is_empty v.label) _ fault.LocalNotAllowed
     (if-told (nat_lt 1 (length v.release)) (Ok (compatible v)) fault.OneNumber refl)
-version-told op.Exact v = refl
+version-told o v = if-told (is_empty v.label) _ fault.LocalNotAllowed refl
 
 star-told : (o : Op) (p : Prefix) → text_in (prefix_clause o p) ≡ None
 star-told op.Equal p = refl
 star-told op.NotEqual p = refl
-star-told op.AtMost p = refl
-star-told op.AtLeast p = refl
-star-told op.Less p = refl
-star-told op.More p = refl
-star-told op.Compatible p = refl
-star-told op.Exact p = refl
+star-told o p = refl
 
 prefix-answer-told : (o : Op) (r : Result Version VersionFault) → text_in (prefix_answer o r) ≡ None
 prefix-answer-told o (Ok v) =

@@ -13,8 +13,7 @@ use Rattle.specifiers.specs.declared.op.Op.{Op}
 use Rattle.specifiers.specs.declared.op.Op.TheVariants as op
 use Rattle.specifiers.specs.Admits.{SaysOf, says}
 use Rattle.specifiers.specs.Clause.{Clause, ClauseOf, IsClauseOf, Prefix, PrefixAnswers, ReadsThen}
-use Rattle.specifiers.specs.Clause.{VersionAnswers, at_least, at_most, compatible, ends_in_space}
-use Rattle.specifiers.specs.Clause.{greater_than, less_than, matching, matching_prefix}
+use Rattle.specifiers.specs.Clause.{VersionAnswers, compatible, ends_in_space, matching, matching_prefix}
 use Rattle.pep_version.specs.Final.{is_final}
 use Rattle.specifiers.specs.Clause.{prefix_answer, prefix_clause, prefix_of, version_answer}
 use Rattle.specifiers.specs.Clause.{version_clause}
@@ -41,31 +40,19 @@ bounded true a e h g = h
 bounded false a e h g = λ same. g (cc same)
 
 made : (o : Op) (v : Version) → version_clause o v ≢ Err fault.NoMemory
-made op.Equal v = ok_apart (matching v) fault.NoMemory
+made op.Equal v = λ h. cc h
 made op.NotEqual v = λ h. cc h
-made op.AtMost v =
-    bounded (is_empty v.label) (Ok (at_most v)) fault.LocalNotAllowed (λ h. cc h) (λ h. cc h)
-made op.AtLeast v =
-    bounded (is_empty v.label) (Ok (at_least v)) fault.LocalNotAllowed (λ h. cc h) (λ h. cc h)
-made op.Less v =
-    bounded (is_empty v.label) (Ok (less_than v)) fault.LocalNotAllowed (λ h. cc h) (λ h. cc h)
-made op.More v =
-    bounded (is_empty v.label) (Ok (greater_than v)) fault.LocalNotAllowed (λ h. cc h) (λ h. cc h)
+made op.Exact v = λ h. cc h
 made op.Compatible v =
     bounded (is_empty v.label) _ fault.LocalNotAllowed
     (bounded (nat_lt 1 (length v.release)) (Ok (compatible v)) fault.OneNumber (λ h. cc h)
     (λ h. cc h)) (λ h. cc h)
-made op.Exact v = λ h. cc h
+made o v = bounded (is_empty v.label) _ fault.LocalNotAllowed (λ h. cc h) (λ h. cc h)
 
 made_prefix : (o : Op) (p : Prefix) → prefix_clause o p ≢ Err fault.NoMemory
 made_prefix op.Equal p = λ h. cc h
 made_prefix op.NotEqual p = λ h. cc h
-made_prefix op.AtMost p = λ h. cc h
-made_prefix op.AtLeast p = λ h. cc h
-made_prefix op.Less p = λ h. cc h
-made_prefix op.More p = λ h. cc h
-made_prefix op.Compatible p = λ h. cc h
-made_prefix op.Exact p = λ h. cc h
+made_prefix o p = λ h. cc h
 
 -- ---- what is read of the text
 

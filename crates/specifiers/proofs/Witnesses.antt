@@ -16,11 +16,8 @@ use Rattle.specifiers.specs.Clause.{IsClauseOf, excluding_prefix, prefix_answer}
 use Rattle.specifiers.specs.Clause.{Clause, ClauseOf, ReadsClause, at_least, at_most, clause_text}
 use Rattle.specifiers.specs.Clause.{compatible, demanded, demanded_text, greater_than}
 use Rattle.specifiers.specs.Clause.{less_than, matching, matching_prefix, operator_of, prefix_of}
-use Rattle.specifiers.specs.Clause.{version_answer}
-use Rattle.specifiers.specs.Way.VersionFaults.{TellsVersion}
-use Rattle.specifiers.specs.Operator.{operator}
-use Rattle.specifiers.specs.Way.OperatorEnds.{begin_of, end_of}
-use Rattle.specifiers.specs.Operator.{leaves_out}
+use Rattle.specifiers.specs.Clause.{version_answer, version_clause}
+use Rattle.specifiers.specs.Operator.{begin_of, end_of, least_numbers, leaves_out, of_version, operator}
 use Rattle.specifiers.specs.declared.op.Begin.TheVariants as begin
 use Rattle.specifiers.specs.declared.op.End.TheVariants as ends
 use Rattle.specifiers.specs.declared.fault.ClauseFault.TheVariants as fault
@@ -58,14 +55,10 @@ read_one =
 
 star : (o : Op) (c : Clause) → prefix_answer o (Ok (release (1 ∷ []))) ≡ Ok c → o ≢ op.Exact
     → ClauseOf o (codes "1.*") (Ok c)
-star op.Compatible c e n = cc e
 star op.Equal c e n = (Ok (release (1 ∷ [])), read_one, sym e)
 star op.NotEqual c e n = (Ok (release (1 ∷ [])), read_one, sym e)
-star op.AtMost c e n = cc e
-star op.AtLeast c e n = cc e
-star op.Less c e n = cc e
-star op.More c e n = cc e
 star op.Exact c e n = absurd (n refl)
+star o c e n = cc e
 
 abbrev prefix : Clause
 prefix = matching_prefix (prefix_of (release (1 ∷ [])))
@@ -125,9 +118,11 @@ Clause_text-without_the_star e = cc e
 pub Op_at_front-the_shorter : ¬ (Some op.Equal ≡ operator_of (codes "==="))
 Op_at_front-the_shorter e = cc e
 
+abbrev labelled : Version
+labelled = record (release (1 ∷ [])) { label = number 1 ∷ [] }
+
 -- `<=1`, 1+1
-pub is_at_most-refuses_a_label : ¬ (false
-    ≡ admits (at_most (release (1 ∷ []))) (record (release (1 ∷ [])) { label = number 1 ∷ [] }))
+pub is_at_most-refuses_a_label : ¬ (false ≡ admits (at_most (release (1 ∷ []))) labelled)
 is_at_most-refuses_a_label e = cc e
 
 -- `~=2.2.0`, 2.3
@@ -157,6 +152,10 @@ Op_end-less_behind_the_version e = cc e
 pub Op_leaves_out-equal : ¬ (true ≡ leaves_out op.Equal)
 Op_leaves_out-equal e = cc e
 
+-- `~=`
+pub Op_least_numbers-one : ¬ (1 ≡ least_numbers op.Compatible)
+Op_least_numbers-one e = cc e
+
 -- `>=1+1`
-pub version_fault-label_allowed : ¬ TellsVersion op.AtLeast (record (release (1 ∷ [])) { label = number 1 ∷ [] }) None
+pub version_fault-label_allowed : ¬ (version_clause op.AtLeast labelled ≡ Ok (of_version op.AtLeast labelled))
 version_fault-label_allowed e = cc e

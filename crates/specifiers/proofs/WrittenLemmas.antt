@@ -23,6 +23,7 @@ use Rattle.specifiers.specs.declared.fault.ClauseFault.{ClauseFault}
 use Rattle.specifiers.specs.declared.fault.ClauseFault.TheVariants as fault
 use Rattle.specifiers.specs.declared.op.Op.{Op}
 use Rattle.specifiers.specs.declared.op.Op.TheVariants as op
+use Rattle.specifiers.specs.Operator.{of_version}
 use Rattle.specifiers.specs.Clause.{Clause, IsClause, IsClauseOf, IsOperatorAndRun, Prefix, PrefixAnswers}
 use Rattle.specifiers.specs.Clause.{ReadsClauseAs}
 use Rattle.specifiers.specs.Clause.{ReadsThen, TargetAnswers, VersionAnswers, compatible, matching}
@@ -75,10 +76,6 @@ version-valid op.Equal v c is h =
     let same : c ≡ matching v = cc h in subst IsValidClause (sym same) is
 version-valid op.NotEqual v c is h =
     let same : c ≡ excluding v = cc h in subst IsValidClause (sym same) is
-version-valid op.AtMost v c is h = public-valid v c (at_most v) is h (λ both. both)
-version-valid op.AtLeast v c is h = public-valid v c (at_least v) is h (λ both. both)
-version-valid op.Less v c is h = public-valid v c (less_than v) is h (λ both. both)
-version-valid op.More v c is h = public-valid v c (greater_than v) is h (λ both. both)
 version-valid op.Compatible v c is h =
     let both =
     public-answer c v.label _ h in numbers (nat_lt 1 (length v.release)) refl both.0 both.1
@@ -101,6 +98,7 @@ version-valid op.Exact v c is h = absurd (apart c h)
   where
     apart : (c : Clause) → Ok c ≡ Err fault.BadVersion → ⊥
     apart c e = cc e
+version-valid o v c is h = public-valid v c (of_version o v) is h (λ both. both)
 
 star-apart : (c : Clause) → Ok c ≡ Err fault.StarNotAllowed → ⊥
 star-apart c e = cc e

@@ -1,39 +1,13 @@
 -- What a contract sees of a stored clause: an operator and what stands behind it. A prefix is kept as the version that is its epoch
 -- and release.
-use Rattle.std.specs.Prelude.{◌≡◌, [], IsTrue, string_bytes}
-use Rattle.pep_version.specs.Version.{Version}
-use Rattle.specifiers.specs.Clause.{Clause, Prefix, compatible, matching, matching_prefix, excluding}
-use Rattle.specifiers.specs.Clause.{excluding_prefix, at_most, at_least, less_than, greater_than}
-use Rattle.specifiers.specs.Clause.{demanded, prefix_of}
+use Rattle.std.specs.Prelude.{◌≡◌, IsTrue, string_bytes}
 use Rattle.pep_version.specs.Final.{is_final}
-use Rattle.specifiers.specs.Operator.{OperandParts, operator, prefix_part, text_part, version_part}
+use Rattle.specifiers.specs.Clause.{Clause, demanded, prefix_of}
+use Rattle.specifiers.specs.Operator.{OperandParts, of_prefix, of_version, operator, prefix_part, text_part, version_part}
 use Rattle.specifiers.specs.Valid.{IsValidClause}
 use Rattle.specifiers.specs.declared.clause.Operand.{Operand}
 use Rattle.specifiers.specs.declared.clause.Operand.TheVariants as operand
 use Rattle.specifiers.specs.declared.op.Op.{Op}
-use Rattle.specifiers.specs.declared.op.Op.TheVariants as op
-
--- the clause of an operator and a version; `===` has none, so that line is never used
-abbrev pub of_version : Op → Version → Clause
-of_version op.Compatible v = compatible v
-of_version op.Equal v = matching v
-of_version op.NotEqual v = excluding v
-of_version op.AtMost v = at_most v
-of_version op.AtLeast v = at_least v
-of_version op.Less v = less_than v
-of_version op.More v = greater_than v
-of_version op.Exact v = demanded []
-
--- .. and a prefix, which `==` and `!=` alone have
-abbrev pub of_prefix : Op → Prefix → Clause
-of_prefix op.NotEqual p = excluding_prefix p
-of_prefix op.Equal p = matching_prefix p
-of_prefix op.Compatible p = matching_prefix p
-of_prefix op.AtMost p = matching_prefix p
-of_prefix op.AtLeast p = matching_prefix p
-of_prefix op.Less p = matching_prefix p
-of_prefix op.More p = matching_prefix p
-of_prefix op.Exact p = matching_prefix p
 
 abbrev pub clause_of : Op → Operand → Clause
 clause_of o (operand.Version v) = of_version o v

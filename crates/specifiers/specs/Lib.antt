@@ -5,4 +5,3 @@ pub mod Operator
 pub mod ClauseView
 pub mod Front
 pub mod Code
-pub mod Way

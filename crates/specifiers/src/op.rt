@@ -1,3 +1,5 @@
+use pep_version::Version;
+
 /// An operator of a version specifier clause (PEP 440, "Version specifiers"): `~=`, `==`, `!=`,
 /// `<=`, `>=`, `<`, `>` and `===`, in this order.
 #[derive(Clone, Copy, Debug, PartialEq, Eq)]
@@ -12,8 +14,8 @@ pub enum Op {
     Exact,
 }
 
-/// Where the versions begin that a clause of an operator and a version speaks of. Public for the crates of sets and
-/// packed cuts, as [`Op::begin`] is.
+/// Where the versions begin that the clause of an operator and a version admits, or with `!=` leaves out (see
+/// [`Op::begin`]).
 #[derive(Clone, Copy, Debug, PartialEq, Eq)]
 pub enum Begin {
     /// Under all versions.
@@ -24,7 +26,7 @@ pub enum Begin {
     Greater,
 }
 
-/// Where the versions end that a clause of an operator and a version speaks of. Public for the same crates.
+/// Where these versions end (see [`Op::end`]).
 #[derive(Clone, Copy, Debug, PartialEq, Eq)]
 pub enum End {
     /// Directly behind the version and all its labels.
@@ -40,10 +42,11 @@ pub enum End {
 }
 
 impl Op {
-    ghost use Rattle.std.specs.Prelude.{◌≡◌};
-    ghost use Rattle.specifiers.specs.Clause.{operator_of, operator_text};
-    ghost use Rattle.specifiers.specs.Operator.{leaves_out};
-    ghost use Rattle.specifiers.specs.Way.OperatorEnds.{begin_of, end_of};
+    ghost use Rattle.std.specs.Prelude.{◌≡◌, ◌≢◌, ◌≤◌, ◌<◌, ◌↔◌, ◌||◌, [], IsOk, length};
+    ghost use Rattle.pep_version.specs.Version.{Version};
+    ghost use Rattle.specifiers.specs.Clause.{operator_of, operator_text, version_clause};
+    ghost use Rattle.specifiers.specs.Operator.{begin_of, end_of, least_numbers, leaves_out, takes_label};
+    ghost use Rattle.texts.specs.Lists.{is_empty};
 
     /// The longest operator that the text begins with (PEP 440, "Version specifiers").
     #[inline(always)]
@@ -80,7 +83,7 @@ impl Op {
     }
 
     /// Where the versions begin that the clause of this operator and a version admits, or with `!=` leaves out (PEP
-    /// 440, "Version specifiers"). Public for the crates of sets and packed cuts, which make a cut of it.
+    /// 440, "Version specifiers"). `===` makes no clause of a version, and has [`Begin::Least`] and [`End::All`].
     #[inline(always)]
     pub fn begin(self) -> Begin
         ensures { result ≡ begin_of self }
@@ -92,7 +95,8 @@ impl Op {
         }
     }
 
-    /// Where they end, see [`Op::begin`]. Public for the same crates.
+    /// Where the versions end that the clause of this operator and a version admits, or with `!=` leaves out (PEP 440,
+    /// "Version specifiers"); see [`Op::begin`].
     #[inline(always)]
     pub fn end(self) -> End
         ensures { result ≡ end_of self }
@@ -113,5 +117,27 @@ impl Op {
         ensures { result ≡ leaves_out self }
     {
         self == Op::NotEqual
+    }
+
+    /// Whether the version has no local version label, or the operator takes one (PEP 440, "Version matching", "Version
+    /// exclusion").
+    pub(crate) fn takes_label_of(self, version: &Version) -> bool
+        ensures { result ≡ (takes_label self || is_empty version.now.label) }
+    {
+        self == Op::Equal || self == Op::NotEqual || version.label().is_empty()
+    }
+
+    /// How many release numbers this operator wants of a version at least: two with `~=` (PEP 440, "Compatible
+    /// release"), one with the others. `===` makes a clause of no version.
+    #[inline(always)]
+    pub fn least_numbers(self) -> usize
+        ensures numbers { result ≡ least_numbers self }
+        ensures clause { (v : Version) → self ≢ Op.Exact → v.label ≡ [] → 0 < length v.release →
+            (IsOk (version_clause self v) ↔ result ≤ length v.release) }
+    {
+        match self {
+            Op::Compatible => 2,
+            _ => 1,
+        }
     }
 }

@@ -3,18 +3,16 @@
 -- And which packed cuts are told (`HoldsRelease`, `HoldsPrefix`).
 use Rattle.std.specs.Prelude.{◌≡◌, ◌+◌, ◌<◌, ◌≤◌, ℕ, List, [], ◌∷◌, Some, None, Ok, IsOk, length}
 use Rattle.pep_version.specs.Order.{with_suffixes}
-use Rattle.pep_version.specs.Version.{Version}
 use Rattle.specifiers.specs.Admits.{compatible_prefix}
 use Rattle.specifiers.specs.Clause.{Clause, Prefix, prefix_clause, version_clause}
-use Rattle.specifiers.specs.Way.OperatorEnds.{begin_of, end_of}
-use Rattle.specifiers.specs.Operator.{leaves_out}
+use Rattle.specifiers.specs.Operator.{begin_of, end_of, leaves_out}
 use Rattle.specifiers.specs.declared.op.Begin.{Begin}
 use Rattle.specifiers.specs.declared.op.Begin.TheVariants as begin
 use Rattle.specifiers.specs.declared.op.End.{End}
 use Rattle.specifiers.specs.declared.op.End.TheVariants as ends
 use Rattle.specifiers.specs.declared.op.Op.{Op}
 use Rattle.pep_clause.specs.OperatorTable.{set_of}
-use Rattle.pep_clause.specs.Way.Ends.{between}
+use Rattle.pep_clause.specs.Ends.{between}
 use Rattle.pep_clause.specs.PackedCut.{AreShortNumbers, IsShortRelease, IsShortVersion, release_alone}
 use Rattle.packed_cuts.specs.declared.packed_range.PackedRange.{PackedRange}
 

@@ -1,6 +1,6 @@
 -- What lies between two packed cuts, or outside of them.
 use Rattle.std.specs.Prelude.{List}
-use Rattle.pep_clause.specs.Way.Ends.{between}
+use Rattle.pep_clause.specs.Ends.{between}
 use Rattle.pep_clause.specs.VersionSet.{Range}
 use Rattle.packed_cuts.specs.declared.packed_set.PackedSet.{PackedSet}
 

@@ -22,7 +22,7 @@ ghost use Rattle.specifiers.specs.Clause.{
   prefix_of,
   version_clause,
 };
-ghost use Rattle.specifiers.specs.ClauseView.{of_prefix, of_version};
+ghost use Rattle.specifiers.specs.Operator.{of_prefix, of_version};
 
 use crate::clause::read::version_fault;
 use crate::clause::{Clause, Operand};

@@ -1,6 +1,6 @@
 // How a clause is read.
 
-ghost use Rattle.std.specs.Prelude.{◌≡◌, ◌&&◌, IsTrue, not, Ok};
+ghost use Rattle.std.specs.Prelude.{◌≡◌, ◌&&◌, Err, IfNone, IfSome, IsTrue, not, Ok};
 ghost use Rattle.std.specs.Char.{is_ascii_uppercase};
 ghost use Rattle.std.specs.List.{list_all};
 ghost use Rattle.pep_version.specs.Version.{IsVersion};
@@ -13,12 +13,9 @@ ghost use Rattle.specifiers.specs.Clause.{
   is_demanded_text,
   prefix_answer,
   version_answer,
+  version_clause,
 };
-ghost use Rattle.specifiers.specs.Way.VersionFaults.{
-  TellsVersion,
-  compatible_fault,
-  label_fault,
-};
+ghost use Rattle.specifiers.specs.Operator.{of_version};
 ghost use Rattle.texts.specs.Bytes.{is_clause_byte};
 
 use crate::clause::{Clause, Operand};
@@ -54,8 +51,7 @@ fn are_lower(bytes: &[u8]) -> bool
 }
 
 /// Whether `===` and this text are a clause that demands the text as it is written (PEP 440, "Arbitrary
-/// equality"): one or more letters in lower case, digits and bytes of `-_.*+!`. Public for the crate that reads
-/// lines and keeps no clause.
+/// equality"): one or more letters in lower case, digits and bytes of `-_.*+!`.
 pub fn is_demanded_text(text: &str) -> bool
     ensures text { result ≡ is_demanded_text text.now }
     ensures clause { IsTrue result → IsClauseOf Op.Exact text.now (demanded text.now) }
@@ -87,38 +83,21 @@ fn prefix_clause(operator: Op, version: Version) -> Result<Clause, ClauseFault>
     }
 }
 
-// Why an operator that takes no label refuses the version, if it does.
-fn label_fault(version: &Version) -> Option<ClauseFault>
-    ensures { result ≡ label_fault version.now }
-{
-    if version.label().is_empty() {
-        None
-    } else {
-        Some(ClauseFault::LocalNotAllowed)
-    }
-}
-
-// Why `~=` refuses the version, if it does.
-fn compatible_fault(version: &Version) -> Option<ClauseFault>
-    ensures { result ≡ compatible_fault version.now }
-{
-    match label_fault(version) {
-        Some(fault) => Some(fault),
-        None if version.release().len() > 1 => None,
-        None => Some(ClauseFault::OneNumber),
-    }
-}
-
 /// Why the operator and the version make no clause, if they make none.
 pub(crate) fn version_fault(operator: Op, version: &Version) -> Option<ClauseFault>
-    ensures { TellsVersion operator version.now result }
+    ensures made { IfNone result (version_clause operator version.now ≡ Ok (of_version operator version.now)) }
+    ensures refused { IfSome result (λ e. version_clause operator version.now ≡ Err e) }
 {
-    match operator {
-        Op::Equal | Op::NotEqual => None,
-        Op::Exact => Some(ClauseFault::BadVersion),
-        Op::Compatible => compatible_fault(version),
-        _ => label_fault(version),
+    if operator == Op::Exact {
+        return Some(ClauseFault::BadVersion);
     }
+    if !operator.takes_label_of(version) {
+        return Some(ClauseFault::LocalNotAllowed);
+    }
+    if version.release().len() < operator.least_numbers() {
+        return Some(ClauseFault::OneNumber);
+    }
+    None
 }
 
 // The clause of an operator and a version.
@@ -159,15 +138,16 @@ impl Clause {
     /// Behind `==` and `!=` stands a version, which may have a local version label, or a release
     /// with its epoch and `.*` ("Version matching", "Version exclusion"); behind the others a
     /// version without a label ("Inclusive ordered comparison", "Exclusive ordered comparison"),
-    /// for `~=` with two release numbers or more ("Compatible release"); behind `===` one or more
-    /// letters, digits and bytes of `-_.*+!`, kept in lower case ("Arbitrary equality").
+    /// with as many release numbers as the operator wants ([`Op::least_numbers`], "Compatible
+    /// release"); behind `===` one or more letters, digits and bytes of `-_.*+!`, kept in lower
+    /// case ("Arbitrary equality").
     ///
     /// Each refusal is the first check that fails: 12 `BadVersion` where no version stands before
     /// `.*` or in the text, or the text of `===` is empty or has another byte; 16 `NumberTooLarge`
     /// where it would be a version but for a number above 18446744073709551615; 13 `StarNotAllowed`
     /// where `.*` stands behind more than a release, or with another operator than `==` and `!=`;
-    /// 14 `LocalNotAllowed` for a label with another operator; 15
-    /// `OneNumber` for `~=` with one release number; 17 `NoMemory` where a growth is refused.
+    /// 14 `LocalNotAllowed` for a label with another operator; 15 `OneNumber` for fewer release
+    /// numbers than the operator wants; 17 `NoMemory` where a growth is refused.
     #[inline(always)]
     pub fn of(alloc: Global, operator: Op, text: &str) -> Result<Clause, ClauseFault>
         ensures clause { ClauseOf operator text.now result }
@@ -193,9 +173,9 @@ impl Clause {
         Clause::of(alloc, operator, &text[operator.text().len()..])
     }
 
-    /// The clause in front of a text, as the first of a list of clauses stands there, and what stands behind it, without
-    /// white space before that (PEP 508, "Grammar"). Spaces and tabs may stand before and behind the operator, and then
-    /// the clause takes the longest run of letters, digits and bytes of `-_.*+!`.
+    /// The clause in front of a text, as the first of a list of clauses stands there, and what stands behind it,
+    /// without white space before that (PEP 508, "Grammar"). Spaces and tabs may stand before and behind the operator,
+    /// and then the clause takes the longest run of letters, digits and bytes of `-_.*+!`.
     ///
     /// A text that begins with no operator is refused with 11 `NoOperator`; else each refusal is that of `Clause::of`
     /// for the run.

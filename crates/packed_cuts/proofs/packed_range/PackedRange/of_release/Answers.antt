@@ -1,7 +1,7 @@
 use Rattle.std.proofs.Common.{◌∙◌, Some, rules}
 use Rattle.std.specs.Prelude.{IsOk}
 use Rattle.specifiers.specs.Clause.{version_clause}
-use Rattle.pep_clause.specs.Way.Ends.{begin_cut, end_cut}
+use Rattle.pep_clause.specs.Ends.{begin_cut, end_cut}
 use Rattle.pep_clause.specs.PackedCut.{release_alone}
 use Rattle.packed_cuts.proofs.ReleaseRanges.{holds_release}
 use Rattle.packed_cuts.proofs.packed_range.PackedRange.of_release.Goals as goal

@@ -1,8 +1,7 @@
 use Rattle.std.proofs.Common.{◌∙◌, subst, sym}
 use Rattle.std.specs.Prelude.{IsTrue}
-use Rattle.specifiers.specs.Operator.{leaves_out}
 use Rattle.pep_clause.specs.Cut.{cut_cmp}
-use Rattle.pep_clause.specs.Way.Ends.{begin_cut, end_cut}
+use Rattle.pep_clause.specs.Ends.{begin_cut, end_cut}
 use Rattle.pep_clause.proofs.EndRows.{between-at, between-ends, ends-in_order}
 use Rattle.pep_clause.proofs.set.VersionSet.of_version.Goals as goal
 

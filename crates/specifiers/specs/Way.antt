@@ -1,3 +1,0 @@
--- Definitions that say how the code goes. No promise rests on them.
-pub mod OperatorEnds
-pub mod VersionFaults
