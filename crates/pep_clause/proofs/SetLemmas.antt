@@ -52,15 +52,7 @@ In-all_versions v = (λ i. not (none-under_least v i) || false)
 -- where a text is demanded they hold all versions
 pub demanded-in-set_of : (c : Clause) (v : Version) → IsSome (demanded_text c) → In (set_of c) v
 demanded-in-set_of (demanded text) v h = In-all_versions v
-demanded-in-set_of (compatible w) v h = cc h
-demanded-in-set_of (matching w) v h = cc h
-demanded-in-set_of (matching_prefix p) v h = cc h
-demanded-in-set_of (excluding w) v h = cc h
-demanded-in-set_of (excluding_prefix p) v h = cc h
-demanded-in-set_of (at_most w) v h = cc h
-demanded-in-set_of (at_least w) v h = cc h
-demanded-in-set_of (less_than w) v h = cc h
-demanded-in-set_of (greater_than w) v h = cc h
+demanded-in-set_of c v h = cc h
 
 -- they are a normal list
 pub IsNormal-set_of : (c : Clause) → IsValidClause c → IsNormal (set_of c)
