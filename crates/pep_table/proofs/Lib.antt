@@ -1,4 +1,6 @@
 pub mod NamedEntries
+pub mod NamePlaces
+pub mod Placed
 pub mod EntryPlaces
 pub mod FirstFault
 pub mod AllJoined

@@ -1,12 +1,11 @@
--- A table after a change at one name, and the map of names that the code keeps.
+-- A table after a change at one name.
 use Rattle.std.proofs.Common.{◌≡◌, ℕ, Bool, true, false, List, [], ◌∷◌, Option, Some, None}
 use Rattle.std.proofs.Common.{refl, sym, ap, subst, ◌∙◌}
 use Rattle.std.specs.Prelude.{bytes_eq, if◌then◌else◌, slice_index_or, unwrap_or}
 use Rattle.std.specs.Bool.{one_answer}
-use Rattle.std.specs.BTreeMap.{BTreeMap, IsOrdered, UpdatesBy, get, is_at}
+use Rattle.std.specs.BTreeMap.{is_at}
 use Rattle.std.specs.List.{All}
 use Rattle.std.specs.Map.{lookup}
-use Rattle.std.proofs.lemmas.List.{map-id}
 use Rattle.std.proofs.lemmas.List.Elements.{All-cons, All-contains, All-contains_itself, All-nil}
 use Rattle.std.proofs.lemmas.Map.Text.{is_eq-slice_cmp}
 use Rattle.std.proofs.lemmas.Slice.Eq.{bytes_eq-Decides}
@@ -23,11 +22,10 @@ use Rattle.demands.specs.JoinLaws.{IsJoin-IsUnion}
 use Rattle.demands.specs.Table.{EntryParts, IsValidEntry, IsValidTable, TableParts, entry_at}
 use Rattle.demands.specs.Table.{names}
 use Rattle.pep_table.specs.TableLaws.{alone}
-use Rattle.demands.proofs.KeptSets.{ascending_map, union_none}
+use Rattle.demands.proofs.KeptSets.{union_none}
 use Rattle.demands.proofs.TakenClauses.{all_meets}
-use Rattle.demands.proofs.ValidEntries.{bare_valid, joined_valid, taken_valid}
 
--- ---- the map of names
+-- ---- the entry of a name
 
 eq_turned : (x y : List ℕ) → bytes_eq x y ≡ bytes_eq y x
 eq_turned x y =
@@ -49,18 +47,6 @@ entry_at-map (p ∷ t) q = by (bytes_eq p.0 q) refl (entry_at-map t q)
 -- the entry of a name, after the entry of one name has changed
 abbrev pub changed : TableParts → List ℕ → EntryParts → List ℕ → Option EntryParts
 changed old name e q = if bytes_eq name q then Some e else entry_at old q
-
-pub entry_at-changed : (old new : BTreeMap (List ℕ) EntryParts) (n : List ℕ) (w : EntryParts) →
-    UpdatesBy name_cmp (name_cmp n) old new (Some w) → (q : List ℕ) →
-    entry_at new.entries q ≡ changed old.entries n w q
-entry_at-changed old new n w h q =
-    entry_at-map new.entries q ∙ h.0 q
-    ∙ (λ i. if is_eq-slice_cmp n q i then Some w else sym (entry_at-map old.entries q) i)
-
-pub names_ascend : (m : BTreeMap (List ℕ) EntryParts) → IsOrdered name_cmp m →
-    IsAscending (names m.entries)
-names_ascend m o = subst IsAscending (map-id (names m.entries))
-    (ascending_map name_cmp (λ n. n) (λ x y. refl) (names m.entries) o)
 
 -- ---- what a change leaves valid
 
@@ -174,54 +160,3 @@ changed_joins old new n e w valid ev wv is j = record {
         (subst (λ x. JoinsEntries (unwrap_or (entry_at old x) bare_entry) e w)
         ((bytes_eq-Decides n q).0 same) j))
     at q false other = rw other (alone (entry_at old q))
-
--- ---- the map after a requirement, and after an entry
-
-abbrev pub Entries : Type 0
-Entries = BTreeMap (List ℕ) EntryParts
-
--- what the map has at a name, as the entry there
-found_valid : (old : Entries) (n : List ℕ) (o : Option EntryParts) → IsValidTable old.entries →
-    get name_cmp old n ≡ o → IsValidEntry (unwrap_or o bare_entry)
-found_valid old n None v at = bare_valid
-found_valid old n (Some a) v at =
-    valid_at old.entries n a v.entries (entry_at-map old.entries n ∙ at)
-
-found_at : (old : Entries) (n : List ℕ) (o : Option EntryParts) → get name_cmp old n ≡ o →
-    entry_at old.entries n ≡ o
-found_at old n o at = entry_at-map old.entries n ∙ at
-
-pub map_takes : (old new : Entries) (n : List ℕ) (o : Option EntryParts) (r : RequirementParts)
-    (w : EntryParts) → n ≡ r.name → IsValidTable old.entries → HasValidParts r →
-    get name_cmp old n ≡ o → UpdatesBy name_cmp (name_cmp n) old new (Some w) →
-    IsOrdered name_cmp new → TakesEntry (unwrap_or o bare_entry) r w →
-    IsValidTable new.entries × TakesRequirement old.entries r new.entries
-map_takes old new n o r w same v h at updates ordered takes =
-    let is : (q : List ℕ) → entry_at new.entries q ≡ changed old.entries r.name w q =
-    λ q. entry_at-changed old new n w updates q ∙ (λ i. changed old.entries (same i) w q) in
-    let there : entry_at old.entries r.name ≡ o =
-    ap (entry_at old.entries) (sym same) ∙ found_at old n o at in
-    let valid = changed_valid old.entries new.entries r.name w v h.name
-    (taken_valid (unwrap_or o bare_entry) w r (found_valid old n o v at) h takes)
-    (names_ascend new ordered) is in (
-      valid,
-      changed_takes old.entries new.entries r w h valid is
-          (subst (λ a. TakesEntry (unwrap_or a bare_entry) r w) (sym there) takes),
-    )
-
-pub map_joins : (old new : Entries) (n : List ℕ) (o : Option EntryParts) (e w : EntryParts) →
-    IsValidTable old.entries → IsNormalName n → IsValidEntry e →
-    get name_cmp old n ≡ o → UpdatesBy name_cmp (name_cmp n) old new (Some w) →
-    IsOrdered name_cmp new → JoinsEntries (unwrap_or o bare_entry) e w →
-    IsValidTable new.entries × JoinsTables old.entries ((n, e) ∷ []) new.entries
-map_joins old new n o e w v normal ev at updates ordered joins =
-    let is : (q : List ℕ) → entry_at new.entries q ≡ changed old.entries n w q =
-    λ q. entry_at-changed old new n w updates q in
-    let wv = joined_valid (unwrap_or o bare_entry) e w (found_valid old n o v at) ev joins in
-    let valid = changed_valid old.entries new.entries n w v normal wv
-    (names_ascend new ordered) is in (
-      valid,
-      changed_joins old.entries new.entries n e w valid ev wv is
-          (subst (λ a. JoinsEntries (unwrap_or a bare_entry) e w) (sym (found_at old n o at))
-          joins),
-    )

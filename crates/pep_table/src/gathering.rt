@@ -10,6 +10,7 @@ ghost use Rattle.demands.specs.Table.{IsValidEntry, IsValidTable};
 ghost use Rattle.demands.specs.declared.verdict.Verdict.{Verdict};
 ghost use Rattle.pep_table.specs.TableText.{IsTableText, Shows, entry_text};
 
+use crate::gathered::{Gathered, GatheredEntries};
 use crate::printout::{Printout, Row, Rows};
 use crate::table::Table;
 use crate::text::header_of;
@@ -17,23 +18,25 @@ use demands::{Entry, Kept, LineDemands, PackageDemands, TableFault};
 use pep_marker::{Environment, MarkerFault, Name};
 use pep_require::Requirement;
 use std::alloc::{AllocError, Global};
-use std::collections::BTreeMap;
 use std::marker::Model;
 
 /// What the requirements and tables so far demand. Clauses see the table of it.
 #[derive(Drop)]
 pub struct Gathering {
-    entries: BTreeMap<Name, PackageDemands>,
+    // Nothing is demanded, where it is `None`.
+    gathered: Option<Box<Gathered>>,
 }
 
 impl Model for Gathering {
+    ghost use Rattle.std.specs.Prelude.{option_map};
     ghost use Rattle.demands.specs.Table.{IsValidTable, TableParts};
+    ghost use Rattle.pep_table.specs.Way.Gathered.{gathered_table};
 
     ghost Value = { TableParts };
 
-    ghost view = { λ g. g.entries.entries };
+    ghost view = { λ g. gathered_table (option_map (λ b. b.value) g.gathered) };
 
-    ghost invariant = { λ g. IsValidTable g.entries.entries };
+    ghost invariant = { λ g. IsValidTable (gathered_table (option_map (λ b. b.value) g.gathered)) };
 }
 
 // Appends the lines of what is gathered of a name.
@@ -53,30 +56,46 @@ fn push_gathered(
 
 impl Gathering {
     /// Nothing is demanded.
-    pub fn new(alloc: Global) -> Gathering
+    pub fn new(_alloc: Global) -> Gathering
         ensures { result ≡ [] }
     {
-        Gathering {
-            entries: BTreeMap::new(alloc),
+        Gathering { gathered: None }
+    }
+
+    // What is demanded so far, to be changed.
+    fn opened(self, alloc: Global) -> Result<Box<Gathered>, AllocError>
+        ensures same { IfOk result (λ b. b.value ≡ self) }
+        ensures valid { IsValidTable self }
+    {
+        match self.gathered {
+            Some(gathered) => Ok(gathered),
+            None => Ok(Box::new(alloc, Gathered::new(alloc))?),
+        }
+    }
+
+    // The names in order, with what is demanded of them.
+    fn into_entries(self, alloc: Global) -> GatheredEntries
+        ensures same { result ≡ self }
+        ensures valid { IsValidTable self }
+    {
+        match self.gathered {
+            Some(gathered) => Box::into_inner(gathered).into_entries(),
+            None => Gathered::new(alloc).into_entries(),
         }
     }
 
     /// What is demanded so far and by the requirement, whatever its marker. The only fault is
     /// `NoMemory`, 42.
-    pub fn take(mut self, alloc: Global, requirement: &Requirement) -> Result<Gathering, TableFault>
+    pub fn take(self, alloc: Global, requirement: &Requirement) -> Result<Gathering, TableFault>
         ensures taken { IfOk result (λ new.
             TakesRequirement self (requirement_parts requirement.now) new) }
         ensures faults { IfErr result (λ e. e ≡ TableFault.NoMemory) }
     {
-        let name = requirement.name();
-        if let Some(entry) = self.entries.get_mut(name) {
-            entry.take(alloc, requirement)?;
-            return Ok(self);
-        }
-        let mut entry = PackageDemands::bare();
-        entry.take(alloc, requirement)?;
-        self.entries.insert(name.kept(alloc)?, entry)?;
-        Ok(self)
+        let mut gathered = self.opened(alloc)?;
+        gathered.take(alloc, requirement)?;
+        Ok(Gathering {
+            gathered: Some(gathered),
+        })
     }
 
     /// What is demanded so far and, if it applies in the environment, by the requirement. A marker
@@ -109,40 +128,21 @@ impl Gathering {
         ensures valid { IsValidTable table }
         ensures faults { IfErr result (λ e. e ≡ TableFault.NoMemory) }
     {
-        // Where a field is read, the invariant is at hand.
-        let _ = self.entries.len();
+        // Its clause tells that the table is valid.
         let _ = table.entries();
-        let mut all = self;
+        let mut gathered = self.opened(alloc)?;
         for (name, entry) in table.into_entries() {
-            all = all.take_entry(alloc, name, entry)?;
+            gathered.join(alloc, name, entry)?;
         }
-        Ok(all)
+        Ok(Gathering {
+            gathered: Some(gathered),
+        })
     }
 
-    // What is demanded so far, and of one package by its entry.
-    fn take_entry(
-        mut self,
-        alloc: Global,
-        name: Name,
-        entry: Entry,
-    ) -> Result<Gathering, AllocError>
-        ensures { IfOk result (λ new. JoinsTables self ((name, entry) ∷ []) new) }
-    {
-        // Its clause tells that the name is in its normalized form.
-        let _ = name.text();
-        // One look finds the name's place, where it is there and where it is new.
-        let place = self.entries.entry(name)?;
-        let kept = place.or_insert(PackageDemands::bare());
-        match kept.join(alloc, entry) {
-            Ok(()) => Ok(self),
-            Err(_) => Err(AllocError),
-        }
-    }
-
-    /// What is demanded so far, and of one package by a line, whose sets are moved: it may be anything until it is
+    /// What is demanded so far and of one package by a line, whose sets are moved: it may be anything until it is
     /// cleared. The only fault is `NoMemory`, 42.
     pub fn take_line(
-        mut self,
+        self,
         alloc: Global,
         name: Name,
         line: &mut LineDemands,
@@ -154,14 +154,11 @@ impl Gathering {
     {
         // Its clause tells that the name is in its normalized form.
         let _ = name.text();
-        if let Some(kept) = self.entries.get_mut(&name) {
-            kept.take_line(alloc, line)?;
-            return Ok(self);
-        }
-        let mut gathered = PackageDemands::bare();
-        gathered.take_line(alloc, line)?;
-        self.entries.insert(name, gathered)?;
-        Ok(self)
+        let mut gathered = self.opened(alloc)?;
+        gathered.take_line(alloc, name, line)?;
+        Ok(Gathering {
+            gathered: Some(gathered),
+        })
     }
 
     /// The table of what is demanded. The only fault is `NoMemory`, 42.
@@ -169,8 +166,8 @@ impl Gathering {
         ensures same { IfOk result (λ table. table ≡ self) }
         ensures faults { IfErr result (λ e. e ≡ TableFault.NoMemory) }
     {
-        let mut entries = Vec::with_capacity(alloc, self.entries.len())?;
-        for (name, gathered) in self.entries {
+        let mut entries = Vec::new(alloc);
+        for (name, gathered) in self.into_entries(alloc) {
             entries.push((name, gathered.entry(alloc)?))?;
         }
         Ok(Table::of_entries(entries))
@@ -183,7 +180,7 @@ impl Gathering {
         ensures faults { IfErr result (λ e. e ≡ TableFault.NoMemory) }
     {
         let mut text = header_of(alloc, environment)?;
-        for (name, gathered) in self.entries {
+        for (name, gathered) in self.into_entries(alloc) {
             push_gathered(alloc, &mut text, name, gathered)?;
         }
         Ok(text)
@@ -197,7 +194,7 @@ impl Gathering {
     {
         let header = header_of(alloc, environment)?;
         let mut rows = Rows::new(alloc)?;
-        for (name, gathered) in self.entries {
+        for (name, gathered) in self.into_entries(alloc) {
             let row = Row::of(alloc, name, gathered)?;
             rows.put(alloc, row)?;
         }

@@ -1,8 +1,10 @@
 //! The table of requirements by package.
 #![tactic(auto)]
 
+mod gathered;
 mod gathering;
 pub mod laws;
+mod places;
 mod printout;
 mod read;
 mod same;

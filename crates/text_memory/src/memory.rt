@@ -30,6 +30,8 @@ pub trait OfText {
 #[derive(Drop)]
 pub struct TextMemory<T> {
     slots: Vec<Option<T>>,
+    // The sums of the texts in the slots, by which others are passed over. Nothing but time rests on them.
+    sums: Vec<u32>,
     // How many texts came since there are so many slots.
     come: usize,
     most: usize,
@@ -55,8 +57,8 @@ fn empty_slots<T: Drop>(alloc: Global, count: usize) -> Result<Vec<Option<T>>, A
 }
 
 // The first slot for texts with this sum among so many, a power of two.
-fn first_slot(sum: usize, count: usize) -> usize {
-    sum & count.saturating_sub(1) & !(WAYS - 1)
+fn first_slot(sum: u32, count: usize) -> usize {
+    sum as usize & count.saturating_sub(1) & !(WAYS - 1)
 }
 
 impl<T: OfText + Drop> TextMemory<T> {
@@ -66,6 +68,7 @@ impl<T: OfText + Drop> TextMemory<T> {
     {
         TextMemory {
             slots: Vec::new(alloc),
+            sums: Vec::new(alloc),
             come: 0,
             most,
         }
@@ -76,9 +79,12 @@ impl<T: OfText + Drop> TextMemory<T> {
         ensures kept { IfSome result (λ it. Contains self.now (Some it.now)) }
         ensures text { IfSome result (λ it. T.text it.now ≡ text.now) }
     {
-        let first = first_slot(sum_of(text), self.slots.len());
+        let sum = sum_of(text);
+        let first = first_slot(sum, self.slots.len());
         for i in 0..WAYS {
-            if let Some(Some(it)) = self.slots.get(first.saturating_add(i))
+            let place = first.saturating_add(i);
+            if self.sums.get(place).copied() == Some(sum)
+                && let Some(Some(it)) = self.slots.get(place)
                 && it.text() == text
             {
                 return Some(it);
@@ -98,7 +104,7 @@ impl<T: OfText + Drop> TextMemory<T> {
     }
 
     // The slot for what has this sum: an empty one, or one of them in turn.
-    fn slot_for(&self, sum: usize) -> usize {
+    fn slot_for(&self, sum: u32) -> usize {
         let first = first_slot(sum, self.slots.len());
         for i in 0..WAYS {
             if let Some(None) = self.slots.get(first.saturating_add(i)) {
@@ -112,7 +118,11 @@ impl<T: OfText + Drop> TextMemory<T> {
     fn keep(&mut self, it: T)
         ensures { All (IsFrom self.old it) self.new }
     {
-        let place = self.slot_for(sum_of(it.text()));
+        let sum = sum_of(it.text());
+        let place = self.slot_for(sum);
+        if let Some(kept) = self.sums.get_mut(place) {
+            *kept = sum;
+        }
         if let Some(slot) = self.slots.get_mut(place) {
             *slot = Some(it);
         }
@@ -134,6 +144,7 @@ impl<T: OfText + Drop> TextMemory<T> {
         ensures { All (IsKept self.old) self.new }
     {
         let slots = empty_slots(alloc, count)?;
+        self.sums = vec![in alloc; 0; count]?;
         let mut old = replace(&mut self.slots, slots);
         self.come = 0;
         'old: while let Some(slot) = old.pop() {

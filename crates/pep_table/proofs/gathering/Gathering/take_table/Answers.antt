@@ -4,15 +4,15 @@ use Rattle.std.proofs.lemmas.List.{nil_from_length}
 use Rattle.std.specs.Vec.Iter.{into_iter_items}
 use Rattle.pep_require.specs.Requirement.{IsAscending}
 use Rattle.demands.specs.Join.{JoinsTables}
-use Rattle.demands.specs.Table.{EntryParts, TableParts, names}
+use Rattle.demands.specs.Table.{EntryParts, IsValidTable, TableParts, names}
 use Rattle.pep_table.proofs.EntryPlaces.{joins_next, joins_none}
 use Rattle.pep_table.proofs.gathering.Gathering.take_table.Goals as goal
 
 pub loop-name-init : goal.loop-name-init
 loop-name-init c = (
   refl,
-  subst (λ (t : TableParts). JoinsTables t [] t) c.self.view_is
-      (joins_none c.self.inside.entries.entries c.self.invariant),
+  joins_none c.in_ok-gathered.gathered.value
+      (subst IsValidTable (sym c.in_ok-gathered.ensures.same) c.opened.ensures.valid),
   search rules,
 )
 
@@ -27,8 +27,10 @@ loop-name-preserved c =
     let whole : done ++ p ∷ more ≡ c.args.table =
     ap (λ (l : TableParts). done ++ l) (sym steps) ∙ at.invariant.0 ∙ search rules in (
       append_assoc done (p ∷ []) more ∙ ap (λ (l : TableParts). done ++ l) (sym steps) ∙ at.invariant.0,
-      joins_next c.args.self at.all c.in_ok-all.all done (done ++ p ∷ []) more p at.invariant.1
-          c.in_ok-all.ensures refl
+      joins_next c.in_ok-gathered.gathered.value at.gathered.value c.join.new.self done (done ++ p ∷ []) more p
+          at.invariant.1
+          (subst (λ (t : TableParts). JoinsTables t (p ∷ []) c.join.new.self) c.deref_mut.ensures.value
+          c.in_ok-join.ensures) refl
           (subst (λ (s : TableParts). IsAscending (names s)) (sym whole)
           c.entries.ensures.valid.names.0),
       let was = at.invariant.2 in
@@ -46,4 +48,5 @@ returns-clause-joined c =
     let all : done ≡ c.args.table =
     sym (append-nil done) ∙ ap (λ (l : TableParts). done ++ l) (sym none) ∙ at.invariant.0
     ∙ search rules in
-    subst (λ (t : TableParts). JoinsTables c.args.self t at.all) all at.invariant.1
+    subst (λ (t : TableParts). JoinsTables c.args.self t at.gathered.value) all
+    (subst (λ (t : TableParts). JoinsTables t done at.gathered.value) c.in_ok-gathered.ensures.same at.invariant.1)

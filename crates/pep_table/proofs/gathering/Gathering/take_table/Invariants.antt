@@ -7,5 +7,5 @@ use Rattle.pep_table.proofs.gathering.Gathering.take_table.Given as goal
 abbrev pub invariant-loop-name : goal.invariant-loop-name
 invariant-loop-name l =
     (l.yielded ++ into_iter_items l.name-iterator ≡ into_iter_items l.initial.name-iterator)
-    × JoinsTables l.initial.all l.yielded l.all
+    × JoinsTables l.initial.gathered.value l.yielded l.gathered.value
     × (into_iter_len l.name-iterator ≡ length (into_iter_items l.name-iterator))
