@@ -2,10 +2,11 @@
 use Rattle.std.proofs.Common.{◌≡◌, ◌==◌, ℕ, ◌<◌, ◌≤◌, ◌+◌, List, [], ◌∷◌, ◌++◌, length, map, take}
 use Rattle.std.proofs.Common.{get_or, false, decimal, refl, sym, ap, ◌∙◌, arith, append_assoc}
 use Rattle.std.proofs.lemmas.List.{length-map, length-take-le, map-append, take_more}
+use Rattle.std.proofs.lemmas.Fmt.{decimal_digit}
 use Rattle.std.specs.List.{join_with_byte}
-use Rattle.std.specs.Prelude.{if◌then◌else◌}
+use Rattle.std.specs.Prelude.{Err, Ok, OnOk, Option, Result, Some, codes, if◌then◌else◌}
 use Rattle.pep_version.specs.Order.{short_release, without_end_zeros}
-use Rattle.pep_version.specs.Text.{release_text, segment_text}
+use Rattle.pep_version.specs.Text.{dev_text, post_text, release_text, segment_text}
 use Rattle.pep_version.specs.View.{segment_of}
 use Rattle.pep_version.specs.declared.parts.Label.{Label}
 
@@ -85,3 +86,33 @@ text-more start front dot part whole n m o w =
     n ∙ ap (λ (t : List ℕ). t ++ part) (m ∙ ap (λ (t : List ℕ). t ++ dot) o)
     ∙ append_assoc (start ++ front) dot part ∙ append_assoc start front (dot ++ part)
     ∙ ap (λ (t : List ℕ). start ++ t) (sym w)
+
+-- what follows from what a success promises
+pub on-ok : {T E P Q : Type 0} (r : Result T E) → (P → Q) → OnOk r P → OnOk r Q
+on-ok (Ok x) f p = f p
+on-ok (Err e) f p = tt
+
+-- a text to which two parts of another were added, one after the other
+pub two-parts : (start first second : List ℕ) {middle new whole : List ℕ} → middle ≡ start ++ first → new ≡ middle ++ second
+    → whole ≡ first ++ second → new ≡ start ++ whole
+two-parts start first second m n w =
+    n ∙ ap (λ (t : List ℕ). t ++ second) m ∙ append_assoc start first second ∙ ap (λ (t : List ℕ). start ++ t) (sym w)
+
+-- zero has one digit
+pub zero-text : decimal 0 ≡ 48 ∷ []
+zero-text = decimal_digit 0 (omega arith)
+
+-- the suffixes of the end of a release
+pub end-text : (post dev : Option ℕ) → post ≡ Some 0 → dev ≡ Some 0 → post_text post ++ dev_text dev ≡ codes ".post0.dev0"
+end-text post dev p d = rw (p, d, zero-text) refl
+
+-- a release of four numbers, two by two
+pub four-text : (r : List ℕ) → 4 ≤ length r → length r < 5 → release_text r
+    ≡ (decimal (get_or r 0 0) ++ 46 ∷ decimal (get_or r 1 0)) ++ 46 ∷ (decimal (get_or r 2 0) ++ 46 ∷ decimal (get_or r 3 0))
+four-text [] least below = absurd (omega arith)
+four-text (a ∷ []) least below = absurd (omega arith)
+four-text (a ∷ b ∷ []) least below = absurd (omega arith)
+four-text (a ∷ b ∷ c ∷ []) least below = absurd (omega arith)
+four-text (a ∷ b ∷ c ∷ d ∷ []) least below =
+    sym (append_assoc (decimal a) (46 ∷ decimal b) (46 ∷ (decimal c ++ 46 ∷ decimal d)))
+four-text (a ∷ b ∷ c ∷ d ∷ e ∷ rest) least below = absurd (omega arith)

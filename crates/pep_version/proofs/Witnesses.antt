@@ -12,7 +12,7 @@ use Rattle.pep_version.specs.KeyBytes.{key_bytes, stage_bytes_of}
 use Rattle.pep_version.specs.KeyReading.{IsKey, behind_place}
 use Rattle.pep_version.specs.Order.{place_cmp, place_of, release_version, version_cmp, with_suffixes}
 use Rattle.pep_version.specs.Spelling.{Reads, SpellsAny}
-use Rattle.pep_version.specs.Text.{KeepsFront, normal_text, public_version}
+use Rattle.pep_version.specs.Text.{KeepsFront, dev_text, normal_text, post_text, pre_text, public_version, release_text}
 use Rattle.pep_version.specs.Final.{is_final}
 use Rattle.pep_version.specs.Version.{IsVersion, Version, number}
 use Rattle.pep_version.specs.View.{segment_of}
@@ -139,11 +139,16 @@ Version_text-of_the_release e = cc e
 pub behind_release-the_epoch_left : ¬ (0 ∷ 0x50 ∷ 0 ∷ 1 ∷ 0 ∷ [] ≡ behind_place (key_bytes (plain 0)))
 behind_release-the_epoch_left e = cc e
 
--- 1.post1, behind no text
-pub put_public-post_passed_over : ¬ (codes "1.post1.dev1" ≡ codes ""
-    ++ normal_text (public_version (1 ∷ []) None (Some 1) None))
+-- the release 1, behind no text
+pub put_release-one_number_twice : ¬ (codes "1.1" ≡ codes "" ++ release_text (1 ∷ []))
 unfolding digits
-put_public-post_passed_over e = cc e
+put_release-one_number_twice e = cc e
+
+-- the suffixes of 1.post1, behind no text
+pub put_suffixes-post_as_dev : ¬ (codes ".post1.dev1" ≡ codes ""
+    ++ (pre_text None ++ post_text (Some 1) ++ dev_text None))
+unfolding digits
+put_suffixes-post_as_dev e = cc e
 
 -- a developmental release, behind no bytes
 pub push_stage-dev_above_pre_releases : ¬ (0x50 ∷ [] ≡ [] ++ stage_bytes_of None None (Some 0))

@@ -16,6 +16,6 @@ mod version;
 pub use crate::fault::VersionFault;
 pub use crate::key::{Key, KeyBytes, behind_release, public_key_bytes};
 pub use crate::parts::{Label, Phase};
-pub use crate::text::put_public;
+pub use crate::text::{put_release, put_suffixes};
 pub use crate::version::Version;
 pub use texts::TextOut;

@@ -37,7 +37,7 @@ use crate::parts::{Label, Phase};
 use crate::release::release_numbers;
 use crate::segments::{label_segments, optional_number, pre_number, written_number};
 use crate::slices::{Slices, slices_of};
-use crate::text::{put_epoch, put_label, put_part, put_pre, put_release};
+use crate::text::{put_epoch, put_label, put_release, put_suffixes};
 use std::alloc::{AllocError, Global};
 use std::marker::Model;
 use texts::{TextOut, trimmed};
@@ -305,9 +305,7 @@ impl Version {
     {
         put_epoch(text, self.epoch)?;
         put_release(text, self.release.as_slice())?;
-        put_pre(text, self.pre)?;
-        put_part(text, ".post", self.post)?;
-        put_part(text, ".dev", self.dev)?;
+        put_suffixes(text, self.pre, self.post, self.dev)?;
         put_label(text, self.label.as_slice())
     }
 

@@ -10,13 +10,14 @@ ghost use Rattle.pep_clause.specs.PackedCut.{
   numbers_at,
   post_at,
   pre_at,
+  release_word_at,
   version_at,
 };
 ghost use Rattle.texts.specs.TextOut.{Extends};
 
 use crate::packed_cut::CUT_ROOM;
 use crate::packed_cut::word::{DIGIT, NUMBER};
-use pep_version::{Phase, public_key_bytes, put_public};
+use pep_version::{Phase, public_key_bytes, put_release, put_suffixes};
 use texts::TextOut;
 
 // The pre-release of a stage.
@@ -84,32 +85,31 @@ fn short_count(numbers: [u64; 4]) -> usize
     }
 }
 
-// The numbers of the release and the suffixes of a word.
+// The numbers of the release of a packed cut's word, those that it doesn't have being 0.
+fn numbers_of(word: u128) -> [u64; 4]
+    ensures { result ≡ numbers_at (release_word_at word) }
+{
+    let unit = DIGIT as u128;
+    numbers_at(word / unit / unit / unit / unit)
+}
+
+// The suffixes of a word.
 #[derive(Clone, Copy)]
-struct Parts {
-    numbers: [u64; 4],
-    // How many of the numbers the release has.
-    count: usize,
+struct Suffixes {
     pre: Option<(Phase, u64)>,
     post: Option<u64>,
     dev: Option<u64>,
 }
 
-fn parts_at(word: u128) -> Parts
-    ensures version { public_version (take result.count result.numbers) result.pre result.post
-        result.dev ≡ version_at word }
-    ensures some { 0 < result.count }
-    ensures most { result.count ≤ 4 }
+fn suffixes_at(word: u128) -> Suffixes
+    ensures version { public_version (version_at word).release result.pre result.post result.dev
+        ≡ version_at word }
 {
     let unit = DIGIT as u128;
     let behind_post = word / unit;
     let behind_pre = behind_post / unit;
-    let behind_stage = behind_pre / unit;
-    let numbers = numbers_at(behind_stage / unit);
-    Parts {
-        numbers,
-        count: short_count(numbers),
-        pre: pre_at(digit(behind_stage), digit(behind_pre)),
+    Suffixes {
+        pre: pre_at(digit(behind_pre / unit), digit(behind_pre)),
         post: post_at(digit(behind_post)),
         dev: dev_at(digit(word)),
     }
@@ -119,9 +119,10 @@ fn parts_at(word: u128) -> Parts
 pub(crate) fn key_bytes_at<'a>(room: &'a mut [u8; CUT_ROOM], word: u128) -> &'a [u8]
     ensures { result.now ≡ key_bytes (version_at word) }
 {
-    let parts = parts_at(word);
-    let release = &parts.numbers[..parts.count];
-    match public_key_bytes(room, release, parts.pre, parts.post, parts.dev) {
+    let numbers = numbers_of(word);
+    let release = &numbers[..short_count(numbers)];
+    let suffixes = suffixes_at(word);
+    match public_key_bytes(room, release, suffixes.pre, suffixes.post, suffixes.dev) {
         Some(bytes) => bytes,
         None => unreachable!(),
     }
@@ -133,7 +134,9 @@ pub(crate) fn put_version_at<T: TextOut>(text: &mut T, word: u128) -> Result<(),
         ++ normal_text (version_at word)) }
     ensures kept { OnErr result (T.tells → Extends (T.written text.old) (T.written text.new)) }
 {
-    let parts = parts_at(word);
-    let release = &parts.numbers[..parts.count];
-    put_public(text, release, parts.pre, parts.post, parts.dev)
+    let numbers = numbers_of(word);
+    put_release(text, &numbers[..short_count(numbers)])?;
+    // They are taken from the word when they are wanted, and so don't take registers before.
+    let suffixes = suffixes_at(word);
+    put_suffixes(text, suffixes.pre, suffixes.post, suffixes.dev)
 }
