@@ -60,9 +60,9 @@ no_conflict Q e valid h few c =
 
 -- ---- versions that meet all demands
 
-beside : (d : Demand) (v : Version) → AdmitsVersion d v → AdmitsBesideTexts d v
-beside (clause (demanded t)) v h = tt
-beside d v h = h
+texts_apart : (d : Demand) (v : Version) → AdmitsVersion d v → AdmitsBesideTexts d v
+texts_apart (clause (demanded t)) v h = tt
+texts_apart d v h = h
 
 -- with the demanded texts it is the whole
 whole : (d : Demand) (v : Version) → AdmitsBesideTexts d v →
@@ -76,7 +76,7 @@ pub meets_exactly : (Q : Demand → Type 0) (e : EntryParts) (v : Version) → I
     IsVersion v → MeetsAll Q v ↔ FitsEntry e v
 meets_exactly Q e v h is = (
   λ all. (
-    (h.versions v is).1 (λ d q. beside d v (all d q)),
+    (h.versions v is).1 (λ d q. texts_apart d v (all d q)),
     λ k d below. let t = slice_index_or e.texts k d in
         (bytes_eq-Decides (normal_text v) t).0
         (all (clause (demanded t)) ((h.texts t).0 (Contains-get_or e.texts k d below))),

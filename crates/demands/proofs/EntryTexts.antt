@@ -40,6 +40,14 @@ fits_one e v t one = (
   λ both. (both.1, subst (All (λ x. normal_text v ≡ x)) (sym one) (all_one v t both.0)),
 )
 
+-- where one text is demanded, a version fits exactly if one of the ranges has it
+pub one_fits : (e : EntryParts) (t : List ℕ) → e.texts ≡ t ∷ [] →
+    HasVersionOfText e.versions t ↔ ((v : Version) × IsVersion v × FitsEntry e v)
+one_fits e t one = (
+  λ has. (has.0, has.1, (fits_one e has.0 t one).1 (has.2, has.3)),
+  λ some. let both = (fits_one e some.0 t one).0 some.2 in (some.0, some.1, both.0, both.1),
+)
+
 -- two texts are not both the normal text of one version
 pub fits_more : (e : EntryParts) (v : Version) → IsAscending e.texts → 2 ≤ length e.texts →
     FitsEntry e v → ⊥

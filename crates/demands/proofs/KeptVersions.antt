@@ -1,6 +1,6 @@
 -- The versions that are kept between two packed cuts and beside them: moved inwards, met with one set more, and as ranges.
-use Rattle.std.proofs.Common.{◌≡◌, ◌&&◌, Bool, true, false, List, [], ◌∷◌, refl, sym, ap, ◌∙◌}
-use Rattle.std.proofs.Common.{arith, length, subst}
+use Rattle.std.proofs.Common.{◌≡◌, ◌&&◌, Bool, true, false, List, refl, sym, ap, ◌∙◌}
+use Rattle.std.proofs.Common.{Option, Some, None, subst}
 use Rattle.std.proofs.Math.Bool.{and_assoc}
 use Rattle.std.specs.Ordering.{is_lt}
 use Rattle.texts.proofs.Connectives.{and_given}
@@ -13,12 +13,24 @@ use Rattle.pep_clause.proofs.JoinedPoints.{is_point-joined, is_point-range, is_p
 use Rattle.pep_clause.proofs.LeastCut.{IsNormal-all_versions, point-all_versions}
 use Rattle.pep_clause.proofs.NormalJoined.{IsNormal-joined, IsNormal-range}
 use Rattle.pep_clause.proofs.OneList.{same_points}
+use Rattle.demands.specs.declared.kept_versions.Beside.{Beside}
 use Rattle.demands.specs.Join.{IsIntersection}
+use Rattle.demands.specs.Way.KeptVersions.{AreNormalParts, beside_versions}
 use Rattle.demands.specs.Way.PartialJoins.{AreKept, AreNormal, joined_sets, kept_versions}
 use Rattle.demands.proofs.PartialJoins.{normal_sets}
 
 pub kept-normal : (l h : Cut) (s : List Range) → AreKept l h s → IsNormal (kept_versions l h s)
 kept-normal l h s k = IsNormal-joined (range l h) s (IsNormal-range l h k.low k.high) k.beside
+
+-- both are so, where each part is
+pub kept-parts : (l h : Cut) (b : Option Beside) → IsCut l → IsCut h → AreNormalParts b →
+    AreKept l h (beside_versions b)
+kept-parts l h None f g n = record { low = f; high = g; beside = IsNormal-all_versions }
+kept-parts l h (Some b) f g n = record {
+  low = f;
+  high = g;
+  beside = IsNormal-joined b.left_out (joined_sets b.sets.items) n.0 (normal_sets b.sets.items n.1);
+}
 
 pub last_two : (a b j : Bool) → ((a && b) && j) ≡ ((a && j) && b)
 last_two true true true = refl
@@ -51,10 +63,10 @@ narrowed-versions l h m n x y s k f g e d = record {
 }
 
 -- where what is beside them is met with another
-pub met-versions : (l h : Cut) (s new t : List Range) → AreKept l h s → IsNormal new →
-    IsIntersection s t new → IsIntersection (kept_versions l h s) t (kept_versions l h new)
-met-versions l h s new t k normal i = record {
-  normal = kept-normal l h new (record { low = k.low; high = k.high; beside = normal });
+pub met-versions : (l h : Cut) (s new t : List Range) → AreKept l h s → IsIntersection s t new →
+    IsIntersection (kept_versions l h s) t (kept_versions l h new)
+met-versions l h s new t k i = record {
+  normal = kept-normal l h new (record { low = k.low; high = k.high; beside = i.normal });
   points = λ cut is. is_point-joined (range l h) new cut
       ∙ ap (λ b. is_point (range l h) cut && b) (i.points cut is)
       ∙ sym (and_assoc (is_point (range l h) cut) (is_point s cut) (is_point t cut))
@@ -91,6 +103,14 @@ sets-more left t sets new n are i = record {
       ∙ ap (λ b. b && is_point t cut) (sym (is_point-joined left (joined_sets sets) cut));
 }
 
+-- where what is kept beside the packed cuts of a package is met with another
+pub met-beside : (l h : Cut) (b : Beside) (whole t new : List Range) → IsCut l → IsCut h →
+    AreNormalParts (Some b) → kept_versions l h (beside_versions (Some b)) ≡ whole →
+    IsIntersection (beside_versions (Some b)) t new → IsIntersection whole t (kept_versions l h new)
+met-beside l h b whole t new f g n e i =
+    subst (λ (w : List Range). IsIntersection w t (kept_versions l h new)) e
+    (met-versions l h (beside_versions (Some b)) new t (kept-parts l h (Some b) f g n) i)
+
 -- ---- as ranges
 
 -- where nothing is beside the packed cuts
@@ -101,19 +121,6 @@ kept-bare l h f g =
     and_given (is_point (range l h) cut) (is_point all_versions cut)
     (point-all_versions (range l h) cut)
     ∙ sym (is_point-joined (range l h) all_versions cut))
-
--- where there are no sets
-pub no_sets : (sets : List (List Range)) → length sets ≡ 0 → joined_sets sets ≡ all_versions
-no_sets [] e = refl
-no_sets (s ∷ rest) e = absurd (omega (arith, e))
-
-pub kept-left : (l h : Cut) (left ranges : List Range) → IsNormal left →
-    ranges ≡ joined (range l h) left → ranges ≡ joined (range l h) (joined left all_versions)
-kept-left l h left ranges n e =
-    e ∙ ap (joined (range l h)) (same_points left (joined left all_versions) n
-    (IsNormal-joined left all_versions n IsNormal-all_versions)
-    (λ cut is. and_given (is_point left cut) (is_point all_versions cut) (point-all_versions left cut)
-    ∙ sym (is_point-joined left all_versions cut)))
 
 -- where nothing is left out between the least cut and the end
 in_all : (a s : Bool) → (s ≡ true → a ≡ true) → s ≡ (a && (a && s))
@@ -142,14 +149,17 @@ turned false true false = refl
 turned false false l = refl
 
 pub kept-both : (l h : Cut) (left sets between both : List Range) → IsCut l → IsCut h → IsNormal left →
-    IsNormal sets → between ≡ joined (range l h) left → IsIntersection sets between both →
+    IsNormal sets → between ≡ joined (range l h) left → both ≡ joined sets between →
     both ≡ joined (range l h) (joined left sets)
-kept-both l h left sets between both f g n m e i =
-    same_points both (joined (range l h) (joined left sets)) i.normal
-    (IsNormal-joined (range l h) (joined left sets) (IsNormal-range l h f g) (IsNormal-joined left sets n m))
-    (λ cut is. i.points cut is
-    ∙ ap (λ x. is_point sets cut && is_point x cut) e
-    ∙ ap (λ b. is_point sets cut && b) (is_point-joined (range l h) left cut)
-    ∙ turned (is_point sets cut) (is_point (range l h) cut) (is_point left cut)
-    ∙ ap (λ b. is_point (range l h) cut && b) (sym (is_point-joined left sets cut))
-    ∙ sym (is_point-joined (range l h) (joined left sets) cut))
+kept-both l h left sets between both f g n m e d =
+    let r = range l h in
+    let normal : IsNormal r = IsNormal-range l h f g in
+    d ∙ ap (joined sets) e
+    ∙ same_points (joined sets (joined r left)) (joined r (joined left sets))
+    (IsNormal-joined sets (joined r left) m (IsNormal-joined r left normal n))
+    (IsNormal-joined r (joined left sets) normal (IsNormal-joined left sets n m))
+    (λ cut is. is_point-joined sets (joined r left) cut
+    ∙ ap (λ b. is_point sets cut && b) (is_point-joined r left cut)
+    ∙ turned (is_point sets cut) (is_point r cut) (is_point left cut)
+    ∙ ap (λ b. is_point r cut && b) (sym (is_point-joined left sets cut))
+    ∙ sym (is_point-joined r (joined left sets) cut))

@@ -6,8 +6,8 @@ use Rattle.std.proofs.lemmas.List.Elements.{All-nil, All-push}
 use Rattle.std.proofs.Math.Bool.{and_assoc}
 use Rattle.std.proofs.Common.{append_assoc}
 use Rattle.std.proofs.lemmas.List.{map_push}
-use Rattle.texts.proofs.Connectives.{and_given, and_given_second}
-use Rattle.pep_clause.specs.Cut.{Cut, end, least}
+use Rattle.texts.proofs.Connectives.{and_given}
+use Rattle.pep_clause.specs.Cut.{end, least}
 use Rattle.pep_clause.specs.Way.Joined.{joined}
 use Rattle.pep_clause.specs.VersionSet.{IsNormal, Range, all_versions, is_point}
 use Rattle.pep_clause.proofs.JoinedPoints.{is_point-joined}
@@ -21,18 +21,8 @@ use Rattle.demands.specs.Way.Others.{OtherParts, entry_with, no_others}
 use Rattle.demands.specs.Way.PartialJoins.{AreNormal, joined_sets, kept_versions}
 use Rattle.demands.specs.Table.{IsValidEntry}
 use Rattle.demands.proofs.KeptVersions.{kept-normal, last_two}
-use Rattle.demands.proofs.PartialJoins.{normal_behind, normal_sets, points_behind}
+use Rattle.demands.proofs.PartialJoins.{normal_behind, normal_front, normal_sets, points_behind, points_both}
 use Rattle.demands.proofs.ValidEntries.{union_holds}
-
-points_both : (xs ys : List (List Range)) (c : Cut) →
-    is_point (joined_sets (xs ++ ys)) c ≡ (is_point (joined_sets xs) c && is_point (joined_sets ys) c)
-points_both [] ys c =
-    and_given_second (is_point all_versions c) (is_point (joined_sets ys) c) (point-all_versions (joined_sets ys) c)
-points_both (x ∷ xs) ys c =
-    is_point-joined x (joined_sets (xs ++ ys)) c
-    ∙ ap (λ b. is_point x c && b) (points_both xs ys c)
-    ∙ sym (and_assoc (is_point x c) (is_point (joined_sets xs) c) (is_point (joined_sets ys) c))
-    ∙ ap (λ b. b && is_point (joined_sets ys) c) (sym (is_point-joined x (joined_sets xs) c))
 
 normal_more : (xs ys : List (List Range)) (t : List Range) → AreNormal (xs ++ ys) → IsNormal t →
     AreNormal ((xs ++ t ∷ []) ++ ys)
@@ -82,10 +72,6 @@ set-met outs sets new t e h n = record {
 
 -- ---- fewer sets, those in front
 
-normal_front : (xs ys : List (List Range)) → AreNormal (xs ++ ys) → AreNormal xs
-normal_front [] ys h = tt
-normal_front (x ∷ xs) ys h = (h.0, normal_front xs ys h.1)
-
 pub fewer_sets : (b : PackedRange) (outs : List PackedRange) (sets left moved : List (List Range)) → sets ≡ left ++ moved →
     AreLineSets b outs sets → AreLineSets b outs left
 fewer_sets b outs sets left moved e h =
@@ -127,11 +113,11 @@ pub meets_last_set : (a b d t : List Range) (left more : List (List Range)) → 
     IsIntersection b (joined_sets left) d → more ≡ left ++ t ∷ [] → IsIntersection a (joined_sets more) d
 meets_last_set a b d t left more h g e = record {
   normal = g.normal;
-  points = λ cut is. let others = is_point (joined_sets left) cut in
+  points = λ cut is. let rest = is_point (joined_sets left) cut in
       g.points cut is
-      ∙ (λ i. h.points cut is i && others)
-      ∙ last_two (is_point a cut) (is_point t cut) others
-      ∙ and_assoc (is_point a cut) others (is_point t cut)
+      ∙ (λ i. h.points cut is i && rest)
+      ∙ last_two (is_point a cut) (is_point t cut) rest
+      ∙ and_assoc (is_point a cut) rest (is_point t cut)
       ∙ ap (λ x. is_point a cut && x)
       (sym (ap (λ l. is_point (joined_sets l) cut) e ∙ points_behind left t cut));
 }

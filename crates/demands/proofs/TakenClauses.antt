@@ -8,9 +8,7 @@ use Rattle.std.specs.List.{All, AllByRecursion, list_all}
 use Rattle.std.specs.Borrow.{Bor}
 use Rattle.std.specs.Prelude.{IsTrue, false, is_some, option_map}
 use Rattle.texts.proofs.Connectives.{and-true, and_given, and_given_second}
-use Rattle.specifiers.specs.Clause.{Clause, demanded_text, is_demanded_text, demanded, compatible}
-use Rattle.specifiers.specs.Clause.{matching, matching_prefix, excluding, excluding_prefix, at_most}
-use Rattle.specifiers.specs.Clause.{at_least, less_than, greater_than}
+use Rattle.specifiers.specs.Clause.{Clause, demanded_text, is_demanded_text, demanded}
 use Rattle.pep_clause.specs.OperatorTable.{set_of}
 use Rattle.specifiers.specs.Valid.{IsValidClause}
 use Rattle.pep_clause.specs.VersionSet.{IsNormal, Range, all_versions, is_point}
@@ -38,15 +36,7 @@ meets_one a b s c e i = record {
 
 set_of_text : (c : Clause) (t : List ℕ) → demanded_text c ≡ Some t → set_of c ≡ all_versions
 set_of_text (demanded u) t e = refl
-set_of_text (compatible v) t e = cc e
-set_of_text (matching v) t e = cc e
-set_of_text (matching_prefix p) t e = cc e
-set_of_text (excluding v) t e = cc e
-set_of_text (excluding_prefix p) t e = cc e
-set_of_text (at_most v) t e = cc e
-set_of_text (at_least v) t e = cc e
-set_of_text (less_than v) t e = cc e
-set_of_text (greater_than v) t e = cc e
+set_of_text c t e = cc e
 
 -- a clause that demands a text leaves the ranges as they are
 pub meets_text : (a : List Range) (c : Clause) (t : List ℕ) → IsNormal a →
@@ -125,15 +115,7 @@ valid_one : (c : Clause) (t : List ℕ) → IsValidClause c → demanded_text c 
     IsTrue (is_demanded_text t)
 valid_one (demanded u) t is e = let same : u ≡ t = cc e in
     subst (λ x. IsTrue (is_demanded_text x)) same is
-valid_one (compatible v) t is e = cc e
-valid_one (matching v) t is e = cc e
-valid_one (matching_prefix p) t is e = cc e
-valid_one (excluding v) t is e = cc e
-valid_one (excluding_prefix p) t is e = cc e
-valid_one (at_most v) t is e = cc e
-valid_one (at_least v) t is e = cc e
-valid_one (less_than v) t is e = cc e
-valid_one (greater_than v) t is e = cc e
+valid_one c t is e = cc e
 
 pub valid_texts : (cs : List Clause) → AllByRecursion IsValidClause cs →
     All (λ t. IsTrue (is_demanded_text t)) (texts_of cs)

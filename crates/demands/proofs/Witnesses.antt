@@ -93,8 +93,8 @@ two_texts : (t : List ℕ) → t ≡ codes "1" → t ≡ codes "10" → ⊥
 two_texts t e f = cc (sym e ∙ f)
 
 -- two demanded texts
-pub text_verdict-open_for_two_texts : ¬ IsEntryVerdict with_texts Possible
-text_verdict-open_for_two_texts h = elim h.2 [
+pub verdict_of-open_for_two_texts : ¬ IsEntryVerdict with_texts Possible
+verdict_of-open_for_two_texts h = elim h.2 [
   | inl e ↦ cc e
   | inr f ↦ two_texts _ (f.2.1 0 [] (lit< tt)) (f.2.1 1 [] (lit< tt))
 ]

@@ -1,6 +1,8 @@
 -- Definitions that say how the code goes. No promise rests on them.
 pub mod Collected
 pub mod Finished
+pub mod Judged
+pub mod KeptVersions
 pub mod LineDemands
 pub mod LineSets
 pub mod Others

@@ -131,13 +131,13 @@ impl Collected {
         Ok(())
     }
 
-    /// Takes the texts that others are. Where that fails, what is collected is of no more use.
-    pub(crate) fn join(&mut self, others: &Collected) -> Result<(), AllocError>
-        ensures joined { OnOk result (IsUnion self.old others.now self.new) }
+    /// Takes the texts of the other one. Where that fails, what is collected is of no more use.
+    pub(crate) fn join(&mut self, other: &Collected) -> Result<(), AllocError>
+        ensures joined { OnOk result (IsUnion self.old other.now self.new) }
     {
         self.in_order();
-        for index in 0..others.texts.len() {
-            self.put(others.texts.text(index))?;
+        for index in 0..other.texts.len() {
+            self.put(other.texts.text(index))?;
         }
         Ok(())
     }

@@ -1,23 +1,46 @@
 //! The versions that are demanded of a package so far.
 
-ghost use Rattle.std.specs.Prelude.{◌≡◌, ◌++◌, ◌∷◌, [], All, IfOk, IfSome, List, OnOk, map, option_map};
+ghost use Rattle.std.specs.Prelude.{
+  ◌≡◌,
+  ◌++◌,
+  ◌∷◌,
+  [],
+  All,
+  IfOk,
+  IsTrue,
+  List,
+  OnOk,
+  Some,
+  map,
+  option_map,
+};
 ghost use Rattle.specifiers.specs.Valid.{IsValidClause};
-ghost use Rattle.pep_clause.specs.Cut.{IsCut};
+ghost use Rattle.pep_clause.specs.Cut.{IsCut, end, least};
 ghost use Rattle.pep_clause.specs.OperatorTable.{outside, range, set_of};
-ghost use Rattle.pep_clause.specs.VersionSet.{Range, all_versions};
+ghost use Rattle.pep_clause.specs.Way.Joined.{joined};
+ghost use Rattle.pep_clause.specs.VersionSet.{IsNormal, Range, all_versions};
 ghost use Rattle.pep_require.specs.View.{target_parts};
 ghost use Rattle.demands.specs.Gathering.{MeetsClauses, target_clauses};
 ghost use Rattle.demands.specs.Join.{IsIntersection};
+ghost use Rattle.demands.specs.Way.KeptVersions.{AreNormalParts, beside_versions};
 ghost use Rattle.demands.specs.Way.LineSets.{left_by};
-ghost use Rattle.demands.specs.Way.PartialJoins.{beside_versions, joined_sets};
+ghost use Rattle.demands.specs.Way.PartialJoins.{joined_sets};
 
-use crate::beside::{Beside, set_between};
 use crate::line_demands::LineDemands;
-use packed_cuts::{PackedRange, PackedSet};
-use pep_clause::{Clause, PackedCut, VersionSet};
+use crate::partial_joins::{joined_of, joined_with, narrow};
+use packed_cuts::{LeftOut, PackedRange, PackedSet};
+use pep_clause::{Clause, Cut, PackedCut, VersionSet};
 use pep_require::Target;
 use std::alloc::{AllocError, Global};
 use std::marker::Model;
+
+// What is kept beside two packed cuts: the versions that are not left out between two such cuts at a time, and that are
+// in each of the sets.
+#[derive(Drop)]
+struct Beside {
+    left_out: LeftOut,
+    sets: Vec<VersionSet>,
+}
 
 /// The versions between two packed cuts, which move inwards clause by clause, that are kept beside them too: what `!=`
 /// leaves over, and the sets of clauses without packed cuts and of tables. Clauses see the ranges of all this.
@@ -31,26 +54,69 @@ pub(crate) struct KeptVersions {
 
 impl Model for KeptVersions {
     ghost use Rattle.std.specs.Prelude.{List, option_map};
+    ghost use Rattle.pep_clause.specs.Cut.{IsCut};
     ghost use Rattle.pep_clause.specs.VersionSet.{Range};
-    ghost use Rattle.demands.specs.Way.PartialJoins.{AreKept, beside_versions, kept_versions};
+    ghost use Rattle.demands.specs.Way.KeptVersions.{AreNormalParts, beside_versions};
+    ghost use Rattle.demands.specs.Way.PartialJoins.{kept_versions};
 
     ghost Value = { List Range };
 
     ghost view = { λ v. kept_versions v.low v.high
         (beside_versions (option_map (λ b. b.value) v.beside)) };
 
-    ghost invariant = { λ v. AreKept v.low v.high
-        (beside_versions (option_map (λ b. b.value) v.beside)) };
+    ghost invariant = { λ v. IsCut v.low × IsCut v.high
+        × AreNormalParts (option_map (λ b. b.value) v.beside) };
 }
 
 // What is kept beside two packed cuts: all versions, where there was nothing.
 fn beside_or_all(alloc: Global, beside: Option<Box<Beside>>) -> Result<Box<Beside>, AllocError>
-    ensures { IfOk result (λ b. b.value ≡ beside_versions (option_map (λ b. b.value) beside)) }
+    requires { AreNormalParts (option_map (λ b. b.value) beside) }
+    ensures same { IfOk result (λ b. beside_versions (Some b.value)
+        ≡ beside_versions (option_map (λ b. b.value) beside)) }
+    ensures normal { IfOk result (λ b. AreNormalParts (Some b.value)) }
 {
-    match beside {
-        Some(kept) => Ok(kept),
-        None => Ok(Box::new(alloc, Beside::all(alloc))?),
+    if let Some(kept) = beside {
+        return Ok(kept);
     }
+    let all = Beside {
+        left_out: LeftOut::none(alloc),
+        sets: Vec::new(alloc),
+    };
+    Ok(Box::new(alloc, all)?)
+}
+
+// The set of the versions between two packed cuts.
+fn set_between(alloc: Global, bounds: PackedRange) -> VersionSet
+    ensures { result ≡ range bounds.low bounds.high }
+{
+    VersionSet::between(
+        alloc,
+        Cut::of_packed(bounds.low),
+        Cut::of_packed(bounds.high),
+    )
+}
+
+// The versions between two packed cuts that are left over.
+fn left_between(
+    alloc: Global,
+    left_out: LeftOut,
+    bounds: PackedRange,
+) -> Result<VersionSet, AllocError>
+    ensures { IfOk result (λ s. s ≡ joined (range bounds.low bounds.high) left_out) }
+{
+    if left_out.is_none() {
+        // Its clauses tell that both cuts are in their one spelling.
+        let _ = bounds.low.cmp(&bounds.high);
+        return Ok(set_between(alloc, bounds));
+    }
+    left_out.between(alloc, bounds).map_err(|_| AllocError)
+}
+
+// Whether the two packed cuts bound nothing.
+fn is_unbounded(bounds: &PackedRange) -> bool
+    ensures { IsTrue result → (bounds.now.low ≡ least) × (bounds.now.high ≡ end) }
+{
+    bounds.low == PackedCut::least() && bounds.high == PackedCut::end()
 }
 
 impl KeptVersions {
@@ -63,6 +129,13 @@ impl KeptVersions {
             high: PackedCut::end(),
             beside: None,
         }
+    }
+
+    // Does nothing. Its clause tells that the ranges are a normal list.
+    fn in_order(&self)
+        ensures { IsNormal self.now }
+    {
+        let _ = &self.low;
     }
 
     // Keeps the versions between the bounds.
@@ -95,8 +168,7 @@ impl KeptVersions {
         ensures { OnOk result
             (IsIntersection self.old (joined_sets (map left_by left_out.now)) self.new) }
     {
-        // Where a field is read, the invariant is at hand.
-        let _ = &self.low;
+        self.in_order();
         for bounds in left_out {
             self.leave_out(alloc, *bounds)?;
         }
@@ -109,8 +181,7 @@ impl KeptVersions {
         ensures ok { OnOk result (IsIntersection self.old (joined_sets sets.old.items) self.new) }
         ensures fewer { (moved : List (List Range)) × (sets.old.items ≡ sets.new.items ++ moved) }
     {
-        // Where a field is read, the invariant is at hand.
-        let _ = &self.low;
+        self.in_order();
         while let Some(versions) = sets.pop() {
             self.meet(alloc, versions)?;
         }
@@ -118,25 +189,25 @@ impl KeptVersions {
     }
 
     /// Keeps the versions that are in the set too, which is used up.
-    pub(crate) fn meet(&mut self, alloc: Global, others: VersionSet) -> Result<(), AllocError>
-        ensures { OnOk result (IsIntersection self.old others self.new) }
+    pub(crate) fn meet(&mut self, alloc: Global, other: VersionSet) -> Result<(), AllocError>
+        ensures { OnOk result (IsIntersection self.old other self.new) }
     {
-        match PackedSet::of(&others) {
+        match PackedSet::of(&other) {
             Some(set) if set.outside => self.leave_out(alloc, set.bounds),
             Some(set) => {
                 self.narrow_to(set.bounds);
                 Ok(())
             }
-            None => self.meet_beside(alloc, others),
+            None => self.meet_beside(alloc, other),
         }
     }
 
     // The same of any set, which is kept beside the packed cuts.
-    fn meet_beside(&mut self, alloc: Global, others: VersionSet) -> Result<(), AllocError>
-        ensures { OnOk result (IsIntersection self.old others self.new) }
+    fn meet_beside(&mut self, alloc: Global, other: VersionSet) -> Result<(), AllocError>
+        ensures { OnOk result (IsIntersection self.old other self.new) }
     {
         let mut beside = beside_or_all(alloc, self.beside.take())?;
-        beside.meet(alloc, others)?;
+        narrow(alloc, &mut beside.sets, other)?;
         self.beside = Some(beside);
         Ok(())
     }
@@ -146,7 +217,9 @@ impl KeptVersions {
         ensures { OnOk result (IsIntersection self.old (outside bounds.low bounds.high) self.new) }
     {
         let mut beside = beside_or_all(alloc, self.beside.take())?;
-        beside.leave_out(alloc, bounds)?;
+        let Ok(()) = beside.left_out.leave_out(alloc, bounds) else {
+            return Err(AllocError);
+        };
         self.beside = Some(beside);
         Ok(())
     }
@@ -167,8 +240,7 @@ impl KeptVersions {
         ensures ok { OnOk result (MeetsClauses self.old clauses.now self.new) }
         ensures valid { OnOk result (All IsValidClause clauses.now) }
     {
-        // Where a field is read, the invariant is at hand.
-        let _ = &self.low;
+        self.in_order();
         for clause in clauses {
             self.meet_clause(alloc, clause)?;
         }
@@ -182,8 +254,7 @@ impl KeptVersions {
         ensures valid { OnOk result
             (All IsValidClause (target_clauses (target_parts target.now))) }
     {
-        // Where a field is read, the invariant is at hand.
-        let _ = &self.low;
+        self.in_order();
         match target {
             Target::Bounds(clauses) => self.meet_clauses(alloc, clauses.as_slice()),
             Target::Direct(_) => Ok(()),
@@ -196,9 +267,14 @@ impl KeptVersions {
     {
         let KeptVersions { low, high, beside } = self;
         let bounds = PackedRange { low, high };
-        match beside {
-            Some(beside) => Box::into_inner(beside).between(alloc, bounds),
-            None => Ok(set_between(alloc, bounds)),
+        let Some(beside) = beside else {
+            return Ok(set_between(alloc, bounds));
+        };
+        let Beside { left_out, sets } = Box::into_inner(beside);
+        if left_out.is_none() && is_unbounded(&bounds) {
+            return joined_of(alloc, sets);
         }
+        let left = left_between(alloc, left_out, bounds)?;
+        joined_with(alloc, left, sets)
     }
 }

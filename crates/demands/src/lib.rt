@@ -2,11 +2,9 @@
 //! requirements, and what it says of versions.
 #![tactic(auto)]
 
-mod beside;
 mod collected;
 mod entry;
 mod fault;
-mod finished;
 mod join;
 mod kept_versions;
 mod line_demands;
@@ -19,10 +17,9 @@ mod verdict;
 
 pub use crate::entry::Entry;
 pub use crate::fault::TableFault;
-pub use crate::finished::Finished;
 pub use crate::join::{Join, join_all};
 pub use crate::line_demands::LineDemands;
 pub use crate::others::OtherTexts;
-pub use crate::package_demands::PackageDemands;
+pub use crate::package_demands::{Finished, PackageDemands};
 pub use crate::sorted::{Kept, Sorted};
 pub use crate::verdict::{Answer, Verdict};

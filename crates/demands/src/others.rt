@@ -5,6 +5,7 @@ ghost use Rattle.pep_require.specs.Requirement.{IsAscending};
 ghost use Rattle.pep_require.specs.View.{requirement_parts, target_parts};
 ghost use Rattle.demands.specs.Gathering.{bare_entry, target_clauses, target_urls, texts_of};
 ghost use Rattle.demands.specs.Join.{IsUnion};
+ghost use Rattle.demands.specs.Way.Judged.{TellsTexts};
 ghost use Rattle.demands.specs.Way.Others.{
   JoinsOthers,
   TakesOthers,
@@ -17,6 +18,7 @@ ghost use Rattle.demands.specs.Table.{IsValidEntry, is_url_text};
 use crate::collected::Collected;
 use crate::entry::Entry;
 use crate::sorted::Sorted;
+use crate::verdict::TextDemand;
 use pep_clause::{Clause, VersionSet};
 use pep_require::{Requirement, Target, UrlText};
 use std::alloc::{AllocError, Global};
@@ -162,15 +164,15 @@ impl Others {
         self.texts.put(text)
     }
 
-    /// Takes what others are.
-    pub(crate) fn join_others(&mut self, others: &Others) -> Result<(), AllocError>
-        ensures extras { OnOk result (IsUnion self.old.extras others.now.extras self.new.extras) }
-        ensures urls { OnOk result (IsUnion self.old.urls others.now.urls self.new.urls) }
-        ensures texts { OnOk result (IsUnion self.old.texts others.now.texts self.new.texts) }
+    /// Takes what the other ones are.
+    pub(crate) fn join_others(&mut self, other: &Others) -> Result<(), AllocError>
+        ensures extras { OnOk result (IsUnion self.old.extras other.now.extras self.new.extras) }
+        ensures urls { OnOk result (IsUnion self.old.urls other.now.urls self.new.urls) }
+        ensures texts { OnOk result (IsUnion self.old.texts other.now.texts self.new.texts) }
     {
-        self.extras.join(&others.extras)?;
-        self.urls.join(&others.urls)?;
-        self.texts.join(&others.texts)
+        self.extras.join(&other.extras)?;
+        self.urls.join(&other.urls)?;
+        self.texts.join(&other.texts)
     }
 
     /// Does nothing. Its clause tells that nothing more is demanded by an entry without extras, URLs and texts.
@@ -278,6 +280,17 @@ impl OtherTexts {
         ensures { result.now ≡ self.now.texts }
     {
         &self.texts
+    }
+
+    /// The demanded texts, as far as a verdict depends on them.
+    pub(crate) fn text_demand(&self) -> TextDemand<'_>
+        ensures { TellsTexts result self.now.texts }
+    {
+        match self.texts.len() {
+            0 => TextDemand::NoText,
+            1 => TextDemand::OneText(self.texts.text(0)),
+            _ => TextDemand::MoreTexts,
+        }
     }
 
     /// The entry of these and of the versions.

@@ -1,20 +1,22 @@
-//! What is demanded so far of one package.
+//! What is demanded of one package: so far, and in all.
 
-ghost use Rattle.std.specs.Prelude.{◌≡◌, IfErr, IfOk, OnOk, option_map};
+ghost use Rattle.std.specs.Prelude.{◌≡◌, [], IfErr, IfOk, IsOk, OnOk, length, option_map};
 ghost use Rattle.pep_require.specs.View.{requirement_parts};
 ghost use Rattle.demands.specs.Gathering.{HasValidParts, TakesEntry, bare_entry};
 ghost use Rattle.demands.specs.Join.{JoinsEntries};
 ghost use Rattle.demands.specs.Way.Others.{JoinsOthers, TakesOthers, kept_others};
-ghost use Rattle.demands.specs.Way.Finished.{ranges_entry};
-ghost use Rattle.demands.specs.Table.{IsValidEntry};
+ghost use Rattle.demands.specs.Way.Judged.{TellsTexts};
+ghost use Rattle.demands.specs.Way.Finished.{other_parts, ranges_entry};
+ghost use Rattle.demands.specs.Table.{EntryDemands, IsValidEntry};
+ghost use Rattle.demands.specs.Verdict.{IsVerdict};
 
 use crate::entry::Entry;
 use crate::fault::TableFault;
-use crate::finished::Finished;
 use crate::kept_versions::KeptVersions;
 use crate::line_demands::LineDemands;
 use crate::others::{OtherTexts, Others, demands_others};
 use crate::sorted::Sorted;
+use crate::verdict::{TextDemand, Verdict, verdict_of};
 use pep_clause::VersionSet;
 use pep_require::Requirement;
 use std::alloc::{AllocError, Global};
@@ -202,7 +204,7 @@ impl PackageDemands {
         let PackageDemands { versions, others } = self;
         let versions = versions.finish(alloc)?;
         let others = finished_others(alloc, others)?;
-        Ok(Finished::of(others, versions))
+        Ok(Finished { others, versions })
     }
 
     /// The entry of what is gathered, which has to be one: what `take` and `join` made of `bare` is,
@@ -212,11 +214,73 @@ impl PackageDemands {
         ensures same { IfOk result (λ e. e ≡ self) }
         ensures faults { IfErr result (λ e. e ≡ TableFault.NoMemory) }
     {
-        let PackageDemands { versions, others } = self;
-        let versions = versions.finish(alloc)?;
-        match finished_others(alloc, others)? {
+        let Finished { others, versions } = self.finish(alloc)?;
+        match others {
             Some(others) => Ok(others.entry(alloc, versions)?),
             None => Ok(entry_of(alloc, versions)),
         }
+    }
+}
+
+/// What is demanded of one package in all, as it is printed: no list of an entry is made for it. Clauses see the entry.
+#[derive(Drop)]
+pub struct Finished {
+    // No extras, URLs and texts, where it is `None`.
+    others: Option<Box<OtherTexts>>,
+    versions: VersionSet,
+}
+
+impl Model for Finished {
+    ghost use Rattle.std.specs.Prelude.{option_map};
+    ghost use Rattle.demands.specs.Way.Others.{entry_with, kept_others};
+    ghost use Rattle.demands.specs.Table.{EntryParts, IsValidEntry};
+
+    ghost Value = { EntryParts };
+
+    ghost view = { λ f. entry_with (kept_others (option_map (λ b. b.value) f.others)) f.versions };
+
+    ghost invariant = { λ f. IsValidEntry
+        (entry_with (kept_others (option_map (λ b. b.value) f.others)) f.versions) };
+}
+
+impl Finished {
+    /// What is demanded besides versions. There is none of it where it is `None`.
+    pub fn others(&self) -> Option<&OtherTexts>
+        ensures { kept_others (option_map (λ o. o.now) result) ≡ other_parts self.now }
+    {
+        match &self.others {
+            Some(others) => Some(&**others),
+            None => None,
+        }
+    }
+
+    /// The versions.
+    pub fn versions(&self) -> &VersionSet
+        ensures { result.now ≡ self.now.versions }
+    {
+        &self.versions
+    }
+
+    // How many URLs are demanded, and the demanded texts, as far as a verdict depends on them.
+    fn demanded(&self) -> (usize, TextDemand<'_>)
+        ensures urls { result.0 ≡ length self.now.urls }
+        ensures texts { TellsTexts result.1 self.now.texts }
+        ensures valid { IsValidEntry self.now }
+    {
+        match &self.others {
+            Some(others) => (others.urls().len(), others.text_demand()),
+            None => (0, TextDemand::NoText),
+        }
+    }
+
+    /// Whether a version can meet what is demanded: as [`Entry::verdict`](crate::Entry::verdict). The only fault is
+    /// `NoMemory`, 42, and without demanded texts there is none.
+    pub fn verdict(&self, alloc: Global) -> Result<Verdict, TableFault>
+        ensures demands { IfOk result (IsVerdict (EntryDemands self.now)) }
+        ensures faults { IfErr result (λ e. e ≡ TableFault.NoMemory) }
+        ensures plain { self.now.texts ≡ [] → IsOk result }
+    {
+        let (urls, texts) = self.demanded();
+        Ok(verdict_of(alloc, urls, texts, &self.versions)?)
     }
 }

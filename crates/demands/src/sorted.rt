@@ -207,9 +207,9 @@ impl<T: Kept> Join for Sorted<T> {
 
     fn joined(&self, alloc: Global, other: &Self) -> Result<Self, TableFault> {
         // Their clauses tell that the texts are in order.
-        let (_, others) = (self.items(), other.items());
+        let (_, more) = (self.items(), other.items());
         let mut items = self.copied(alloc)?.items;
-        push_copies(alloc, &mut items, others)?;
+        push_copies(alloc, &mut items, more)?;
         put_in_order(&mut items);
         Ok(Sorted::of_ascending(items))
     }

@@ -2,9 +2,6 @@
 
 ghost use Rattle.std.specs.Prelude.{
   ◌≡◌,
-  ◌≢◌,
-  ◌<◌,
-  ◌≤◌,
   ◌↔◌,
   ◌⊎◌,
   [],
@@ -20,7 +17,7 @@ ghost use Rattle.pep_version.specs.Text.{normal_text};
 ghost use Rattle.pep_version.specs.Version.{is_pre_release};
 ghost use Rattle.pep_clause.specs.VersionSet.{In, is_in};
 ghost use Rattle.demands.specs.Answer.{IsAnswer};
-ghost use Rattle.demands.specs.Table.{EntryDemands, IsValidEntry};
+ghost use Rattle.demands.specs.Table.{EntryDemands, EntryParts, IsValidEntry};
 ghost use Rattle.demands.specs.Verdict.{
   FitsEntry,
   HasVersionOfText,
@@ -28,6 +25,7 @@ ghost use Rattle.demands.specs.Verdict.{
   IsVerdict,
   verdict_word,
 };
+ghost use Rattle.demands.specs.Way.Judged.{IsJudgedBy, TellsTexts};
 
 use crate::entry::Entry;
 use crate::fault::TableFault;
@@ -70,12 +68,42 @@ pub enum Answer {
     Conflict,
 }
 
-/// Whether a version in the set has this as its normal text.
-pub(crate) fn has_version(
+/// The texts that `===` demands of a package, as far as a verdict depends on them.
+#[derive(Clone, Copy)]
+pub(crate) enum TextDemand<'a> {
+    NoText,
+    OneText(&'a str),
+    // No version has two normal texts.
+    MoreTexts,
+}
+
+/// The verdict on an entry of which so many URLs, these texts and these versions are demanded.
+pub(crate) fn verdict_of(
     alloc: Global,
-    text: &str,
+    urls: usize,
+    texts: TextDemand<'_>,
     versions: &VersionSet,
-) -> Result<bool, AllocError>
+) -> Result<Verdict, AllocError>
+    ensures verdict { (e : EntryParts) → IsJudgedBy urls texts.entry versions.now e
+        → IfOk result (λ w. IsEntryVerdict e w × IsVerdict (EntryDemands e) w) }
+    ensures plain { (e : EntryParts) → IsJudgedBy urls texts.entry versions.now e → e.texts ≡ []
+        → IsOk result }
+{
+    if urls > 1 {
+        return Ok(Verdict::Conflict);
+    }
+    if versions.is_empty() {
+        return Ok(Verdict::Nothing);
+    }
+    match texts {
+        TextDemand::NoText => Ok(Verdict::Possible),
+        TextDemand::OneText(text) if has_version(alloc, text, versions)? => Ok(Verdict::Possible),
+        _ => Ok(Verdict::Nothing),
+    }
+}
+
+// Whether a version in the set has this as its normal text.
+fn has_version(alloc: Global, text: &str, versions: &VersionSet) -> Result<bool, AllocError>
     ensures { IfOk result (λ b. IsTrue b ↔ HasVersionOfText versions.now text.now) }
 {
     match Version::read(alloc, text) {
@@ -123,31 +151,23 @@ fn is_wanted(version: &Version, want_pre: bool) -> bool
 }
 
 impl Entry {
-    // Whether two different URLs are demanded.
-    fn has_conflict(&self) -> bool
-        ensures conflict { IsTrue result ↔ (2 ≤ length self.now.urls) }
+    // How many URLs are demanded.
+    fn url_count(&self) -> usize
+        ensures count { result ≡ length self.now.urls }
         ensures valid { IsValidEntry self.now }
     {
-        self.urls().items().len() > 1
+        self.urls().items().len()
     }
 
-    // The verdict by the demanded texts, where there is no conflict and some version in the ranges.
-    fn text_verdict(&self, alloc: Global) -> Result<Verdict, AllocError>
-        requires few { length self.now.urls < 2 }
-        requires some { self.now.versions ≢ [] }
-        ensures entry { IfOk result (IsEntryVerdict self.now) }
-        ensures plain { self.now.texts ≡ [] → IsOk result }
+    // The demanded texts, as far as a verdict depends on them.
+    fn text_demand(&self) -> TextDemand<'_>
+        ensures texts { TellsTexts result self.now.texts }
+        ensures valid { IsValidEntry self.now }
     {
         match self.texts().items() {
-            [] => Ok(Verdict::Possible),
-            [text] => {
-                if has_version(alloc, text.as_str(), self.versions())? {
-                    Ok(Verdict::Possible)
-                } else {
-                    Ok(Verdict::Nothing)
-                }
-            }
-            _ => Ok(Verdict::Nothing),
+            [] => TextDemand::NoText,
+            [text] => TextDemand::OneText(text.as_str()),
+            _ => TextDemand::MoreTexts,
         }
     }
 
@@ -161,23 +181,18 @@ impl Entry {
         ensures faults { IfErr result (λ e. e ≡ TableFault.NoMemory) }
         ensures plain { self.now.texts ≡ [] → IsOk result }
     {
-        if self.has_conflict() {
-            return Ok(Verdict::Conflict);
-        }
-        if self.versions().is_empty() {
-            return Ok(Verdict::Nothing);
-        }
-        Ok(self.text_verdict(alloc)?)
+        let urls = self.url_count();
+        Ok(verdict_of(alloc, urls, self.text_demand(), self.versions())?)
     }
 
     // Whether the version is in the ranges and has each demanded text as its normal text.
     fn fits(&self, alloc: Global, version: &Version) -> Result<bool, AllocError>
         ensures { IfOk result (λ b. IsTrue b ↔ FitsEntry self.now version.now) }
     {
-        match self.texts().items() {
-            [] => is_in(alloc, version, self.versions()),
-            [text] => has_text(alloc, version, text.as_str(), self.versions()),
-            _ => Ok(false),
+        match self.text_demand() {
+            TextDemand::NoText => is_in(alloc, version, self.versions()),
+            TextDemand::OneText(text) => has_text(alloc, version, text, self.versions()),
+            TextDemand::MoreTexts => Ok(false),
         }
     }
 
@@ -193,7 +208,7 @@ impl Entry {
         ensures answer { IfOk result (IsAnswer (EntryDemands self.now) version.now want_pre) }
         ensures faults { IfErr result (λ e. e ≡ TableFault.NoMemory) }
     {
-        if self.has_conflict() {
+        if self.url_count() > 1 {
             return Ok(Answer::Conflict);
         }
         // Its clause tells that the parts make a version.

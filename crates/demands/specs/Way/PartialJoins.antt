@@ -1,6 +1,6 @@
 -- The versions of a package as the code keeps them: two cuts, and beside them what is left over and sets of which the join
 -- counts. No meaning rests on this.
-use Rattle.std.specs.Prelude.{List, [], ◌∷◌, Option, Some, None}
+use Rattle.std.specs.Prelude.{List, [], ◌∷◌}
 use Rattle.std.specs.List.{AllByRecursion}
 use Rattle.pep_clause.specs.Cut.{Cut, IsCut}
 use Rattle.pep_clause.specs.Way.Joined.{joined}
@@ -14,11 +14,6 @@ joined_sets (s ∷ rest) = joined s (joined_sets rest)
 
 abbrev pub AreNormal : List (List Range) → Type 0
 AreNormal sets = AllByRecursion IsNormal sets
-
--- what is kept beside two cuts: every version, where it is nothing
-abbrev pub beside_versions : Option (List Range) → List Range
-beside_versions None = all_versions
-beside_versions (Some ranges) = ranges
 
 -- the versions between two cuts that are kept beside them
 abbrev pub kept_versions : Cut → Cut → List Range → List Range

@@ -6,7 +6,7 @@ use Rattle.demands.proofs.partial_joins.narrow.Given as goal
 
 abbrev pub invariant-sets : goal.invariant-sets
 invariant-sets l =
-    JoinsTo (joined (joined_sets l.initial.sets.items) l.fn.others) l.sets.items l.narrowed
+    JoinsTo (joined (joined_sets l.initial.sets.items) l.fn.other) l.sets.items l.narrowed
 
 abbrev pub decreases-sets : goal.decreases-sets
 decreases-sets l = length l.sets.items

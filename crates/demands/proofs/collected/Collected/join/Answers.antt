@@ -7,7 +7,7 @@ use Rattle.demands.proofs.collected.Collected.join.Goals as goal
 
 pub loop-index-preserved : goal.loop-index-preserved
 loop-index-preserved c =
-    let texts = c.others.inside.texts in
+    let texts = c.other.inside.texts in
     let i = c.loop-index.index in
     let below : i < length texts = search rules in
     subst (λ l. IsUnion c.args.self.now l c.put.new.self)
@@ -17,10 +17,10 @@ loop-index-preserved c =
 
 pub returns : goal.returns
 returns c =
-    let texts = c.others.inside.texts in
+    let texts = c.other.inside.texts in
     let all : length texts ≤ c.loop-index.index = search rules in
     record {
-      joined = subst (λ l. IsUnion c.args.self.now l c.loop-index.self) c.others.view_is
+      joined = subst (λ l. IsUnion c.args.self.now l c.loop-index.self) c.other.view_is
           (with_collected c.args.self.now texts c.loop-index.self
           (subst (λ l. IsUnion c.args.self.now l c.loop-index.self) (take_all c.loop-index.index texts all)
           c.loop-index.invariant));

@@ -3,4 +3,4 @@ use Rattle.demands.specs.Join.{IsUnion}
 use Rattle.demands.proofs.collected.Collected.join.Given as goal
 
 abbrev pub invariant-loop-index : goal.invariant-loop-index
-invariant-loop-index l = IsUnion l.initial.self (take l.index l.others-inside.texts) l.self
+invariant-loop-index l = IsUnion l.initial.self (take l.index l.other-inside.texts) l.self

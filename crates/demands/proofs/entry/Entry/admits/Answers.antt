@@ -7,18 +7,18 @@ use Rattle.demands.proofs.entry.Entry.admits.Goals.{else-fits-via-then-fits+else
 use Rattle.demands.proofs.entry.Entry.admits.Goals.{else-fits-via-else-fits}
 use Rattle.demands.proofs.entry.Entry.admits.Goals as goal
 
-pub returns-then-has_conflict-clause-answer : goal.returns-then-has_conflict-clause-answer
-returns-then-has_conflict-clause-answer c =
+pub returns-then-url_count-gt1-clause-answer : goal.returns-then-url_count-gt1-clause-answer
+returns-then-url_count-gt1-clause-answer c =
     let e = c.args.self.now in
     let two : 2 ≤ length e.urls = search rules in
-    (conflict_exactly (EntryDemands e) e c.has_conflict.ensures.valid (own_entry e)).1 two
+    (conflict_exactly (EntryDemands e) e c.url_count.ensures.valid (own_entry e)).1 two
 
 pub returns-then-is_wanted-clause-answer : goal.returns-then-is_wanted-clause-answer
 returns-then-is_wanted-clause-answer c =
     let e = c.args.self.now in
     let few : length e.urls < 2 = search rules in
     answer_of_entry (EntryDemands e) e c.args.version.now c.args.want_pre Yes
-    c.has_conflict.ensures.valid (own_entry e) c.release.ensures.version
+    c.url_count.ensures.valid (own_entry e) c.release.ensures.version
     (few, (search rules, search rules))
 
 pub returns-else-fits-clause-answer : goal.returns-else-fits-clause-answer
@@ -26,7 +26,7 @@ returns-else-fits-clause-answer c =
     let e = c.args.self.now in
     let few : length e.urls < 2 = search rules in
     answer_of_entry (EntryDemands e) e c.args.version.now c.args.want_pre No
-    c.has_conflict.ensures.valid (own_entry e) c.release.ensures.version (
+    c.url_count.ensures.valid (own_entry e) c.release.ensures.version (
       few,
       λ both. elim c.else-fits.branch [
         | else-fits-via-then-fits+else-is_wanted w ↦

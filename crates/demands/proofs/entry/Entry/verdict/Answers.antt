@@ -1,17 +1,20 @@
-use Rattle.std.proofs.Common.{rules}
-use Rattle.demands.specs.declared.verdict.Verdict.TheVariants.{Conflict, Nothing}
-use Rattle.demands.proofs.Verdicts.{verdict_of_entry}
+use Rattle.std.proofs.Common.{sym}
+use Rattle.demands.specs.Way.Judged.{IsJudgedBy}
 use Rattle.demands.proofs.entry.Entry.verdict.Goals as goal
+use Rattle.demands.proofs.entry.Entry.verdict.Goals.{After-verdict_of}
 
-pub returns-then-has_conflict-clause-demands : goal.returns-then-has_conflict-clause-demands
-returns-then-has_conflict-clause-demands c =
-    verdict_of_entry c.args.self.now Conflict c.has_conflict.ensures.valid (search rules)
+judged : (c : After-verdict_of) → IsJudgedBy c.url_count-urls.result c.text_demand.result c.versions.result.now c.args.self.now
+judged c = record {
+  valid = c.url_count-urls.ensures.valid;
+  urls = sym c.url_count-urls.ensures.count;
+  texts = c.text_demand.ensures.texts;
+  versions = sym c.versions.ensures.versions;
+}
 
-pub returns-then-is_empty-clause-demands : goal.returns-then-is_empty-clause-demands
-returns-then-is_empty-clause-demands c =
-    verdict_of_entry c.args.self.now Nothing c.has_conflict.ensures.valid (search rules)
+pub returns-clause-entry : goal.returns-clause-entry
+returns-clause-entry c =
+    (c.in_ok-verdict_of.ensures.verdict c.args.self.now (judged (goal.at.returns-clause-entry c).After-verdict_of)).0
 
 pub returns-clause-demands : goal.returns-clause-demands
 returns-clause-demands c =
-    verdict_of_entry c.args.self.now c.in_ok-text_verdict.field-0 c.has_conflict.ensures.valid
-    c.in_ok-text_verdict.ensures.entry
+    (c.in_ok-verdict_of.ensures.verdict c.args.self.now (judged (goal.at.returns-clause-demands c).After-verdict_of)).1

@@ -1,20 +1,23 @@
-use Rattle.std.proofs.Common.{◌≡◌, ◌∙◌, ap, subst}
+use Rattle.std.proofs.Common.{◌∙◌, Some, ap, subst, sym}
 use Rattle.std.specs.Prelude.{option_map}
 use Rattle.pep_clause.specs.OperatorTable.{outside}
-use Rattle.demands.specs.Join.{IsIntersection}
-use Rattle.demands.specs.Way.PartialJoins.{beside_versions, kept_versions}
-use Rattle.demands.proofs.KeptVersions.{met-versions}
+use Rattle.pep_clause.specs.Way.Joined.{joined}
+use Rattle.demands.specs.declared.kept_versions.Beside.{Beside}
+use Rattle.demands.specs.Way.KeptVersions.{AreNormalParts, beside_versions}
+use Rattle.demands.specs.Way.PartialJoins.{joined_sets, kept_versions}
+use Rattle.demands.proofs.KeptVersions.{left-more, met-beside}
 use Rattle.demands.proofs.kept_versions.KeptVersions.leave_out.Goals as goal
 
 pub returns : goal.returns
 returns c =
     let i = c.self.inside in
-    let t = (outside c.args.bounds.low c.args.bounds.high) in
+    let b = c.deref_mut.result.now in
+    let are = subst (λ (x : Beside). AreNormalParts (Some x)) (sym c.deref_mut.ensures.value)
+    c.in_ok-beside.ensures.normal in
+    let same = ap (λ (x : Beside). beside_versions (Some x)) c.deref_mut.ensures.value ∙ c.in_ok-beside.ensures.same
+    ∙ ap (λ x. beside_versions (option_map (λ k. k.value) x)) c.take.ensures.value in
+    let t = outside c.args.bounds.low c.args.bounds.high in
     let new = c.leave_out.new.self in
-    let old = beside_versions (option_map (λ b. b.value) i.beside) in
-    let taken : c.deref_mut.result.now ≡ old =
-    c.deref_mut.ensures.value ∙ c.in_ok-beside.ensures
-    ∙ ap (λ b. beside_versions (option_map (λ x. x.value) b)) c.take.ensures.value in
-    subst (λ whole. IsIntersection whole t (kept_versions i.low i.high new)) c.self.view_is
-    (met-versions i.low i.high old new t c.self.invariant c.leave_out.ensures.normal
-    (subst (λ s. IsIntersection s t new) taken c.in_ok-leave_out.ensures.ok))
+    met-beside i.low i.high b c.args.self.now t (joined new (joined_sets b.sets.items)) c.self.invariant.0
+    c.self.invariant.1 are (ap (kept_versions i.low i.high) same ∙ c.self.view_is)
+    (left-more b.left_out new t b.sets.items c.in-Ok.ensures.normal are.1 c.in-Ok.ensures.points)

@@ -1,19 +1,12 @@
-use Rattle.std.proofs.Common.{◌+◌, ◌∙◌, ap, map, rules, subst, take}
-use Rattle.std.specs.Prelude.{option_map}
+use Rattle.std.proofs.Common.{◌+◌, ◌∙◌, ap, map, rules, take}
 use Rattle.std.proofs.lemmas.List.{map_push}
-use Rattle.pep_clause.specs.VersionSet.{IsNormal}
 use Rattle.demands.specs.Way.LineSets.{left_by}
-use Rattle.demands.specs.Way.PartialJoins.{beside_versions}
 use Rattle.demands.proofs.KeptSets.{next_taken}
-use Rattle.demands.proofs.KeptVersions.{kept-normal}
 use Rattle.demands.proofs.LineSets.{meets_no_set, meets_one_set}
 use Rattle.demands.proofs.kept_versions.KeptVersions.leave_out_all.Goals as goal
 
 pub loop-bounds-init : goal.loop-bounds-init
-loop-bounds-init c =
-    let i = c.self.inside in
-    let s = beside_versions (option_map (λ b. b.value) i.beside) in
-    meets_no_set c.args.self.now (subst IsNormal c.self.view_is (kept-normal i.low i.high s c.self.invariant))
+loop-bounds-init c = meets_no_set c.args.self.now c.in_order.ensures
 
 pub loop-bounds-preserved : goal.loop-bounds-preserved
 loop-bounds-preserved c =

@@ -1,20 +1,11 @@
 use Rattle.std.proofs.Common.{◌≡◌, [], append-nil, append_assoc, ap, rules, subst, sym, ◌++◌, ◌∙◌, ◌∷◌}
-use Rattle.std.specs.Prelude.{option_map}
-use Rattle.pep_clause.specs.VersionSet.{IsNormal}
 use Rattle.demands.specs.Join.{IsIntersection}
-use Rattle.demands.specs.Way.PartialJoins.{beside_versions, joined_sets}
-use Rattle.demands.proofs.KeptVersions.{kept-normal}
+use Rattle.demands.specs.Way.PartialJoins.{joined_sets}
 use Rattle.demands.proofs.LineSets.{meets_last_set, meets_no_set}
 use Rattle.demands.proofs.kept_versions.KeptVersions.meet_all.Goals as goal
 
 pub loop-versions-init : goal.loop-versions-init
-loop-versions-init c =
-    let i = c.self.inside in
-    let s = beside_versions (option_map (λ b. b.value) i.beside) in (
-      subst IsNormal c.self.view_is (kept-normal i.low i.high s c.self.invariant),
-      ([], sym (append-nil c.args.sets.now.items)),
-      λ d h. h,
-    )
+loop-versions-init c = (c.in_order.ensures, ([], sym (append-nil c.args.sets.now.items)), λ d h. h)
 
 pub loop-versions-preserved : goal.loop-versions-preserved
 loop-versions-preserved c =

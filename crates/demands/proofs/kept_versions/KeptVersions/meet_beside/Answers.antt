@@ -1,19 +1,22 @@
-use Rattle.std.proofs.Common.{◌≡◌, ◌∙◌, ap, subst}
+use Rattle.std.proofs.Common.{◌∙◌, Some, ap, subst, sym}
 use Rattle.std.specs.Prelude.{option_map}
-use Rattle.demands.specs.Join.{IsIntersection}
-use Rattle.demands.specs.Way.PartialJoins.{beside_versions, kept_versions}
-use Rattle.demands.proofs.KeptVersions.{met-versions}
+use Rattle.pep_clause.specs.Way.Joined.{joined}
+use Rattle.demands.specs.declared.kept_versions.Beside.{Beside}
+use Rattle.demands.specs.Way.KeptVersions.{AreNormalParts, beside_versions}
+use Rattle.demands.specs.Way.PartialJoins.{joined_sets, kept_versions}
+use Rattle.demands.proofs.KeptVersions.{met-beside, sets-more}
 use Rattle.demands.proofs.kept_versions.KeptVersions.meet_beside.Goals as goal
 
 pub returns : goal.returns
 returns c =
     let i = c.self.inside in
-    let t = c.args.others in
-    let new = c.meet.new.self in
-    let old = beside_versions (option_map (λ b. b.value) i.beside) in
-    let taken : c.deref_mut.result.now ≡ old =
-    c.deref_mut.ensures.value ∙ c.in_ok-beside.ensures
-    ∙ ap (λ b. beside_versions (option_map (λ x. x.value) b)) c.take.ensures.value in
-    subst (λ whole. IsIntersection whole t (kept_versions i.low i.high new)) c.self.view_is
-    (met-versions i.low i.high old new t c.self.invariant c.meet.ensures.normal
-    (subst (λ s. IsIntersection s t new) taken c.in_ok-meet.ensures.ok))
+    let b = c.deref_mut.result.now in
+    let are = subst (λ (x : Beside). AreNormalParts (Some x)) (sym c.deref_mut.ensures.value)
+    c.in_ok-beside.ensures.normal in
+    let same = ap (λ (x : Beside). beside_versions (Some x)) c.deref_mut.ensures.value ∙ c.in_ok-beside.ensures.same
+    ∙ ap (λ x. beside_versions (option_map (λ k. k.value) x)) c.take.ensures.value in
+    let t = c.args.other in
+    let new = c.narrow.new.sets.items in
+    met-beside i.low i.high b c.args.self.now t (joined b.left_out (joined_sets new)) c.self.invariant.0
+    c.self.invariant.1 are (ap (kept_versions i.low i.high) same ∙ c.self.view_is)
+    (sets-more b.left_out t b.sets.items new are.0 c.in_ok-narrow.ensures.normal c.in_ok-narrow.ensures.ok)

@@ -1,20 +1,11 @@
-use Rattle.std.proofs.Common.{◌+◌, rules, take, arith, subst}
-use Rattle.std.specs.Prelude.{option_map}
+use Rattle.std.proofs.Common.{◌+◌, rules, take, arith}
 use Rattle.specifiers.specs.Valid.{IsValidClause}
-use Rattle.pep_clause.specs.VersionSet.{IsNormal}
-use Rattle.demands.specs.Way.PartialJoins.{beside_versions}
 use Rattle.demands.proofs.KeptSets.{next_taken, one_holds}
-use Rattle.demands.proofs.KeptVersions.{kept-normal}
 use Rattle.demands.proofs.TakenClauses.{meets_more, meets_none}
 use Rattle.demands.proofs.kept_versions.KeptVersions.meet_clauses.Goals as goal
 
 pub loop-clause-init : goal.loop-clause-init
-loop-clause-init c =
-    let i = c.self.inside in
-    let s = beside_versions (option_map (λ b. b.value) i.beside) in (
-      meets_none c.args.self.now (subst IsNormal c.self.view_is (kept-normal i.low i.high s c.self.invariant)),
-      λ k d lt. absurd (omega (arith, lt)),
-    )
+loop-clause-init c = (meets_none c.args.self.now c.in_order.ensures, λ k d lt. absurd (omega (arith, lt)))
 
 pub loop-clause-preserved : goal.loop-clause-preserved
 loop-clause-preserved c =

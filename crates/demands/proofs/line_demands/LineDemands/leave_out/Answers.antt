@@ -6,7 +6,6 @@ use Rattle.demands.specs.Way.PartialJoins.{joined_sets}
 use Rattle.demands.proofs.KeptVersions.{met-versions}
 use Rattle.demands.proofs.LineParts.{clause_added}
 use Rattle.demands.proofs.LineSets.{left-met, left-normal, other_sets}
-use Rattle.demands.proofs.PartialJoins.{normal_sets}
 use Rattle.demands.proofs.line_demands.LineDemands.leave_out.Goals as goal
 
 pub invariant_of-self-2 : goal.invariant_of-self-2
@@ -25,11 +24,8 @@ returns c =
     let more = c.push.new.self.items in
     let old = entry_with i.others (line_versions i.bounds i.left_out.items sets) in
     let new = entry_with i.others (line_versions i.bounds more sets) in
-    let normal = left-normal i.left_out.items more c.args.bounds sets c.in_ok-push.ensures.items c.self.invariant.0.normal
-    c.requires in
     λ clause d. subst (λ e. AddsClause clause e new) c.self.view_is
     (clause_added clause (left_by c.args.bounds) old new d refl refl refl
     (met-versions i.bounds.low i.bounds.high (joined_sets (line_sets i.left_out.items sets))
     (joined_sets (line_sets more sets)) (left_by c.args.bounds) c.self.invariant.0.kept
-    (normal_sets (line_sets more sets) normal)
     (left-met i.left_out.items more c.args.bounds sets c.in_ok-push.ensures.items c.self.invariant.0.normal c.requires)))

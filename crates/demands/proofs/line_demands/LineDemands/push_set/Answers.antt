@@ -6,7 +6,6 @@ use Rattle.demands.specs.Way.PartialJoins.{joined_sets}
 use Rattle.demands.proofs.KeptVersions.{met-versions}
 use Rattle.demands.proofs.LineParts.{clause_added}
 use Rattle.demands.proofs.LineSets.{other_sets, set-met, set-normal}
-use Rattle.demands.proofs.PartialJoins.{normal_sets}
 use Rattle.demands.proofs.line_demands.LineDemands.push_set.Goals as goal
 
 pub invariant_of-self-2 : goal.invariant_of-self-2
@@ -25,12 +24,9 @@ returns c =
     let more = c.push.new.self.items in
     let old = entry_with i.others (line_versions i.bounds outs i.sets.items) in
     let new = entry_with i.others (line_versions i.bounds outs more) in
-    let normal = set-normal outs i.sets.items more c.args.versions c.in_ok-push.ensures.items c.self.invariant.0.normal
-    c.ranges-2.ensures.normal in
     λ clause d. subst (λ e. AddsClause clause e new) c.self.view_is
     (clause_added clause c.args.versions old new d refl refl refl
     (met-versions i.bounds.low i.bounds.high (joined_sets (line_sets outs i.sets.items))
     (joined_sets (line_sets outs more)) c.args.versions c.self.invariant.0.kept
-    (normal_sets (line_sets outs more) normal)
     (set-met outs i.sets.items more c.args.versions c.in_ok-push.ensures.items c.self.invariant.0.normal
     c.ranges-2.ensures.normal)))

@@ -16,6 +16,6 @@ returns-clause-joins g c =
     let xs = c.args.self.now in
     let ys = c.args.other.now in
     let own = c.items-2.view_is ∙ c.in_ok-items.ensures.same in
-    let all = c.in_ok-push_copies.ensures ∙ (λ i. own i ++ c.items-others.ensures.texts i) in
+    let all = c.in_ok-push_copies.ensures ∙ (λ i. own i ++ c.items-more.ensures.texts i) in
     subst (IsUnion xs ys) (sym (c.of_ascending.ensures ∙ c.put_in_order.ensures ∙ ap collected_texts all))
     (union_collected xs ys)

@@ -3,7 +3,7 @@ use Rattle.pep_clause.specs.Way.Joined.{joined}
 use Rattle.pep_clause.specs.OperatorTable.{range}
 use Rattle.pep_clause.specs.VersionSet.{all_versions}
 use Rattle.demands.proofs.KeptVersions.{kept-bare}
-use Rattle.demands.proofs.beside.left_between.Goals as goal
+use Rattle.demands.proofs.kept_versions.left_between.Goals as goal
 
 pub returns-then-is_none : goal.returns-then-is_none
 returns-then-is_none c =
