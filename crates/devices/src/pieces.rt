@@ -62,8 +62,8 @@ fn write_held<W: Sink>(sink: &mut W, held: &mut ArrayString<PIECE>) -> Result<()
     Ok(())
 }
 
-// Writes what is held, and then holds the part, or writes it too if it is longer than a piece. It is called once for each
-// piece, and kept apart from what is done for each part.
+// Writes what is held, and then holds the part, or writes it too if it is longer than a piece. It is called once for
+// each piece, and kept apart from what is done for each part.
 #[cold]
 #[inline(never)]
 fn make_room<W: Sink>(sink: &mut W, held: &mut ArrayString<PIECE>, part: &str) -> Result<(), Failed>

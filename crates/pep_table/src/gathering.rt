@@ -56,9 +56,11 @@ fn push_gathered(
 
 impl Gathering {
     /// Nothing is demanded.
-    pub fn new(_alloc: Global) -> Gathering
+    pub fn new(alloc: Global) -> Gathering
         ensures { result ≡ [] }
     {
+        // Memory is asked for when a name comes.
+        let _ = alloc;
         Gathering { gathered: None }
     }
 
