@@ -25,7 +25,7 @@ pub(crate) struct Remembered {
     text: [u8; LONGEST],
 }
 
-// The bytes with others behind them, if they aren't too many.
+// The bytes with zeros behind them, if they aren't too many.
 fn kept_bytes(text: &[u8]) -> Option<[u8; LONGEST]>
     ensures { IfSome result (λ kept. take (length text.now) kept ≡ text.now) }
 {

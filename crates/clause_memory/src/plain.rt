@@ -35,10 +35,10 @@ enum Operand<'a> {
 
 // What stands behind this byte in front, where it stands there.
 fn behind_byte(text: &[u8], byte: u8) -> Option<&[u8]>
-    ensures { IfSome result (λ others. text.now ≡ byte ∷ others.now) }
+    ensures { IfSome result (λ rest. text.now ≡ byte ∷ rest.now) }
 {
     match text.split_first() {
-        Some((first, others)) if *first == byte => Some(others),
+        Some((first, rest)) if *first == byte => Some(rest),
         _ => None,
     }
 }
@@ -59,7 +59,7 @@ fn operand_at(text: &[u8]) -> Operand<'_>
         }
         numbers[count] = number;
         count += 1;
-        let Some(others) = behind_byte(rest, b'.') else {
+        let Some(behind) = behind_byte(rest, b'.') else {
             return Operand::Release(Release {
                 numbers,
                 count,
@@ -67,7 +67,7 @@ fn operand_at(text: &[u8]) -> Operand<'_>
                 rest,
             });
         };
-        if let Some(rest) = behind_byte(others, b'*') {
+        if let Some(rest) = behind_byte(behind, b'*') {
             return Operand::Release(Release {
                 numbers,
                 count,
@@ -75,7 +75,7 @@ fn operand_at(text: &[u8]) -> Operand<'_>
                 rest,
             });
         }
-        left = others;
+        left = behind;
     }
 }
 

@@ -34,7 +34,7 @@ loop-number-preserved c =
     let count = c.loop-number.count in
     let few : count + 1 ≤ 4 = search rules in
     let there : count < length numbers = search rules in (
-      one_number_more c.args.text.now c.loop-number.left.now c.in-Some.rest.now c.in-Some-behind_byte.others.now
+      one_number_more c.args.text.now c.loop-number.left.now c.in-Some.rest.now c.in-Some-behind_byte.behind.now
           (take count numbers) _ c.in-Some.number c.loop-number.invariant.0 c.in-Some.ensures.number
           c.in-Some-behind_byte.ensures (take-set_at numbers count (count + 1) c.in-Some.number refl there),
       few,
