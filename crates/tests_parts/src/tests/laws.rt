@@ -19,6 +19,7 @@ fn laws() {
     clause_laws::one_list();
     clause_laws::one_list_of_versions();
     clause_laws::between_cuts();
+    clause_laws::ends_of_operators();
     clause_laws::place_is_in();
     require_laws::one_requirement();
     require_laws::refused_is_not_read();
