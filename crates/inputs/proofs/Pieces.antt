@@ -15,7 +15,7 @@ use Rattle.faults.specs.declared.fault.LineFault.{LineFault}
 use Rattle.faults.specs.declared.fault.LineFault.TheVariants as line_fault
 use Rattle.documents.specs.RefusedProject.{IsNumbered}
 use Rattle.inputs.specs.Way.LineReading.{IsCauseOf, IsHeld, RefusesEnded, RefusesHeld, RefusesLineBytes}
-use Rattle.inputs.specs.Way.LineReading.{RefusesList, RefusesPiece}
+use Rattle.inputs.specs.Way.LineReading.{RefusesList, RefusesPiece, RefusesWhole}
 use Rattle.inputs.specs.Lists.{lines_of}
 use Rattle.inputs.specs.Refusal.{by_length, by_line, by_size, no_line}
 use Rattle.inputs.proofs.ListLemmas.{line_known}
@@ -171,6 +171,12 @@ line_refuses refuses bytes line n f c at (inl refused) is =
     inr (inl (by_line n line f at refused (is.told (line_known line f refused))))
 line_refuses refuses bytes line n f c at (inr h) is =
     inr (inr (record { number = n; line = line; numbered = at; fault = f; refused = h; is = is }))
+
+-- the cause of a line that has ended
+pub whole_ended : (refuses : List ℕ → LineFault → Type 0) (number : ℕ) (line : List ℕ) (f : LineFault)
+    (c : Cause) → IsCauseOf number f c → RefusesWhole refuses line f → RefusesEnded refuses number line c
+whole_ended refuses number line f c is (inl memory) = inl (is.memory memory)
+whole_ended refuses number line f c is (inr h) = inr (f, h, is)
 
 -- a line that has ended is refused whatever stands behind it
 pub ended_refuses : (refuses : List ℕ → LineFault → Type 0) (piece line after : List ℕ)

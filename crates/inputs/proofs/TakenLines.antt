@@ -9,40 +9,12 @@ use Rattle.std.proofs.lemmas.List.Elements.{All-from_recursion, filter-append}
 use Rattle.std.specs.Borrow.{Bor}
 use Rattle.texts.specs.Limits.{line_limit}
 use Rattle.texts.specs.Way.Split.{left_parts}
-use Rattle.faults.specs.declared.fault.LineFault.TheVariants as line_fault
 use Rattle.inputs.specs.Lists.{content, is_skipped, lines_of, requirements_among}
 use Rattle.texts.specs.Limits.{input_limit}
 use Rattle.inputs.specs.Lists.{HasText}
 use Rattle.inputs.specs.Way.LineReading.{HasTaken, IsHeld, SoFar, TakesFound, TakesInTurn, TakesLine}
 use Rattle.inputs.specs.Way.LineReading.{TakesLines}
-use Rattle.inputs.specs.Refusal.{IsNoLine, by_encoding}
-use Rattle.inputs.proofs.LineTexts.{content_is_utf8, line_is_utf8}
 use Rattle.inputs.proofs.Pieces.{held_goes_on, left_lines, line_count, lines_go_on}
-
--- ---- one line, as the code reads it
-
-pub skipped_text : (line content_now : List ℕ) → length line ≤ line_limit →
-    content_now ≡ content line → IsUtf8 content_now → is_skipped content_now ≡ true →
-    HasText line None
-skipped_text line now short e text skipped = record {
-  short = short;
-  encoded = line_is_utf8 line (subst IsUtf8 e text);
-  text = subst (λ t. is_skipped t ≡ true) e skipped;
-}
-
-pub kept_text : (line content_now text : List ℕ) → length line ≤ line_limit →
-    content_now ≡ content line → text ≡ content_now → IsUtf8 content_now →
-    is_skipped content_now ≡ false → HasText line (Some text)
-kept_text line now text short e same utf8 kept = record {
-  short = short;
-  encoded = line_is_utf8 line (subst IsUtf8 e utf8);
-  text = (subst (λ t. is_skipped t ≡ false) e kept, same ∙ e);
-}
-
-pub no_text : (line content_now : List ℕ) → length line ≤ line_limit → content_now ≡ content line →
-    ¬ IsUtf8 content_now → IsNoLine line line_fault.NotUtf8
-no_text line now short e none =
-    by_encoding short (λ utf8. none (subst IsUtf8 (sym e) (content_is_utf8 line utf8))) refl
 
 -- ---- the lines that are done
 

@@ -16,15 +16,19 @@ ghost use Rattle.std.specs.Prelude.{
   IfErr,
   IfOk,
   IfSome,
+  drop,
+  get_or,
   length,
   option_map,
+  take,
 };
 ghost use Rattle.std.specs.List.{slice_split};
 ghost use Rattle.texts.specs.Limits.{line_limit};
 ghost use Rattle.texts.specs.Way.Split.{left_parts};
-ghost use Rattle.inputs.specs.Lists.{HasText, content, is_skipped};
+ghost use Rattle.inputs.specs.Lists.{HasText, IsTextOn, content, is_skipped};
 ghost use Rattle.texts.specs.Limits.{input_limit};
 ghost use Rattle.inputs.specs.Refusal.{IsNoLine};
+ghost use Rattle.inputs.specs.Way.Part.{lent, part_bytes};
 ghost use Rattle.inputs.specs.Way.LineReading.{
   HasTaken,
   IsHeld,
@@ -43,7 +47,8 @@ use faults::{Cause, LineFault};
 use memchr::memchr;
 use pep_require::RequireFault;
 use std::alloc::Global;
-use texts::{INPUT_LIMIT, LINE_LIMIT, without_outer_blanks};
+use std::str;
+use texts::{INPUT_LIMIT, LINE_LIMIT, blank_end, stripped};
 
 /// Takes the texts of requirements, one after the other, wherever they come from.
 pub(crate) trait Taker {
@@ -67,14 +72,16 @@ pub(crate) trait Taker {
 }
 
 // The line without a carriage return at its end, and then without white space at both ends.
-fn content(line: &[u8]) -> &[u8]
+fn content(line: &str) -> &str
     ensures { result.now ≡ content line.now }
 {
-    let line = match line {
-        [front @ .., b'\r'] => front,
+    let line = match line.as_bytes() {
+        [front @ .., b'\r'] => line.split_at(front.len()).0,
         _ => line,
     };
-    without_outer_blanks(line)
+    let rest = stripped(line);
+    let (front, _) = rest.split_at(rest.len() - blank_end(rest.as_bytes()));
+    front
 }
 
 // Whether a line with this content is empty or a comment.
@@ -82,6 +89,18 @@ fn is_skipped(content: &[u8]) -> bool
     ensures { result ≡ is_skipped content.now }
 {
     content.is_empty() || content.starts_with(b"#")
+}
+
+// The text of the requirement on a line, if the line isn't skipped.
+#[inline(always)]
+fn text_on(line: &str) -> Option<&str>
+    ensures { IsTextOn line.now (option_map (λ text. text.now) result) }
+{
+    let content = content(line);
+    if is_skipped(content.as_bytes()) {
+        return None;
+    }
+    Some(content)
 }
 
 /// The text of the requirement on a line of a list, which is given without its line feed; nothing where the line is
@@ -97,23 +116,95 @@ pub fn text_of_line(line: &[u8]) -> Result<Option<&str>, LineFault>
     if line.len() > LINE_LIMIT {
         return Err(LineFault::Requirement(RequireFault::LineTooLong));
     }
-    let content = content(line);
-    let Ok(text) = std::str::from_utf8(content) else {
-        return Err(LineFault::NotUtf8);
-    };
-    if is_skipped(content) {
-        return Ok(None);
+    match str::from_utf8(line) {
+        Ok(line) => Ok(text_on(line)),
+        Err(_) => Err(LineFault::NotUtf8),
     }
-    Ok(Some(text))
+}
+
+// What stands in front of the line feed at this place of a text, and behind it.
+#[inline(always)]
+fn cut_text(text: &str, at: usize) -> (&str, &str)
+    requires within { at < length text.now }
+    requires feed { get_or text.now at 0 ≡ 10 }
+    ensures front { result.0.now ≡ take at text.now }
+    ensures behind { result.1.now ≡ drop (at + 1) text.now }
+{
+    let (front, _) = text.split_at(at);
+    let (_, behind) = text.split_at(at + 1);
+    (front, behind)
+}
+
+// Bytes of a list: a text, where the piece in which they stand is known to be one, so that its encoding is checked once.
+#[derive(Clone, Copy)]
+enum Part<'a> {
+    Text(&'a str),
+    Bytes(&'a [u8]),
+}
+
+impl<'a> Part<'a> {
+    // The bytes of a piece.
+    fn of(piece: &'a [u8]) -> Part<'a>
+        ensures { part_bytes result ≡ piece.now }
+    {
+        match str::from_utf8(piece) {
+            Ok(text) => Part::Text(text),
+            Err(_) => Part::Bytes(piece),
+        }
+    }
+
+    fn bytes(self) -> &'a [u8]
+        ensures { result.now ≡ part_bytes self.entry }
+    {
+        match self {
+            Part::Text(text) => text.as_bytes(),
+            Part::Bytes(bytes) => bytes,
+        }
+    }
+
+    // What stands in front of the line feed at this place, and behind it.
+    #[inline(always)]
+    fn cut(self, at: usize) -> (Part<'a>, Part<'a>)
+        requires within { at < length (part_bytes self) }
+        requires feed { get_or (part_bytes self) at 0 ≡ 10 }
+        ensures front { part_bytes result.0 ≡ take at (part_bytes self.entry) }
+        ensures behind { part_bytes result.1 ≡ drop (at + 1) (part_bytes self.entry) }
+    {
+        match self {
+            Part::Text(text) => {
+                let (front, behind) = cut_text(text, at);
+                (Part::Text(front), Part::Text(behind))
+            }
+            Part::Bytes(bytes) => {
+                let (front, _) = bytes.split_at(at);
+                let (_, behind) = bytes.split_at(at + 1);
+                (Part::Bytes(front), Part::Bytes(behind))
+            }
+        }
+    }
+
+    // The text of the requirement on the line that these are: see `text_of_line`.
+    #[inline(always)]
+    fn text(self) -> Result<Option<&'a str>, LineFault>
+        ensures ok { IfOk result (λ found. HasText (part_bytes self.entry)
+            (option_map (λ text. text.now) found)) }
+        ensures refused { IfErr result (IsNoLine (part_bytes self.entry)) }
+    {
+        match self {
+            Part::Text(line) if line.len() <= LINE_LIMIT => Ok(text_on(line)),
+            _ => text_of_line(self.bytes()),
+        }
+    }
 }
 
 // What was taken before, and the text on a line, if the line isn't skipped.
-fn take_line<T: Taker>(taker: &mut T, taken: T::Taken, line: &[u8]) -> Result<T::Taken, LineFault>
+#[inline(always)]
+fn take_line<T: Taker>(taker: &mut T, taken: T::Taken, line: Part<'_>) -> Result<T::Taken, LineFault>
     ensures same { taker.new ≡ taker.old }
-    ensures ok { IfOk result (TakesLine (T.takes taker.old) line.now taken) }
-    ensures refused { IfErr result (RefusesLineBytes (T.refuses taker.old) line.now) }
+    ensures ok { IfOk result (TakesLine (T.takes taker.old) (part_bytes line.entry) taken) }
+    ensures refused { IfErr result (RefusesLineBytes (T.refuses taker.old) (part_bytes line.entry)) }
 {
-    match text_of_line(line) {
+    match line.text() {
         Ok(Some(text)) => taker.take(taken, text),
         Ok(None) => Ok(taken),
         Err(fault) => Err(fault),
@@ -135,10 +226,9 @@ fn grown(held: Vec<u8>, part: &[u8]) -> Result<Vec<u8>, LineFault>
     Ok(line)
 }
 
-// What was taken before, and the text on the line that begins with what is held of it and ends with
-// this part. A line of which nothing is held isn't copied.
-#[inline(always)]
-fn take_whole<T: Taker>(
+// What was taken before, and the text on the line that begins with what is held of it and ends with this part.
+#[inline(never)]
+fn take_grown<T: Taker>(
     taker: &mut T,
     taken: T::Taken,
     held: Vec<u8>,
@@ -150,11 +240,29 @@ fn take_whole<T: Taker>(
     ensures refused { IfErr result (RefusesWhole (T.refuses taker.old)
         (held.items ++ part.now)) }
 {
+    let line = grown(held, part)?;
+    take_line(taker, taken, Part::Bytes(line.as_slice()))
+}
+
+// The same. A line of which nothing is held isn't copied.
+#[inline(always)]
+fn take_whole<T: Taker>(
+    taker: &mut T,
+    taken: T::Taken,
+    held: Vec<u8>,
+    part: Part<'_>,
+) -> Result<T::Taken, LineFault>
+    requires { length held.items ≤ line_limit }
+    ensures same { taker.new ≡ taker.old }
+    ensures ok { IfOk result (TakesLine (T.takes taker.old) (held.items ++ part_bytes part.entry)
+        taken) }
+    ensures refused { IfErr result (RefusesWhole (T.refuses taker.old)
+        (held.items ++ part_bytes part.entry)) }
+{
     if held.is_empty() {
         return take_line(taker, taken, part);
     }
-    let line = grown(held, part)?;
-    take_line(taker, taken, line.as_slice())
+    take_grown(taker, taken, held, part.bytes())
 }
 
 /// What there is of a list whose bytes come in pieces.
@@ -189,17 +297,17 @@ fn take_ended<T: Taker>(
     alloc: Global,
     taker: &mut T,
     so_far: LinesSoFar<T::Taken>,
-    part: &[u8],
+    part: Part<'_>,
 ) -> Result<LinesSoFar<T::Taken>, Cause>
     requires number { so_far.number ≤ input_limit }
     requires held { length so_far.held.items ≤ line_limit }
     ensures same { taker.new ≡ taker.old }
     ensures ok { IfOk result (λ new. TakesLine (T.takes taker.old)
-        (so_far.held.items ++ part.now) so_far.taken new.taken) }
+        (so_far.held.items ++ part_bytes part.entry) so_far.taken new.taken) }
     ensures number { IfOk result (λ new. new.number ≡ so_far.number + 1) }
     ensures held { IfOk result (λ new. new.held.items ≡ []) }
     ensures refused { IfErr result (RefusesEnded (T.refuses taker.old) (so_far.number + 1)
-        (so_far.held.items ++ part.now)) }
+        (so_far.held.items ++ part_bytes part.entry)) }
     ensures apart { IfErr result (λ cause. cause ≢ Cause.ReadFault) }
 {
     let number = so_far.number + 1;
@@ -235,16 +343,21 @@ fn hold_part<A: Drop>(so_far: LinesSoFar<A>, part: &[u8]) -> Result<LinesSoFar<A
     }
 }
 
-// The first line of a text, and what stands behind its line feed: `None` where the text has none. It is
+// The first line of a part, and what stands behind its line feed: `None` where the part has none. It is
 // `texts::first_part` by a search, which pays where parts are as long as lines.
 #[inline(always)]
-fn first_line(text: &[u8]) -> (&[u8], Option<&[u8]>)
-    ensures parts { slice_split (λ b. b == 10) text.now ≡ result.0.now ∷ left_parts 10 result.1 }
-    ensures shorter { IfSome result.1 (λ rest. length rest.now < length text.now) }
+fn first_line<'a>(part: Part<'a>) -> (Part<'a>, Option<Part<'a>>)
+    ensures parts { slice_split (λ b. b == 10) (part_bytes part.entry)
+        ≡ part_bytes result.0 ∷ left_parts 10 (option_map lent result.1) }
+    ensures shorter { IfSome (option_map lent result.1) (λ rest. length rest.now
+        < length (part_bytes part.entry)) }
 {
-    match memchr(b'\n', text) {
-        Some(at) => (&text[..at], Some(&text[at + 1..])),
-        None => (text, None),
+    match memchr(b'\n', part.bytes()) {
+        Some(at) => {
+            let (line, rest) = part.cut(at);
+            (line, Some(rest))
+        }
+        None => (part, None),
     }
 }
 
@@ -267,12 +380,12 @@ pub(crate) fn take_piece<T: Taker>(
     ensures apart { IfErr result (λ cause. cause ≢ Cause.ReadFault) }
 {
     let mut so_far = so_far;
-    let mut left = Some(piece);
-    while let Some(text) = left {
-        let (part, after) = first_line(text);
+    let mut left = Some(Part::of(piece));
+    while let Some(part) = left {
+        let (line, after) = first_line(part);
         so_far = match after {
-            Some(_) => take_ended(alloc, taker, so_far, part)?,
-            None => hold_part(so_far, part)?,
+            Some(_) => take_ended(alloc, taker, so_far, line)?,
+            None => hold_part(so_far, line.bytes())?,
         };
         left = after;
     }
@@ -293,7 +406,7 @@ pub(crate) fn take_last<T: Taker>(
         so_far.held.items) }
     ensures apart { IfErr result (λ cause. cause ≢ Cause.ReadFault) }
 {
-    match take_ended(alloc, taker, so_far, b"") {
+    match take_ended(alloc, taker, so_far, Part::Text("")) {
         Ok(new) => Ok(new.taken),
         Err(cause) => Err(cause),
     }

@@ -2,14 +2,15 @@ use Rattle.std.proofs.Common.{Some, inl, inr, option_map, subst}
 use Rattle.std.proofs.lemmas.Result.{IfErr-weaker, IfOk-weaker}
 use Rattle.inputs.specs.Lists.{HasText}
 use Rattle.inputs.specs.Refusal.{no_line}
+use Rattle.inputs.specs.Way.Part.{part_bytes}
 use Rattle.inputs.proofs.lines.take_line.Goals as goal
 use Rattle.inputs.proofs.lines.take_line.Goals.{In-Ok-Some}
 use Rattle.inputs.proofs.lines.take_line.Given as given
 
 has_text : (g : given.Over) (c : In-Ok-Some g) →
-    HasText c.args.line.now (Some c.in-Ok-Some.text.now)
+    HasText (part_bytes c.args.line) (Some c.in-Ok-Some.text.now)
 has_text g c =
-    subst (HasText c.args.line.now)
+    subst (HasText (part_bytes c.args.line))
     (λ i. option_map (λ text. text.now) (c.in-Ok-Some.field-0-is i)) c.in-Ok-Some.ensures.ok
 
 pub returns-in-Ok-Some-clause-ok : goal.returns-in-Ok-Some-clause-ok

@@ -1,7 +1,7 @@
-use Rattle.std.proofs.Common.{◌≡◌, ◌==◌, ◌∙◌, [], ap, inr, subst, sym}
+use Rattle.std.proofs.Common.{◌≡◌, ◌==◌, ◌++◌, ◌∙◌, [], ap, inr, subst, sym}
 use Rattle.std.proofs.lemmas.Result.{IfErr-weaker}
 use Rattle.texts.proofs.ListLemmas.{nothing_in}
-use Rattle.inputs.specs.Way.LineReading.{RefusesLineBytes}
+use Rattle.inputs.specs.Way.LineReading.{RefusesWhole}
 use Rattle.inputs.proofs.lines.take_whole.Goals as goal
 
 pub returns-then-is_empty-clause-refused : goal.returns-then-is_empty-clause-refused
@@ -13,6 +13,6 @@ returns-then-is_empty-clause-refused g c =
 
 pub returns-clause-refused : goal.returns-clause-refused
 returns-clause-refused g c =
-    IfErr-weaker c.take_line-2.result _ _
-    (λ fault h. inr (subst (λ l. RefusesLineBytes (g.T.Taker.refuses c.args.taker.now) l fault)
-    (c.as_slice.ensures.value ∙ c.in_ok-line.ensures.ok.0) h)) c.take_line-2.ensures.refused
+    IfErr-weaker c.take_grown.result _ _
+    (λ fault h. subst (λ l. RefusesWhole (g.T.Taker.refuses c.args.taker.now)
+    (c.args.held.items ++ l) fault) c.bytes.ensures h) c.take_grown.ensures.refused
