@@ -10,8 +10,8 @@ use Rattle.pep_marker.specs.Way.Chains.{ItemFrom, comparison_from, parentheses_f
 use Rattle.pep_marker.specs.Way.Chains.{item_part, chain_part, ChainFrom, parts_from, RestFrom}
 use Rattle.pep_marker.specs.Way.Chains.{rest_end, rest_more, ends, ends_and, ends_or, part_ends, joined}
 use Rattle.pep_marker.specs.Way.Chains.{link_word}
-use Rattle.pep_marker.specs.declared.chains.Link.{Link}
-use Rattle.pep_marker.specs.declared.chains.Link.TheVariants.{And, Or}
+use Rattle.pep_marker.specs.declared.making.Link.{Link}
+use Rattle.pep_marker.specs.declared.making.Link.TheVariants.{And, Or}
 
 -- ---- at most one
 

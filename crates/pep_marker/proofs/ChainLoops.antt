@@ -13,11 +13,12 @@ use Rattle.pep_marker.specs.Marker.{MarkerParts, comparisons, Token, open_parent
 use Rattle.pep_marker.specs.Marker.{close_parenthesis, Operand, Operator, compare, operand, operator}
 use Rattle.pep_marker.specs.Way.Chains.{ItemFrom, comparison_from, parentheses_from, PartFrom}
 use Rattle.pep_marker.specs.Way.Chains.{ChainFrom, parts_from, RestFrom}
-use Rattle.pep_marker.specs.Way.Chains.{rest_end, rest_more, ends, ends_or, part_ends, joined}
-use Rattle.pep_marker.specs.Way.Chains.{link_word, NoItem, NoPart, NoChain}
-use Rattle.pep_marker.specs.Way.Chains.{is_closed, Refuses}
-use Rattle.pep_marker.specs.declared.chains.Link.{Link}
-use Rattle.pep_marker.specs.declared.chains.Link.TheVariants.{Or}
+use Rattle.pep_marker.specs.Way.Chains.{rest_end, rest_more, ends, part_ends, joined}
+use Rattle.pep_marker.specs.Way.Chains.{link_word, PartTo, ChainTo, IsFront, IsRead, Joins}
+use Rattle.pep_marker.specs.Way.Chains.{is_closed, NoFront, Refuses, RefusesFront}
+use Rattle.pep_marker.specs.declared.chains.Front.{Front}
+use Rattle.pep_marker.specs.declared.making.Link.{Link}
+use Rattle.pep_marker.specs.declared.making.Link.TheVariants.{Or}
 use Rattle.pep_marker.proofs.ChainLaws.{same_part, same_chain, moved, more, goes_on, behind_one}
 use Rattle.pep_marker.proofs.ChainLaws.{part_ends-rest, comparisons-joined, AreMore, chain_more}
 use Rattle.pep_marker.proofs.ChainLaws.{more_behind}
@@ -26,13 +27,15 @@ use Rattle.pep_marker.proofs.ChainLaws.{more_behind}
 -- goes on from here is a chain at the front, and each such chain goes on from here.
 pub record SoFar (l : Link) (d : ℕ) (ts : List Token) (m : MarkerParts) (rest : List Token) : Type 0
   where
+    pub over : part_ends l rest ≡ true
     pub chains : (k : MarkerParts) (r : List Token) → RestFrom l d m rest k r → ChainFrom l d ts k r
     pub goes_on : (k : MarkerParts) (r : List Token) → ChainFrom l d ts k r → ends l r ≡ true →
         RestFrom l d m rest k r
 
 pub first_so : (l : Link) (d : ℕ) (ts : List Token) (m : MarkerParts) (rest : List Token) →
-    PartFrom l d ts m rest → part_ends l rest ≡ true → SoFar l d ts m rest
-first_so l d ts m rest i over = record { chains = λ k r c. parts_from i c; goes_on = go }
+    PartTo l d ts m rest → SoFar l d ts m rest
+first_so l d ts m rest (i, over) =
+    record { over = over; chains = λ k r c. parts_from i c; goes_on = go }
   where
     go : (k : MarkerParts) (r : List Token) → ChainFrom l d ts k r → ends l r ≡ true →
         RestFrom l d m rest k r
@@ -40,10 +43,10 @@ first_so l d ts m rest i over = record { chains = λ k r c. parts_from i c; goes
         let same = same_part i j over (part_ends-rest c e) in moved same.0 same.1 c
 
 next_so : (l : Link) (d : ℕ) (ts : List Token) (m n : MarkerParts) (behind rest : List Token) →
-    SoFar l d ts m (link_word l ∷ behind) → PartFrom l d behind n rest → part_ends l rest ≡ true →
+    SoFar l d ts m (link_word l ∷ behind) → PartTo l d behind n rest →
     SoFar l d ts (joined l m n) rest
-next_so l d ts m n behind rest so i over =
-    record { chains = λ k r c. so.chains k r (rest_more refl i c); goes_on = go }
+next_so l d ts m n behind rest so (i, over) =
+    record { over = over; chains = λ k r c. so.chains k r (rest_more refl i c); goes_on = go }
   where
     step : (k : MarkerParts) (r vs : List Token) → vs ≡ link_word l ∷ behind →
         RestFrom l d m vs k r → ends l r ≡ true → RestFrom l d (joined l m n) rest k r
@@ -57,42 +60,55 @@ next_so l d ts m n behind rest so i over =
     go k r c e = step k r (link_word l ∷ behind) refl (so.goes_on k r c e) e
 
 pub whole : (l : Link) (d : ℕ) (ts : List Token) (m : MarkerParts) (rest : List Token) →
-    SoFar l d ts m rest → ChainFrom l d ts m rest
-whole l d ts m rest so = so.chains m rest rest_end
+    SoFar l d ts m rest → ends l rest ≡ true → ChainTo l d ts m rest
+whole l d ts m rest so e = (so.chains m rest rest_end, e)
 
-pub no_first : (l : Link) (d room : ℕ) (ts : List Token) → NoPart l d room ts → NoChain l d room ts
-no_first l d room ts none m rest (parts_from {us = us} {n = n} i c) e =
-    omega (arith, none n us i (part_ends-rest c e), more c)
+pub no_first : (l : Link) (d room : ℕ) (ts : List Token) → NoFront (PartTo l d ts) room →
+    NoFront (ChainTo l d ts) room
+no_first l d room ts none m rest (parts_from {us = us} {n = n} i c, e) =
+    omega (arith, none n us (i, part_ends-rest c e), more c)
 
 no_next : (l : Link) (d room : ℕ) (ts : List Token) (m : MarkerParts) (behind : List Token) →
-    SoFar l d ts m (link_word l ∷ behind) → NoPart l d (room - comparisons m) behind →
-    NoChain l d room ts
-no_next l d room ts m behind so none k r c e =
+    SoFar l d ts m (link_word l ∷ behind) → NoFront (PartTo l d behind) (room - comparisons m) →
+    NoFront (ChainTo l d ts) room
+no_next l d room ts m behind so none k r (c, e) =
     step k r (link_word l ∷ behind) refl (so.goes_on k r c e) e
   where
     step : (k : MarkerParts) (r vs : List Token) → vs ≡ link_word l ∷ behind →
         RestFrom l d m vs k r → ends l r ≡ true → room < comparisons k
     step k r vs e rest_end f = goes_on l behind vs e f
     step k r vs e (rest_more {us = us} {n = n} h i c) f =
-        let few = none n us (behind_one e h i) (part_ends-rest c f) in
+        let few = none n us (behind_one e h i, part_ends-rest c f) in
         omega (arith, few, more c, comparisons-joined l m n)
 
 -- ---- the parts
 
+-- what is read in one way is read in another, the same marker
+pub read_as : {P Q : MarkerParts → List Token → Type 0} {A : MarkerParts → Type 0}
+    {room count : ℕ} {r s : List Token} → ((m : MarkerParts) → P m r → Q m s) →
+    IsFront P A room count r → IsFront Q A room count s
+read_as f h = record {
+  marker = h.marker;
+  stands = f h.marker h.stands;
+  meant = h.meant;
+  counted = h.counted;
+  few = h.few;
+}
+
 -- what is read as a part of one link's chain is that of an equal one's
-pub part_read : {F E : Type 0} (r : Result F E) (P : F → Type 0) (w l : Link) (d : ℕ)
-    (ts : List Token) (tree : F → MarkerParts) (rest : F → List Token) → l ≡ w →
-    ((f : F) → P f → PartFrom w d ts (tree f) (rest f)) → IfOk r P →
-    IfOk r (λ f. PartFrom l d ts (tree f) (rest f))
-part_read (Ok f) P w l d ts tree rest is part h =
-    subst (λ x. PartFrom x d ts (tree f) (rest f)) (sym is) (part f h)
-part_read (Err e) P w l d ts tree rest is part h = tt
+pub part_read : {P E : Type 0} (r : Result (Front P) E) (means : P → MarkerParts → Type 0)
+    (R : MarkerParts → List Token → Type 0) (w l : Link) (d room : ℕ) (ts : List Token) → l ≡ w →
+    ((m : MarkerParts) (rest : List Token) → R m rest → PartTo w d ts m rest) →
+    IfOk r (IsRead means R room) → IfOk r (IsRead means (PartTo l d ts) room)
+part_read (Ok f) means R w l d room ts is part h =
+    read_as (λ m i. subst (λ x. PartTo x d ts m (map token_of f.rest.now)) (sym is) (part m _ i)) h
+part_read (Err e) means R w l d room ts is part h = tt
 
 -- ---- in parentheses
 
-pub closed : (d : ℕ) (ts us rest : List Token) (m : MarkerParts) → ChainFrom Or d ts m us →
+pub closed : (d : ℕ) (ts us rest : List Token) (m : MarkerParts) → ChainTo Or d ts m us →
     us ≡ close_parenthesis ∷ rest → ItemFrom (d + 1) (open_parenthesis ∷ ts) m rest
-closed d ts us rest m c e =
+closed d ts us rest m (c, over) e =
     subst (λ n. ItemFrom n (open_parenthesis ∷ ts) m rest) (sym (add-one d))
     (parentheses_from (subst (λ x. ChainFrom Or d ts m x) e c))
 
@@ -105,21 +121,25 @@ inside d ts rest m i =
         ChainFrom Or d ts m (close_parenthesis ∷ rest)
     step (parentheses_from c) = c
 
-pub not_closed : (d room : ℕ) (ts us : List Token) (m : MarkerParts) → ChainFrom Or d ts m us →
-    ends_or us ≡ true → is_closed us ≡ false → NoItem (d + 1) room (open_parenthesis ∷ ts)
-not_closed d room ts us m c e other n rest i =
+pub not_closed : (d room : ℕ) (ts us : List Token) (m : MarkerParts) → ChainTo Or d ts m us →
+    is_closed us ≡ false → NoFront (ItemFrom (d + 1) (open_parenthesis ∷ ts)) room
+not_closed d room ts us m (c, e) other n rest i =
     let same = same_chain c (inside d ts rest n i) e refl in
     absurd (cc (ap is_closed same.1, other))
 
 -- ---- a comparison
 
-pub comparison_here : (l r : Operand) (o : Operator) (ts us rest : List Token) (m : MarkerParts) →
-    ts ≡ operator o ∷ us → us ≡ operand r ∷ rest → m ≡ compare l o r →
-    (d : ℕ) → ItemFrom d (operand l ∷ ts) m rest
-comparison_here l r o ts us rest m e f g d =
-    subst (λ x. ItemFrom d (operand l ∷ x) m rest) (sym (e ∙ ap (λ x. operator o ∷ x) f))
-    (subst (λ x. ItemFrom d (operand l ∷ operator o ∷ operand r ∷ rest) x rest) (sym g)
-    comparison_from)
+pub comparison_here : {A : MarkerParts → Type 0} (l r : Operand) (o : Operator) (room : ℕ)
+    (ts us rest : List Token) → ts ≡ operator o ∷ us → us ≡ operand r ∷ rest → A (compare l o r) →
+    1 ≤ room → (d : ℕ) → IsFront (ItemFrom d (operand l ∷ ts)) A room 1 rest
+comparison_here l r o room ts us rest e f h some d = record {
+  marker = compare l o r;
+  stands = subst (λ x. ItemFrom d (operand l ∷ x) (compare l o r) rest)
+      (sym (e ∙ ap (λ x. operator o ∷ x) f)) comparison_from;
+  meant = h;
+  counted = refl;
+  few = some;
+}
 
 -- an operand stands in front of the tokens behind it
 pub operand_first : (ts : List cut.Token) (t : cut.Token) (side : Side) → 1 ≤ length ts →
@@ -148,39 +168,41 @@ refuses_in P Q d n room left ts us e f g (inr (inr (h, many), p)) = inr (inr (h,
 
 no_chain_next : (l : Link) (d room count : ℕ) (ts : List Token) (m : MarkerParts)
     (rest behind : List Token) → count ≡ comparisons m → SoFar l d ts m rest →
-    rest ≡ link_word l ∷ behind → NoPart l d (room - count) behind → NoChain l d room ts
+    rest ≡ link_word l ∷ behind → NoFront (PartTo l d behind) (room - count) →
+    NoFront (ChainTo l d ts) room
 no_chain_next l d room count ts m rest behind f so e none =
     no_next l d room ts m behind (subst (λ x. SoFar l d ts m x) e so)
-    (subst (λ n. NoPart l d (room - n) behind) f none)
+    (subst (λ n. NoFront (PartTo l d behind) (room - n)) f none)
 
 many_next : (d room count : ℕ) (ts behind : List Token) → AreMore count ts behind →
     AreTooMany d (room - count) behind → AreTooMany d room ts
 many_next d room count ts behind h (inl deep) = inl (omega (arith, deep, h.by_opened))
 many_next d room count ts behind h (inr long) = inr (omega (arith, long, h.by_operators))
 
-pub chain_refused : (l : Link) (d room count : ℕ) (ts : List Token) (m : MarkerParts)
-    (rest behind : List Token) (fault : MarkerFault) → count ≡ comparisons m → SoFar l d ts m rest →
-    rest ≡ link_word l ∷ behind →
-    Refuses (NoPart l d (room - count) behind) d (room - count) behind fault →
-    Refuses (NoChain l d room ts) d room ts fault
-chain_refused l d room count ts m rest behind fault f so e h =
-    let more = subst (λ n. AreMore n ts rest) (sym f) (chain_more (whole l d ts m rest so)) in
-    refuses_in (NoPart l d (room - count) behind) (NoChain l d room ts) d d (room - count) room behind ts
-    fault (no_chain_next l d room count ts m rest behind f so e)
-    (many_next d room count ts behind (more_behind l count ts rest behind e more)) h
+pub chain_refused : {A : MarkerParts → Type 0} (l : Link) (d room count : ℕ)
+    (ts rest behind : List Token) (fault : MarkerFault) → IsFront (SoFar l d ts) A room count rest →
+    rest ≡ link_word l ∷ behind → RefusesFront (PartTo l) d (room - count) behind fault →
+    RefusesFront (ChainTo l) d room ts fault
+chain_refused l d room count ts rest behind fault h e refused =
+    let here = h.stands.chains h.marker rest rest_end in
+    let more = subst (λ n. AreMore n ts rest) (sym h.counted) (chain_more here) in
+    refuses_in (NoFront (PartTo l d behind) (room - count)) (NoFront (ChainTo l d ts) room) d d
+    (room - count) room behind ts fault
+    (no_chain_next l d room count ts h.marker rest behind h.counted h.stands e)
+    (many_next d room count ts behind (more_behind l count ts rest behind e more)) refused
 
-pub chain_step : (l : Link) (d : ℕ) (ts : List Token) (m n k : MarkerParts)
-    (rest behind after : List Token) → SoFar l d ts m rest → rest ≡ link_word l ∷ behind →
-    PartFrom l d behind n after → part_ends l after ≡ true → k ≡ joined l m n →
-    SoFar l d ts k after
-chain_step l d ts m n k rest behind after so e i over f =
-    subst (λ x. SoFar l d ts x after) (sym f)
-    (next_so l d ts m n behind after (subst (λ x. SoFar l d ts m x) e so) i over)
-
--- the count of comparisons goes along
-pub counted : (l : Link) (a b : ℕ) (m n k : MarkerParts) → a ≡ comparisons m →
-    b ≡ comparisons n → k ≡ joined l m n → a + b ≡ comparisons k
-counted l a b m n k e f g = rw (g, comparisons-joined l m n, e, f) refl
+pub chain_step : {A B C : MarkerParts → Type 0} (l : Link) (d room count n : ℕ)
+    (ts rest behind after : List Token) → IsFront (SoFar l d ts) A room count rest →
+    rest ≡ link_word l ∷ behind → IsFront (PartTo l d behind) B (room - count) n after →
+    Joins l A B C → IsFront (SoFar l d ts) C room (count + n) after
+chain_step l d room count n ts rest behind after h e g joins = record {
+  marker = joined l h.marker g.marker;
+  stands = next_so l d ts h.marker g.marker behind after
+      (subst (λ x. SoFar l d ts h.marker x) e h.stands) g.stands;
+  meant = joins h.marker g.marker h.meant g.meant;
+  counted = omega (arith, h.counted, g.counted, comparisons-joined l h.marker g.marker);
+  few = omega (arith, h.few, g.few);
+}
 
 -- fewer tokens are left
 pub left_shorter : (xs ys zs : List cut.Token) (t : Token) → map token_of xs ≡ t ∷ map token_of ys →

@@ -9,8 +9,8 @@ use Rattle.pep_marker.specs.declared.fault.MarkerFault.{MarkerFault}
 use Rattle.pep_marker.specs.declared.fault.MarkerFault.TheVariants.{NoMemory}
 use Rattle.pep_marker.specs.Way.Token.{token_of}
 use Rattle.pep_marker.specs.declared.token.Token as cut
-use Rattle.pep_marker.specs.Way.Chains.{ChainFrom, NoChain, Refuses, ends_or}
-use Rattle.pep_marker.specs.declared.chains.Link.TheVariants.{Or}
+use Rattle.pep_marker.specs.Way.Chains.{ChainFrom, ChainTo, IsFront, IsWhole, NoFront, NoWhole, Refuses}
+use Rattle.pep_marker.specs.declared.making.Link.TheVariants.{Or}
 use Rattle.pep_marker.proofs.ChainLaws.{chain_grammar, one_marker_of_tokens, same_chain}
 use Rattle.pep_marker.proofs.ChainLaws.{whole_from}
 use Rattle.pep_marker.proofs.ChainTexts.{or_tokens}
@@ -48,7 +48,7 @@ no_tokens x none m h = none h.tokens h.written
 
 -- nor one whose tokens are no chain
 no_chain : (x : List ℕ) (ts : List Token) → HasTokens x ts →
-    ((m : MarkerParts) → ChainFrom Or 64 ts m [] → 1024 < comparisons m) → NoMarker x
+    NoWhole ts → NoMarker x
 no_chain x ts h none m marker =
     let more = none m (whole_from (tokens_are x ts m h marker)) in
     omega (arith, more, marker.few)
@@ -56,35 +56,46 @@ no_chain x ts h none m marker =
 -- ---- the steps of the code, with the tokens that it reads as its caller has them
 
 -- what is read to its end is a marker
-pub read_marker : (x : List ℕ) (found ts : List Token) (m : MarkerParts) → ts ≡ found →
-    HasTokens x found → ChainFrom Or 64 ts m [] → comparisons m ≤ 1024 → IsMarker x m
-read_marker x found ts m same h c few =
-    let (used, f, g) = chain_grammar c in
-    record {
-      tokens = used;
-      written = subst (HasTokens x) (sym same ∙ f ∙ append-nil used) h;
-      grammar = g;
-      few = few;
-    }
+pub read_marker : {A : MarkerParts → Type 0} (x : List ℕ) (found ts : List Token) → ts ≡ found →
+    HasTokens x found → IsWhole ts A → (m : MarkerParts) × IsMarker x m × A m
+read_marker x found ts same h whole =
+    let (used, f, g) = chain_grammar whole.chain in (
+      whole.marker,
+      record {
+        tokens = used;
+        written = subst (HasTokens x) (sym same ∙ f ∙ append-nil used) h;
+        grammar = g;
+        few = whole.few;
+      },
+      whole.meant,
+    )
 
--- where something is left behind the chain at the front, the tokens are no chain
-pub left_behind : (ts rest : List Token) (m : MarkerParts) → ChainFrom Or 64 ts m rest →
-    ends_or rest ≡ true → 0 < length rest → (n : MarkerParts) → ChainFrom Or 64 ts n [] →
-    1024 < comparisons n
-left_behind ts rest m c e some n whole =
+-- where nothing is left behind the chain at the front, the tokens are this chain
+pub whole_read : {A : MarkerParts → Type 0} (count : ℕ) (ts rest : List Token) →
+    IsFront (ChainTo Or 64 ts) A 1024 count rest → rest ≡ [] → IsWhole ts A
+whole_read count ts rest h none = record {
+  marker = h.marker;
+  chain = subst (ChainFrom Or 64 ts h.marker) none h.stands.0;
+  meant = h.meant;
+  few = omega (arith, h.counted, h.few);
+}
+
+-- and where something is, they are none
+pub left_behind : (ts rest : List Token) (m : MarkerParts) → ChainTo Or 64 ts m rest →
+    0 < length rest → NoWhole ts
+left_behind ts rest m (c, e) some n whole =
     let one = same_chain c whole e refl in
     omega (arith, some, ap length one.1)
 
 -- nor where there is no chain at the front
-pub none_whole : (ts : List Token) → NoChain Or 64 1024 ts → (m : MarkerParts) →
-    ChainFrom Or 64 ts m [] → 1024 < comparisons m
-none_whole ts none m whole = none m [] whole refl
+pub none_whole : (ts : List Token) → NoFront (ChainTo Or 64 ts) 1024 → NoWhole ts
+none_whole ts none m whole = none m [] (whole, refl)
 
 -- there is no marker where the tokens that are found, which may not be the whole text, are no chain
 pub no_chain_of : (x : List ℕ) (found ts : List Token) (whole : Bool) → ts ≡ found →
     (whole ≡ true → HasTokens x found) →
     (whole ≡ false → (us : List Token) → ¬ HasTokens x us) →
-    ((m : MarkerParts) → ChainFrom Or 64 ts m [] → 1024 < comparisons m) → NoMarker x
+    NoWhole ts → NoMarker x
 no_chain_of x found ts true same h stopped none =
     no_chain x ts (subst (HasTokens x) (sym same) (h refl)) none
 no_chain_of x found ts false same h stopped none = no_tokens x (stopped refl)
@@ -108,10 +119,6 @@ none_left (u ∷ us) e = absurd (not_empty u us e)
   where
     not_empty : (u : cut.Token) (us : List cut.Token) → ¬ ((length (u ∷ us) == 0) ≡ true)
     not_empty u us e = grind (arith, nat_tests)
-
-pub few_enough : (count : ℕ) (m : MarkerParts) → count ≡ comparisons m → count ≤ 1024 →
-    comparisons m ≤ 1024
-few_enough count m e few = omega (arith, e, few)
 
 -- ---- white space behind a marker says nothing
 

@@ -1,56 +1,47 @@
 // The chains of comparisons in the tokens of a marker (PEP 508, "Grammar"): `and` binds closer than
 // `or`, and both group to the left.
 
-ghost use Rattle.std.specs.Prelude.{◌≡◌, ℕ, ◌+◌, ◌≤◌, ◌∷◌, IfErr, IfNone, IfOk, IfSome, None};
-ghost use Rattle.std.specs.Prelude.{false, map, true};
+ghost use Rattle.std.specs.Prelude.{◌≡◌, ◌⊎◌, ℕ, ◌+◌, ◌≤◌, ◌∷◌, IfErr, IfNone, IfOk, IfSome};
+ghost use Rattle.std.specs.Prelude.{None, false, map, true};
 ghost use Rattle.pep_marker.specs.Way.Chains.{
-  ChainFrom,
+  ChainTo,
+  IsRead,
+  IsWhole,
   ItemFrom,
-  NoChain,
-  NoItem,
-  NoPart,
-  PartFrom,
+  NoWhole,
+  PartTo,
   Refuses,
+  RefusesFront,
   ends,
   first_operand,
   first_operator,
   is_closed,
-  joined,
   link_word,
   part_ends,
 };
 ghost use Rattle.pep_marker.specs.Marker as syntax;
-ghost use Rattle.pep_marker.specs.Marker.{comparisons};
+ghost use Rattle.pep_marker.specs.Marker.{IsMarker, IsNoMarker, MarkerParts};
 ghost use Rattle.pep_marker.specs.Way.Token.{operand_of, token_of};
-ghost use Rattle.pep_marker.specs.View.{operand_parts, operator_parts, tree_parts};
+ghost use Rattle.pep_marker.specs.View.{operator_parts};
 
 use crate::fault::MarkerFault;
-use crate::marker::{Operand, Operator, Tree};
-use crate::token::{Lexeme, Side, Token};
-use std::alloc::{AllocError, Global};
+use crate::making::{Link, Making};
+use crate::marker::Operator;
+use crate::token::{Lexeme, Side, Token, tokens_of};
+use std::alloc::Global;
 
-// What joins markers: items under `and`, and and-chains under `or`.
-#[derive(Clone, Copy)]
-pub(crate) enum Link {
-    And,
-    Or,
-}
+// How many parentheses may be open at once.
+const DEPTH: usize = 64;
+// How many comparisons a marker may have.
+const COMPARISONS: usize = 1024;
 
-// A marker at the front of some tokens, how many comparisons it has, and the tokens behind it.
+// What is made of a marker at the front of some tokens, how many comparisons it has, and the tokens
+// behind it.
 #[derive(Drop)]
-pub(crate) struct Front<'t, 'a> {
-    pub(crate) tree: Tree,
+pub(crate) struct Front<'t, 'a, P> {
+    pub(crate) part: P,
     pub(crate) comparisons: usize,
     pub(crate) rest: &'t [Token<'a>],
-}
-
-fn operand(alloc: Global, side: Side) -> Result<Operand, AllocError>
-    ensures { IfOk result (λ o. operand_parts o ≡ operand_of side.entry) }
-{
-    match side {
-        Side::Variable(variable) => Ok(Operand::Variable(variable)),
-        Side::Text(text) => Ok(Operand::Text(String::from_str(alloc, text)?)),
-    }
 }
 
 // The operator at the front of the tokens, and the tokens behind it.
@@ -83,31 +74,18 @@ fn operand_at<'t, 'a>(tokens: &'t [Token<'a>]) -> Option<(Side<'a>, &'t [Token<'
     }
 }
 
-fn compared(alloc: Global, left: Side, operator: Operator, right: Side) -> Result<Tree, AllocError>
-    ensures { IfOk result (λ t. tree_parts t ≡ syntax.compare (operand_of left.entry)
-        (operator_parts operator) (operand_of right.entry)) }
-{
-    let left = operand(alloc, left)?;
-    let right = operand(alloc, right)?;
-    Ok(Tree::Comparison(left, operator, right))
-}
-
 // The comparison of this operand with what is behind it.
-fn comparison<'t, 'a>(
+fn comparison<'t, 'a, M: Making>(
     alloc: Global,
+    making: &M,
     left: Side<'a>,
     behind: &'t [Token<'a>],
     room: usize,
-) -> Result<Front<'t, 'a>, MarkerFault>
-    ensures read { (depth : ℕ)
-        → IfOk result (λ f. ItemFrom depth (syntax.operand (operand_of left.entry) ∷ map token_of behind.now)
-        (tree_parts f.tree) (map token_of f.rest.now)) }
-    ensures count { IfOk result (λ f. f.comparisons ≡ comparisons (tree_parts f.tree)) }
-    ensures room { IfOk result (λ f. f.comparisons ≤ room) }
-    ensures refused { (depth : ℕ)
-        → IfErr result (Refuses
-        (NoItem depth room (syntax.operand (operand_of left.entry) ∷ map token_of behind.now))
-        depth room (syntax.operand (operand_of left.entry) ∷ map token_of behind.now)) }
+) -> Result<Front<'t, 'a, M::Part>, MarkerFault>
+    ensures read { (depth : ℕ) → IfOk result (IsRead (M.means making.now)
+        (ItemFrom depth (syntax.operand (operand_of left.entry) ∷ map token_of behind.now)) room) }
+    ensures refused { (depth : ℕ) → IfErr result (RefusesFront ItemFrom depth room
+        (syntax.operand (operand_of left.entry) ∷ map token_of behind.now)) }
 {
     let Some((operator, behind)) = operator_at(behind) else {
         return Err(MarkerFault::BadMarker);
@@ -119,7 +97,7 @@ fn comparison<'t, 'a>(
         return Err(MarkerFault::TooDeep);
     }
     Ok(Front {
-        tree: compared(alloc, left, operator, right)?,
+        part: making.compared(alloc, left, operator, right)?,
         comparisons: 1,
         rest,
     })
@@ -128,50 +106,45 @@ fn comparison<'t, 'a>(
 // The item at the front of the tokens, where `depth` parentheses more may be opened, and there is
 // room for so many comparisons.
 #[cycle(chains)]
-fn item_at<'t, 'a>(
+fn item_at<'t, 'a, M: Making>(
     alloc: Global,
+    making: &M,
     tokens: &'t [Token<'a>],
     depth: usize,
     room: usize,
-) -> Result<Front<'t, 'a>, MarkerFault>
+) -> Result<Front<'t, 'a, M::Part>, MarkerFault>
     requires { room ≤ 1024 }
-    ensures read { IfOk result (λ f. ItemFrom depth (map token_of tokens.now) (tree_parts f.tree)
-        (map token_of f.rest.now)) }
-    ensures count { IfOk result (λ f. f.comparisons ≡ comparisons (tree_parts f.tree)) }
-    ensures room { IfOk result (λ f. f.comparisons ≤ room) }
-    ensures refused { IfErr result (Refuses (NoItem depth room (map token_of tokens.now))
-        depth room (map token_of tokens.now)) }
+    ensures read { IfOk result (IsRead (M.means making.now)
+        (ItemFrom depth (map token_of tokens.now)) room) }
+    ensures refused { IfErr result (RefusesFront ItemFrom depth room (map token_of tokens.now)) }
 {
     let [first, behind @ ..] = tokens else {
         return Err(MarkerFault::BadMarker);
     };
     match first.lexeme {
-        Lexeme::Operand(left) => comparison(alloc, left, behind, room),
+        Lexeme::Operand(left) => comparison(alloc, making, left, behind, room),
         Lexeme::Open if depth == 0 => Err(MarkerFault::TooDeep),
-        Lexeme::Open => in_parentheses(alloc, behind, depth - 1, room),
+        Lexeme::Open => in_parentheses(alloc, making, behind, depth - 1, room),
         _ => Err(MarkerFault::BadMarker),
     }
 }
 
 // The or-chain behind a parenthesis that was opened, up to the one that closes it.
 #[cycle(chains)]
-fn in_parentheses<'t, 'a>(
+fn in_parentheses<'t, 'a, M: Making>(
     alloc: Global,
+    making: &M,
     behind: &'t [Token<'a>],
     depth: usize,
     room: usize,
-) -> Result<Front<'t, 'a>, MarkerFault>
+) -> Result<Front<'t, 'a, M::Part>, MarkerFault>
     requires { room ≤ 1024 }
-    ensures read { IfOk result (λ f. ItemFrom (depth + 1)
-        (syntax.open_parenthesis ∷ map token_of behind.now) (tree_parts f.tree)
-        (map token_of f.rest.now)) }
-    ensures count { IfOk result (λ f. f.comparisons ≡ comparisons (tree_parts f.tree)) }
-    ensures room { IfOk result (λ f. f.comparisons ≤ room) }
-    ensures refused { IfErr result (Refuses (NoItem (depth + 1) room
-        (syntax.open_parenthesis ∷ map token_of behind.now)) (depth + 1) room
+    ensures read { IfOk result (IsRead (M.means making.now)
+        (ItemFrom (depth + 1) (syntax.open_parenthesis ∷ map token_of behind.now)) room) }
+    ensures refused { IfErr result (RefusesFront ItemFrom (depth + 1) room
         (syntax.open_parenthesis ∷ map token_of behind.now)) }
 {
-    let front = chain(alloc, Link::Or, behind, depth, room)?;
+    let front = chain(alloc, making, Link::Or, behind, depth, room)?;
     let Some(rest) = behind_close(front.rest) else {
         return Err(MarkerFault::BadMarker);
     };
@@ -180,50 +153,49 @@ fn in_parentheses<'t, 'a>(
 
 // The first part of a chain at the front of the tokens.
 #[cycle(chains)]
-fn part_at<'t, 'a>(
+fn part_at<'t, 'a, M: Making>(
     alloc: Global,
+    making: &M,
     link: Link,
     tokens: &'t [Token<'a>],
     depth: usize,
     room: usize,
-) -> Result<Front<'t, 'a>, MarkerFault>
+) -> Result<Front<'t, 'a, M::Part>, MarkerFault>
     requires { room ≤ 1024 }
-    ensures read { IfOk result (λ f. PartFrom link depth (map token_of tokens.now)
-        (tree_parts f.tree) (map token_of f.rest.now)) }
-    ensures ended { IfOk result (λ f. part_ends link (map token_of f.rest.now) ≡ true) }
-    ensures count { IfOk result (λ f. f.comparisons ≡ comparisons (tree_parts f.tree)) }
-    ensures room { IfOk result (λ f. f.comparisons ≤ room) }
-    ensures refused { IfErr result (Refuses (NoPart link depth room (map token_of tokens.now))
-        depth room (map token_of tokens.now)) }
+    ensures read { IfOk result (IsRead (M.means making.now)
+        (PartTo link depth (map token_of tokens.now)) room) }
+    ensures refused { IfErr result (RefusesFront (PartTo link) depth room (map token_of tokens.now)) }
 {
     match link {
-        Link::And => item_at(alloc, tokens, depth, room),
-        Link::Or => chain(alloc, Link::And, tokens, depth, room),
+        Link::And => item_at(alloc, making, tokens, depth, room),
+        Link::Or => chain(alloc, making, Link::And, tokens, depth, room),
     }
 }
 
 // The chain at the front of the tokens.
 #[cycle(chains)]
-pub(crate) fn chain<'t, 'a>(
+fn chain<'t, 'a, M: Making>(
     alloc: Global,
+    making: &M,
     link: Link,
     tokens: &'t [Token<'a>],
     depth: usize,
     room: usize,
-) -> Result<Front<'t, 'a>, MarkerFault>
+) -> Result<Front<'t, 'a, M::Part>, MarkerFault>
     requires { room ≤ 1024 }
-    ensures read { IfOk result (λ f. ChainFrom link depth (map token_of tokens.now)
-        (tree_parts f.tree) (map token_of f.rest.now)) }
-    ensures ended { IfOk result (λ f. ends link (map token_of f.rest.now) ≡ true) }
-    ensures count { IfOk result (λ f. f.comparisons ≡ comparisons (tree_parts f.tree)) }
-    ensures room { IfOk result (λ f. f.comparisons ≤ room) }
-    ensures refused { IfErr result (Refuses (NoChain link depth room (map token_of tokens.now))
-        depth room (map token_of tokens.now)) }
+    ensures read { IfOk result (IsRead (M.means making.now)
+        (ChainTo link depth (map token_of tokens.now)) room) }
+    ensures refused { IfErr result (RefusesFront (ChainTo link) depth room (map token_of tokens.now)) }
 {
-    let mut front = part_at(alloc, link, tokens, depth, room)?;
+    let mut front = part_at(alloc, making, link, tokens, depth, room)?;
     while let Some(behind) = behind_word(link, front.rest) {
-        let next = part_at(alloc, link, behind, depth, room - front.comparisons)?;
-        front = join(alloc, link, front, next)?;
+        let left = room - front.comparisons;
+        let next = part_at(alloc, making, link, behind, depth, left)?;
+        front = Front {
+            part: making.joined(alloc, link, front.part, next.part)?,
+            comparisons: front.comparisons + next.comparisons,
+            rest: next.rest,
+        };
     }
     Ok(front)
 }
@@ -256,34 +228,38 @@ fn behind_word<'t, 'a>(link: Link, tokens: &'t [Token<'a>]) -> Option<&'t [Token
     }
 }
 
-// The tree of two trees, each in storage of its own.
-fn joined_tree(alloc: Global, link: Link, left: Tree, right: Tree) -> Result<Tree, AllocError>
-    ensures { IfOk result (λ t. tree_parts t ≡ joined link (tree_parts left) (tree_parts right)) }
+// What is made of the marker that the tokens are, to their end.
+fn made_of_tokens<M: Making>(
+    alloc: Global,
+    making: &M,
+    tokens: &[Token],
+) -> Result<M::Part, MarkerFault>
+    ensures read { IfOk result (λ part. IsWhole (map token_of tokens.now)
+        (M.means making.now part)) }
+    ensures refused { IfErr result (Refuses (NoWhole (map token_of tokens.now))
+        64 1024 (map token_of tokens.now)) }
 {
-    let left = Box::new(alloc, left)?;
-    let right = Box::new(alloc, right)?;
-    Ok(match link {
-        Link::And => Tree::And(left, right),
-        Link::Or => Tree::Or(left, right),
-    })
+    let front = chain(alloc, making, Link::Or, tokens, DEPTH, COMPARISONS)?;
+    if !front.rest.is_empty() {
+        return Err(MarkerFault::BadMarker);
+    }
+    Ok(front.part)
 }
 
-fn join<'t, 'a>(
+// What is made of the marker that the text is.
+pub(crate) fn made_of<M: Making>(
     alloc: Global,
-    link: Link,
-    left: Front<'t, 'a>,
-    right: Front<'t, 'a>,
-) -> Result<Front<'t, 'a>, AllocError>
-    requires { left.comparisons + right.comparisons ≤ 1024 }
-    ensures tree { IfOk result (λ f. tree_parts f.tree
-        ≡ joined link (tree_parts left.entry.tree) (tree_parts right.entry.tree)) }
-    ensures count { IfOk result (λ f. f.comparisons
-        ≡ left.entry.comparisons + right.entry.comparisons) }
-    ensures rest { IfOk result (λ f. f.rest ≡ right.entry.rest) }
+    making: &M,
+    text: &str,
+) -> Result<M::Part, MarkerFault>
+    ensures ok { IfOk result (λ part. (m : MarkerParts) × IsMarker text.now m
+        × M.means making.now part m) }
+    ensures refused { IfErr result (λ e. (e ≡ MarkerFault.NoMemory) ⊎ IsNoMarker text.now e) }
 {
-    Ok(Front {
-        tree: joined_tree(alloc, link, left.tree, right.tree)?,
-        comparisons: left.comparisons + right.comparisons,
-        rest: right.rest,
-    })
+    let found = tokens_of(alloc, text)?;
+    let part = made_of_tokens(alloc, making, found.items.as_slice())?;
+    if !found.whole {
+        return Err(MarkerFault::BadMarker);
+    }
+    Ok(part)
 }

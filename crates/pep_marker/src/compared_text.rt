@@ -10,13 +10,13 @@ ghost use Rattle.pep_marker.specs.Holds.{operand_value};
 ghost use Rattle.pep_marker.specs.Name.{normalized};
 ghost use Rattle.pep_marker.specs.NormalView.{normal_bytes};
 ghost use Rattle.pep_marker.specs.Way.ComparedView.{VersionsSay, compared_bytes};
+ghost use Rattle.pep_marker.specs.Way.Token.{operand_of};
 ghost use Rattle.pep_marker.specs.Way.Value.{IsVersionOf};
-ghost use Rattle.pep_marker.specs.View.{operand_parts};
 
 use crate::environment::Environment;
 use crate::fault::MarkerFault;
-use crate::marker::Operand;
 use crate::normal::Normal;
+use crate::token::Side;
 use crate::value::{Value, version_of};
 use pep_version::Version;
 use specifiers::{Clause, Op};
@@ -31,12 +31,12 @@ pub(crate) enum ComparedText<'a> {
 
 impl<'a> ComparedText<'a> {
     /// The text of an operand in an environment.
-    pub(crate) fn of(environment: &'a Environment, operand: &'a Operand) -> ComparedText<'a>
-        ensures { compared_bytes result ≡ operand_value environment.now (operand_parts operand.now) }
+    pub(crate) fn of(environment: &'a Environment, side: Side<'a>) -> ComparedText<'a>
+        ensures { compared_bytes result ≡ operand_value environment.now (operand_of side.entry) }
     {
-        match operand {
-            Operand::Variable(variable) => ComparedText::Known(environment.known(*variable)),
-            Operand::Text(text) => ComparedText::Written(text.as_str()),
+        match side {
+            Side::Variable(variable) => ComparedText::Known(environment.known(variable)),
+            Side::Text(text) => ComparedText::Written(text),
         }
     }
 

@@ -14,15 +14,18 @@ ghost use Rattle.pep_marker.specs.Holds.{
 ghost use Rattle.pep_marker.specs.Marker as syntax;
 ghost use Rattle.pep_marker.specs.Name.{normalized};
 ghost use Rattle.pep_marker.specs.Way.ComparedView.{VersionsSay, compared_bytes};
+ghost use Rattle.pep_marker.specs.Way.Token.{operand_of};
 ghost use Rattle.pep_marker.specs.View.{marker_parts, operand_parts, operator_parts, tree_parts};
 
 use crate::compared_text::ComparedText;
 use crate::environment::{Environment, Variable};
 use crate::fault::MarkerFault;
+use crate::making::{Link, Making};
 use crate::marker::{Marker, Operand, Operator, Tree};
+use crate::token::Side;
 use crate::value::{Value, clause_of};
 use specifiers::Op;
-use std::alloc::Global;
+use std::alloc::{AllocError, Global};
 
 // True, false, or undefined.
 type Truth = Option<bool>;
@@ -57,7 +60,7 @@ fn tree_truth(alloc: Global, environment: &Environment, tree: &Tree) -> Result<T
 {
     match tree {
         Tree::Comparison(left, operator, right) => {
-            comparison_truth(alloc, environment, left, *operator, right)
+            comparison_truth(alloc, environment, left.side(), *operator, right.side())
         }
         Tree::And(left, right) => {
             let left = tree_truth(alloc, environment, left)?;
@@ -69,6 +72,51 @@ fn tree_truth(alloc: Global, environment: &Environment, tree: &Tree) -> Result<T
             let right = tree_truth(alloc, environment, right)?;
             Ok(or_truth(left, right))
         }
+    }
+}
+
+impl Operand {
+    // The side that it is of a comparison.
+    fn side(&self) -> Side<'_>
+        ensures { operand_of result ≡ operand_parts self.now }
+    {
+        match self {
+            Operand::Variable(variable) => Side::Variable(*variable),
+            Operand::Text(text) => Side::Text(text.as_str()),
+        }
+    }
+}
+
+// Judges markers, whose trees nobody makes.
+impl Making for Environment {
+    type Part = Truth;
+
+    ghost means = { λ e t m. Evaluates e m t };
+
+    fn compared(
+        &self,
+        alloc: Global,
+        left: Side<'_>,
+        operator: Operator,
+        right: Side<'_>,
+    ) -> Result<Truth, AllocError> {
+        let Ok(truth) = comparison_truth(alloc, self, left, operator, right) else {
+            return Err(AllocError);
+        };
+        Ok(truth)
+    }
+
+    fn joined(
+        &self,
+        _: Global,
+        link: Link,
+        left: Truth,
+        right: Truth,
+    ) -> Result<Truth, AllocError> {
+        Ok(match link {
+            Link::And => and_truth(left, right),
+            Link::Or => or_truth(left, right),
+        })
     }
 }
 
@@ -90,23 +138,24 @@ fn or_truth(left: Truth, right: Truth) -> Truth
     }
 }
 
-fn is_extra(operand: &Operand) -> bool
-    ensures { result ≡ is_extra (operand_parts operand.now) }
+fn is_extra(side: Side) -> bool
+    ensures { result ≡ is_extra (operand_of side.entry) }
 {
-    matches!(operand, Operand::Variable(Variable::Extra))
+    matches!(side, Side::Variable(Variable::Extra))
 }
 
-// Not part of the frame of `tree_truth`, of which there are as many as comparisons in a chain.
+// Not part of the frame of a function that calls itself: of those of `tree_truth` there are as many
+// as comparisons in a chain.
 #[inline(never)]
 fn comparison_truth(
     alloc: Global,
     environment: &Environment,
-    left: &Operand,
+    left: Side,
     operator: Operator,
-    right: &Operand,
+    right: Side,
 ) -> Result<Truth, MarkerFault>
     ensures value { IfOk result (λ t. Evaluates environment.now (syntax.compare
-        (operand_parts left.now) (operator_parts operator) (operand_parts right.now)) t) }
+        (operand_of left.entry) (operator_parts operator) (operand_of right.entry)) t) }
     ensures faults { IfErr result (λ e. e ≡ MarkerFault.NoMemory) }
 {
     let left_text = ComparedText::of(environment, left);

@@ -3,9 +3,9 @@
 ghost use Rattle.std.specs.Prelude.{◌≡◌, IfErr, IfOk, Some};
 ghost use Rattle.pep_marker.specs.Judged.{RefusesText, TextSays};
 
+use crate::chains::made_of;
 use crate::environment::Environment;
 use crate::fault::MarkerFault;
-use crate::marker::Marker;
 use std::alloc::Global;
 use std::marker::Model;
 use text_memory::{OfText, TextMemory};
@@ -109,6 +109,8 @@ fn truth_of(alloc: Global, environment: &Environment, text: &str) -> Result<bool
     ensures value { IfOk result (λ b. TextSays environment.now text.now (Some b)) }
     ensures faults { IfErr result (RefusesText environment.now text.now) }
 {
-    let marker = Marker::read(alloc, text)?;
-    marker.holds(alloc, environment)
+    match made_of(alloc, environment, text)? {
+        Some(truth) => Ok(truth),
+        None => Err(MarkerFault::Undefined),
+    }
 }

@@ -10,6 +10,7 @@ mod header;
 mod holds;
 mod judged;
 pub mod laws;
+mod making;
 mod marker;
 mod name;
 mod name_text;

@@ -1,12 +1,14 @@
 -- The chains of a marker at the front of a list of tokens, read from left to right, with the
 -- tokens that are left. This is the code's way: the grammar stands in `Marker`.
-use Rattle.std.specs.Prelude.{◌≡◌, ℕ, suc, ◌<◌, ◌⊎◌, Bool, true, false, List, ◌∷◌}
+use Rattle.std.specs.Prelude.{◌≡◌, ℕ, suc, ◌<◌, ◌≤◌, ◌⊎◌, Bool, true, false, List, [], ◌∷◌, map}
 use Rattle.std.specs.Prelude.{Option, Some, None}
 use Rattle.pep_marker.specs.Marker.{Operand, Operator, MarkerParts, compare, and, or, comparisons}
 use Rattle.pep_marker.specs.Marker.{Token, open_parenthesis, close_parenthesis, and_word, or_word}
 use Rattle.pep_marker.specs.Marker.{operand, operator, AreTooMany}
-use Rattle.pep_marker.specs.declared.chains.Link.{Link}
-use Rattle.pep_marker.specs.declared.chains.Link.TheVariants.{And, Or}
+use Rattle.pep_marker.specs.Way.Token.{token_of}
+use Rattle.pep_marker.specs.declared.chains.Front.{Front}
+use Rattle.pep_marker.specs.declared.making.Link.{Link}
+use Rattle.pep_marker.specs.declared.making.Link.TheVariants.{And, Or}
 use Rattle.pep_marker.specs.declared.fault.MarkerFault.{MarkerFault}
 use Rattle.pep_marker.specs.declared.fault.MarkerFault.TheVariants.{BadMarker, TooDeep, NoMemory}
 
@@ -86,20 +88,37 @@ abbrev pub first_operand : List Token → Option Operand
 first_operand (operand o ∷ ts) = Some o
 first_operand ts = None
 
--- no item at the front has as few comparisons as there is room for
-abbrev pub NoItem : ℕ → ℕ → List Token → Type 0
-NoItem depth room ts =
-    (m : MarkerParts) (rest : List Token) → ItemFrom depth ts m rest → room < comparisons m
+-- a part, and a chain, at the front, read to its end
+abbrev pub PartTo : Link → ℕ → List Token → MarkerParts → List Token → Type 0
+PartTo link depth ts m rest = PartFrom link depth ts m rest × (part_ends link rest ≡ true)
 
--- no part at the front, read to its end, has as few
-abbrev pub NoPart : Link → ℕ → ℕ → List Token → Type 0
-NoPart link depth room ts = (m : MarkerParts) (rest : List Token) →
-    PartFrom link depth ts m rest → part_ends link rest ≡ true → room < comparisons m
+abbrev pub ChainTo : Link → ℕ → List Token → MarkerParts → List Token → Type 0
+ChainTo link depth ts m rest = ChainFrom link depth ts m rest × (ends link rest ≡ true)
 
--- no chain at the front, read to its end, has as few
-abbrev pub NoChain : Link → ℕ → ℕ → List Token → Type 0
-NoChain link depth room ts = (m : MarkerParts) (rest : List Token) →
-    ChainFrom link depth ts m rest → ends link rest ≡ true → room < comparisons m
+-- A marker is read up to this rest of the tokens. Something is made that means it, and it has so many
+-- comparisons, for which there is room.
+pub record IsFront (read : MarkerParts → List Token → Type 0) (means : MarkerParts → Type 0)
+    (room count : ℕ) (rest : List Token) : Type 0 where
+  pub marker : MarkerParts
+  pub stands : read marker rest
+  pub meant : means marker
+  pub counted : count ≡ comparisons marker
+  pub few : count ≤ room
+
+-- .. as the code has it
+abbrev pub IsRead : {P : Type 0} → (P → MarkerParts → Type 0) →
+    (MarkerParts → List Token → Type 0) → ℕ → Front P → Type 0
+IsRead means read room f =
+    IsFront read (means f.part) room f.comparisons (map token_of f.rest.now)
+
+-- what is meant of two markers is meant of the one that joins them
+abbrev pub Joins : Link → (MarkerParts → Type 0) → (MarkerParts → Type 0) →
+    (MarkerParts → Type 0) → Type 0
+Joins link left right both = (m n : MarkerParts) → left m → right n → both (joined link m n)
+
+-- no marker that is read has as few comparisons as there is room for
+abbrev pub NoFront : (MarkerParts → List Token → Type 0) → ℕ → Type 0
+NoFront read room = (m : MarkerParts) (rest : List Token) → read m rest → room < comparisons m
 
 -- The refusal is lack of memory, or one of the grammar, and then this holds; it is too deep only where
 -- the tokens have more `(` than may be opened, or more operators than there is room for.
@@ -107,3 +126,21 @@ abbrev pub Refuses : Type 0 → ℕ → ℕ → List Token → MarkerFault → T
 Refuses why depth room ts fault =
     (fault ≡ NoMemory)
     ⊎ (((fault ≡ BadMarker) ⊎ ((fault ≡ TooDeep) × AreTooMany depth room ts)) × why)
+
+-- no marker is read at the front of the tokens
+abbrev pub RefusesFront : (ℕ → List Token → MarkerParts → List Token → Type 0) → ℕ → ℕ →
+    List Token → MarkerFault → Type 0
+RefusesFront read depth room ts = Refuses (NoFront (read depth ts) room) depth room ts
+
+-- ---- all tokens
+
+-- Something is made that means the marker that the tokens are, which is within the limits.
+pub record IsWhole (ts : List Token) (means : MarkerParts → Type 0) : Type 0 where
+  pub marker : MarkerParts
+  pub chain : ChainFrom Or 64 ts marker []
+  pub meant : means marker
+  pub few : comparisons marker ≤ 1024
+
+-- they are no marker within the limits
+abbrev pub NoWhole : List Token → Type 0
+NoWhole ts = (m : MarkerParts) → ChainFrom Or 64 ts m [] → 1024 < comparisons m

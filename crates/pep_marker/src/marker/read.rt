@@ -1,21 +1,16 @@
 // How a marker is read.
 
-ghost use Rattle.std.specs.Prelude.{◌≡◌, ◌<◌, ◌≤◌, [], IfErr, IfOk, map};
-ghost use Rattle.pep_marker.specs.Way.Chains.{ChainFrom, Refuses};
-ghost use Rattle.pep_marker.specs.Marker.{MarkerParts, comparisons};
-ghost use Rattle.pep_marker.specs.Way.Token.{token_of};
-ghost use Rattle.pep_marker.specs.View.{tree_parts};
+ghost use Rattle.std.specs.Prelude.{◌≡◌, IfOk};
+ghost use Rattle.pep_marker.specs.Way.Chains.{joined};
+ghost use Rattle.pep_marker.specs.Way.Token.{operand_of};
+ghost use Rattle.pep_marker.specs.View.{operand_parts, tree_parts};
 
-use crate::chains::{Link, chain};
+use crate::chains::made_of;
 use crate::fault::MarkerFault;
-use crate::marker::{Marker, Tree};
-use crate::token::{Token, tokens_of};
-use std::alloc::Global;
-
-// How many parentheses may be open at once.
-const DEPTH: usize = 64;
-// How many comparisons a marker may have.
-const COMPARISONS: usize = 1024;
+use crate::making::{Link, Making};
+use crate::marker::{Marker, Operand, Operator, Tree};
+use crate::token::Side;
+use std::alloc::{AllocError, Global};
 
 impl Marker {
     ghost use Rattle.std.specs.Prelude.{◌≡◌, ◌⊎◌, IfErr, IfOk};
@@ -34,26 +29,59 @@ impl Marker {
         ensures ok { IfOk result (λ m. IsMarker text.now (marker_parts m)) }
         ensures refused { IfErr result (λ e. (e ≡ MarkerFault.NoMemory) ⊎ IsNoMarker text.now e) }
     {
-        let found = tokens_of(alloc, text)?;
-        let tree = tree_of(alloc, found.items.as_slice())?;
-        if !found.whole {
-            return Err(MarkerFault::BadMarker);
-        }
+        let tree = made_of(alloc, &Trees, text)?;
         Ok(Marker { tree })
     }
 }
 
-// The marker that the tokens are, to their end.
-fn tree_of(alloc: Global, tokens: &[Token]) -> Result<Tree, MarkerFault>
-    ensures read { IfOk result (λ t. ChainFrom Link.Or 64 (map token_of tokens.now) (tree_parts t) []) }
-    ensures few { IfOk result (λ t. comparisons (tree_parts t) ≤ 1024) }
-    ensures refused { IfErr result (Refuses ((m : MarkerParts)
-        → ChainFrom Link.Or 64 (map token_of tokens.now) m [] → 1024 < comparisons m)
-        64 1024 (map token_of tokens.now)) }
-{
-    let front = chain(alloc, Link::Or, tokens, DEPTH, COMPARISONS)?;
-    if !front.rest.is_empty() {
-        return Err(MarkerFault::BadMarker);
+// Makes the trees of markers.
+struct Trees;
+
+impl Making for Trees {
+    type Part = Tree;
+
+    ghost means = { λ _ t m. tree_parts t ≡ m };
+
+    fn compared(
+        &self,
+        alloc: Global,
+        left: Side<'_>,
+        operator: Operator,
+        right: Side<'_>,
+    ) -> Result<Tree, AllocError> {
+        let left = operand(alloc, left)?;
+        let right = operand(alloc, right)?;
+        Ok(Tree::Comparison(left, operator, right))
     }
-    Ok(front.tree)
+
+    fn joined(
+        &self,
+        alloc: Global,
+        link: Link,
+        left: Tree,
+        right: Tree,
+    ) -> Result<Tree, AllocError> {
+        joined_tree(alloc, link, left, right)
+    }
+}
+
+fn operand(alloc: Global, side: Side) -> Result<Operand, AllocError>
+    ensures { IfOk result (λ o. operand_parts o ≡ operand_of side.entry) }
+{
+    match side {
+        Side::Variable(variable) => Ok(Operand::Variable(variable)),
+        Side::Text(text) => Ok(Operand::Text(String::from_str(alloc, text)?)),
+    }
+}
+
+// The tree of two trees, each in storage of its own.
+fn joined_tree(alloc: Global, link: Link, left: Tree, right: Tree) -> Result<Tree, AllocError>
+    ensures { IfOk result (λ t. tree_parts t ≡ joined link (tree_parts left) (tree_parts right)) }
+{
+    let left = Box::new(alloc, left)?;
+    let right = Box::new(alloc, right)?;
+    Ok(match link {
+        Link::And => Tree::And(left, right),
+        Link::Or => Tree::Or(left, right),
+    })
 }

@@ -1,23 +1,7 @@
-use Rattle.std.proofs.Common.{map, ap}
-use Rattle.std.proofs.lemmas.Result.{err_from_is_err_and}
-use Rattle.pep_marker.specs.Way.Token.{token_of}
-use Rattle.pep_marker.proofs.MarkerLaws.{no_chain_of, no_marker_of, read_marker}
+use Rattle.std.proofs.Common.{subst, sym}
+use Rattle.pep_marker.specs.Marker.{IsMarker}
 use Rattle.pep_marker.proofs.marker.Marker.read.Goals as goal
-
-pub returns-in_err-tree-clause-refused : goal.returns-in_err-tree-clause-refused
-returns-in_err-tree-clause-refused c =
-    let p = err_from_is_err_and c.from_residual-in_err-tree.result
-    c.from_residual-in_err-tree.ensures.1 in
-    let same = ap (λ items. map token_of items) c.as_slice.ensures.value in
-    rw (p.1, p.2) (no_marker_of _ c.args.text.now _ _ c.in_err-tree.field-0.0 same
-    c.in_ok-found.ensures.front
-    (no_chain_of c.args.text.now _ _ c.in_ok-found.found.whole same
-    c.in_ok-found.ensures.whole c.in_ok-found.ensures.stopped)
-    c.in_err-tree.ensures.refused)
 
 pub returns-clause-ok : goal.returns-clause-ok
 returns-clause-ok c =
-    read_marker c.args.text.now _ _ _
-    (ap (λ items. map token_of items) c.as_slice.ensures.value)
-    (c.in_ok-found.ensures.whole c.if-not-found.false) c.in_ok-tree.ensures.read
-    c.in_ok-tree.ensures.few
+    let made = c.in_ok-tree.ensures.ok in subst (IsMarker c.args.text.now) (sym made.2) made.1
