@@ -4,8 +4,8 @@ use Rattle.std.proofs.Common.{sym, ap, refl, subst, ◌∙◌, add-one, arith}
 use Rattle.std.proofs.Common.{inl, inr, length, map, get_or, drop, take, ◌≤◌, []}
 use Rattle.std.specs.Prelude.{Result, Ok, Err, IfOk}
 use Rattle.std.proofs.lemmas.List.{length-map, take_all}
-use Rattle.pep_marker.specs.Way.Token.{lexeme_of, operand_of, token_of}
-use Rattle.pep_marker.specs.declared.token.Lexeme.TheVariants as lexeme
+use Rattle.pep_marker.specs.Way.Token.{operand_of, token_of}
+use Rattle.pep_marker.specs.declared.token.Token.TheVariants as kind
 use Rattle.pep_marker.specs.declared.token.Side.{Side}
 use Rattle.pep_marker.specs.declared.fault.MarkerFault.{MarkerFault}
 use Rattle.pep_marker.specs.declared.token.Token as cut
@@ -143,12 +143,12 @@ comparison_here l r o room ts us rest e f h some d = record {
 
 -- an operand stands in front of the tokens behind it
 pub operand_first : (ts : List cut.Token) (t : cut.Token) (side : Side) → 1 ≤ length ts →
-    (get_or ts 0 t).lexeme ≡ lexeme.Operand side →
+    get_or ts 0 t ≡ kind.Operand side →
     map token_of ts
     ≡ operand (operand_of side) ∷ map token_of (take (length ts - 1) (drop 1 ts))
 operand_first [] t side some e = absurd (omega (arith, some))
 operand_first (u ∷ ts) t side some e =
-    ap (λ x. lexeme_of x ∷ map token_of ts) e
+    ap (λ x. token_of x ∷ map token_of ts) e
     ∙ ap (λ us. operand (operand_of side) ∷ map token_of us)
     (sym (take_all (length (u ∷ ts) - 1) ts (omega arith)))
 

@@ -2,7 +2,7 @@
 use Rattle.std.proofs.Common.{◌≡◌, ◌≢◌, ℕ, ◌+◌, ◌-◌, ◌<◌, ◌≤◌, true, false, List, [], ◌∷◌}
 use Rattle.std.proofs.Common.{◌++◌, length, take, drop, map, Some, None, refl, sym, ap, subst}
 use Rattle.std.proofs.Common.{◌∙◌, arith, append_assoc, length-drop}
-use Rattle.std.proofs.Math.Seq.{take-append_seam, drop-append_seam}
+use Rattle.std.proofs.Math.Seq.{drop-append_seam}
 use Rattle.std.proofs.lemmas.List.{append-nil, drop-drop, drop_all, map-append, take-append-drop}
 use Rattle.texts.proofs.Connectives.{and_first}
 use Rattle.std.proofs.lemmas.Str.{IsUtf8-drop, IsCharBoundary-from_rest}
@@ -13,7 +13,7 @@ use Rattle.pep_marker.specs.Marker as syntax
 use Rattle.pep_marker.specs.Marker.{BeginsWith, HasTokens}
 use Rattle.texts.specs.Runs.{begins, IsBlank, without_leading_blanks}
 use Rattle.texts.specs.Bytes.{is_blank_byte}
-use Rattle.pep_marker.specs.Way.Token.{AreSpans, AreSpansFrom, IsTokenAt, token_of}
+use Rattle.pep_marker.specs.Way.Token.{IsTokenAt, token_of}
 use Rattle.pep_marker.specs.Way.TokenReading.{next_token}
 use Rattle.pep_marker.specs.declared.token.Token.{Token}
 use Rattle.pep_marker.proofs.FoundTokens.{Stands, boundary-token, token-stands, token_some}
@@ -22,33 +22,19 @@ use Rattle.pep_marker.proofs.TokenLaws.{found_at, same_found, tokens_begin, blan
 
 -- ---- one token
 
-pub token_here : (x : List ℕ) (count : ℕ) (t : Token) → IsUtf8 x → IsCharBoundary x t.start →
-    next_token (drop t.start x) ≡ Some (token_of t, count) → t.end ≡ t.start + count →
-    t.written.now ≡ take count (drop t.start x) → IsTokenAt x t.start t
-token_here x count t utf8 boundary found end slice =
-    let rest = drop t.start x in
-    let rest_utf8 = IsUtf8-drop x t.start utf8 boundary in
-    let s = token-stands rest (token_of t) count found in
-    let cut : IsCharBoundary x t.end =
-    subst (IsCharBoundary x) (sym end)
-    (IsCharBoundary-from_rest x t.start count boundary.0
-    (boundary-token rest (token_of t) count rest_utf8 s)) in
-    let some = token_some (token_of t) s.written s.token in
-    let length_is : t.end - t.start ≡ count = omega arith in
-    let written : t.written.now ≡ s.written =
-    slice ∙ ap (take count) s.is ∙ ap (λ k. take k (s.written ++ s.rest)) (sym s.count)
-    ∙ take-append_seam s.written s.rest in
+pub token_here : (x : List ℕ) (start count : ℕ) (t : syntax.Token) → IsUtf8 x →
+    IsCharBoundary x start → next_token (drop start x) ≡ Some (t, count) →
+    IsTokenAt x start t (start + count)
+token_here x start count t utf8 boundary found =
+    let rest = drop start x in
+    let s = token-stands rest t count found in
+    let some = token_some t s.written s.token in
+    let length_is : start + count - start ≡ count = omega arith in
     record {
-      begin = refl;
       longer = omega (arith, s.count, some);
-      boundary = cut;
-      found = found ∙ ap (λ k. found_at (token_of t) k) (sym length_is);
-      span = record {
-        ordered = omega arith;
-        within = cut.0;
-        slice = slice ∙ ap (λ k. take k rest) (sym length_is);
-        token = subst (syntax.IsToken (token_of t)) (sym written) s.token;
-      };
+      boundary = IsCharBoundary-from_rest x start count boundary.0
+          (boundary-token rest t count (IsUtf8-drop x start utf8 boundary) s);
+      found = found ∙ ap (λ k. found_at t k) (sym length_is);
     }
 
 -- ---- the loop
@@ -64,7 +50,6 @@ pub record SoFar (x : List ℕ) (items : List Token) (start : ℕ) : Type 0 wher
   pub whole : (ts : List syntax.Token) → HasTokens (drop start x) ts →
       HasTokens x (map token_of items ++ ts)
   pub goes_on : (ts : List syntax.Token) → HasTokens x ts → Goes (drop start x)
-  pub spans : (ts : List Token) → AreSpansFrom start x ts → AreSpans x (items ++ ts)
   pub front : (ts : List syntax.Token) → BeginsWith (drop start x) ts →
       BeginsWith x (map token_of items ++ ts)
 
@@ -105,12 +90,6 @@ front_with_blanks x [] h = tt
 front_with_blanks x (t ∷ ts) (space, written, rest, is, blank, token, ends, others) =
     let whole = behind_blanks x t space written rest is blank token ends in
     (blanks_of x, written, rest, whole, all-run is_blank_byte x, token, ends, others)
-
--- spans from a place on are spans from any place before it on
-spans_later : (from start : ℕ) (x : List ℕ) (ts : List Token) → from ≤ start →
-    AreSpansFrom start x ts → AreSpansFrom from x ts
-spans_later from start x [] le h = tt
-spans_later from start x (t ∷ ts) le h = (omega (arith, h.0), h.1, h.2)
 
 behind_found : (y : List ℕ) (t : syntax.Token) (n : ℕ) (s : Stands y t n) → drop n y ≡ s.rest
 behind_found y t n s =
@@ -178,7 +157,6 @@ none_yet x start boundary rest = record {
   trimmed = ap without_leading_blanks rest ∙ trimmed_once x ∙ sym rest;
   whole = λ ts h. with_blanks x ts (subst (λ y. HasTokens y ts) rest h);
   goes_on = λ ts h. (ts, subst (λ y. HasTokens y ts) (sym rest) (blanks_away x ts h));
-  spans = λ ts h. spans_later 0 start x ts (omega arith) h;
   front = λ ts h. front_with_blanks x ts (subst (λ y. BeginsWith y ts) rest h);
 }
 
@@ -188,27 +166,24 @@ more items t ts =
     sym (ap (λ us. us ++ ts) (map-append token_of items (t ∷ []))
     ∙ append_assoc (map token_of items) (token_of t ∷ []) ts)
 
-pub one_more : (x : List ℕ) (items : List Token) (start next : ℕ) (t : Token) →
-    SoFar x items start → IsTokenAt x start t → IsCharBoundary x next →
-    drop next x ≡ without_leading_blanks (drop t.end x) → t.end ≤ next →
-    SoFar x (items ++ t ∷ []) next
-one_more x items start next t s here boundary rest le =
+pub one_more : (x : List ℕ) (items : List Token) (start place next : ℕ) (t : Token) →
+    SoFar x items start → IsTokenAt x start (token_of t) place → IsCharBoundary x next →
+    drop next x ≡ without_leading_blanks (drop place x) → SoFar x (items ++ t ∷ []) next
+one_more x items start place next t s here boundary rest =
     let y = drop start x in
-    let count = t.end - start in
-    let behind : drop count y ≡ drop t.end x =
+    let count = place - start in
+    let behind : drop count y ≡ drop place x =
     drop-drop count start x ∙ ap (λ k. drop k x) (omega (arith, here.longer)) in
     let later : drop next x ≡ without_leading_blanks (drop count y) =
     rest ∙ ap without_leading_blanks (sym behind) in
     record {
       boundary = boundary;
-      trimmed = ap without_leading_blanks rest ∙ trimmed_once (drop t.end x) ∙ sym rest;
+      trimmed = ap without_leading_blanks rest ∙ trimmed_once (drop place x) ∙ sym rest;
       whole = λ ts h. subst (HasTokens x) (more items t ts) (s.whole (token_of t ∷ ts)
           (joined y (token_of t) count ts here.found
           (with_blanks (drop count y) ts (subst (λ z. HasTokens z ts) later h))));
       goes_on = λ ts h. goes y (token_of t) count s.trimmed here.found (drop next x) later
           (s.goes_on ts h);
-      spans = λ ts h. subst (AreSpans x) (sym (append_assoc items (t ∷ []) ts)) (s.spans (t ∷ ts)
-          (omega (arith, here.begin), here.span, spans_later t.end next x ts le h));
       front = λ ts h. subst (BeginsWith x) (more items t ts) (s.front (token_of t ∷ ts)
           (front_joined y (token_of t) count ts here.found
           (front_with_blanks (drop count y) ts (subst (λ z. BeginsWith z ts) later h))));
@@ -226,10 +201,6 @@ pub no_token : (x : List ℕ) (items : List Token) (start : ℕ) → SoFar x ite
 no_token x items start s lt none ts h =
     nothing (drop start x) s.trimmed (λ e. omega (arith, length-drop start x, ap length e)) none
     (s.goes_on ts h)
-
-pub spans_so_far : (x : List ℕ) (items : List Token) (start : ℕ) → SoFar x items start →
-    AreSpans x items
-spans_so_far x items start s = subst (AreSpans x) (append-nil items) (s.spans [] tt)
 
 pub tokens_in_front : (x : List ℕ) (items : List Token) (start : ℕ) → SoFar x items start →
     BeginsWith x (map token_of items)

@@ -13,7 +13,7 @@ use Rattle.pep_version.specs.Spelling.{Reads, Spells}
 use Rattle.pep_version.specs.Text.{public_version}
 use Rattle.pep_version.specs.Version.{IsVersion, Version}
 use Rattle.specifiers.specs.Clause.{less_than}
-use Rattle.specifiers.specs.declared.op.Op.TheVariants.{Compatible, Less}
+use Rattle.specifiers.specs.declared.op.Op.TheVariants.{Compatible, Equal, Less}
 use Rattle.texts.specs.Bytes.{is_letter_or_digit, is_name_byte}
 use Rattle.pep_marker.specs.Environment.{EnvironmentParts, environment_of, is_value, pairs_fault}
 use Rattle.pep_marker.specs.Environment.{value_at, variable_name, variable_of}
@@ -25,6 +25,8 @@ use Rattle.pep_marker.specs.Marker.{MarkerParts, compare, or, text, variable, ve
 use Rattle.pep_marker.specs.MarkerText.{is_or}
 use Rattle.pep_marker.specs.Name.{name_cmp, name_of, normalized}
 use Rattle.pep_marker.specs.declared.environment.Variable.TheVariants.{Extra, OsName}
+use Rattle.pep_marker.specs.Way.Chains.{Joins}
+use Rattle.pep_marker.specs.declared.making.Link.TheVariants as link
 use Rattle.pep_marker.specs.declared.header.HeaderIn.{HeaderIn}
 use Rattle.pep_marker.specs.declared.header.HeaderIn.TheVariants.{Other}
 use Rattle.pep_marker.specs.declared.fault.MarkerFault.TheVariants as fault
@@ -171,3 +173,16 @@ is_value-takes_delete e = cc e
 -- `a--b`
 pub norm_of-each_separator_stays : ¬ (codes "a--b" ≡ normalized (codes "a--b"))
 norm_of-each_separator_stays e = cc e
+
+-- `extra == "a"`, and so with another text
+abbrev extra_equals : List ℕ → MarkerParts
+extra_equals x = compare (variable Extra) (version_operator Equal) (text x)
+
+-- `extra == "a" or extra == "b"`
+pub joined-or_as_and : ¬ Joins link.Or (λ m. Evaluates extra_a m (Some true))
+    (λ m. Evaluates extra_a m (Some false)) (λ m. Evaluates extra_a m (Some false))
+joined-or_as_and h =
+    let a = extra_equals (codes "a") in
+    let b = extra_equals (codes "b") in
+    cc (evaluates_one extra_a (or a b) (Some false) (Some true) (h a b refl refl)
+    (Some true, Some false, refl, refl, refl))

@@ -27,7 +27,7 @@ ghost use Rattle.pep_marker.specs.View.{operator_parts};
 use crate::fault::MarkerFault;
 use crate::making::{Link, Making};
 use crate::marker::Operator;
-use crate::token::{Lexeme, Side, Token, tokens_of};
+use crate::token::{Side, Token, tokens_of};
 use std::alloc::Global;
 
 // How many parentheses may be open at once.
@@ -53,8 +53,8 @@ fn operator_at<'t, 'a>(tokens: &'t [Token<'a>]) -> Option<(Operator, &'t [Token<
     let [first, behind @ ..] = tokens else {
         return None;
     };
-    match first.lexeme {
-        Lexeme::Operator(operator) => Some((operator, behind)),
+    match *first {
+        Token::Operator(operator) => Some((operator, behind)),
         _ => None,
     }
 }
@@ -68,8 +68,8 @@ fn operand_at<'t, 'a>(tokens: &'t [Token<'a>]) -> Option<(Side<'a>, &'t [Token<'
     let [first, behind @ ..] = tokens else {
         return None;
     };
-    match first.lexeme {
-        Lexeme::Operand(side) => Some((side, behind)),
+    match *first {
+        Token::Operand(side) => Some((side, behind)),
         _ => None,
     }
 }
@@ -121,10 +121,10 @@ fn item_at<'t, 'a, M: Making>(
     let [first, behind @ ..] = tokens else {
         return Err(MarkerFault::BadMarker);
     };
-    match first.lexeme {
-        Lexeme::Operand(left) => comparison(alloc, making, left, behind, room),
-        Lexeme::Open if depth == 0 => Err(MarkerFault::TooDeep),
-        Lexeme::Open => in_parentheses(alloc, making, behind, depth - 1, room),
+    match *first {
+        Token::Operand(left) => comparison(alloc, making, left, behind, room),
+        Token::Open if depth == 0 => Err(MarkerFault::TooDeep),
+        Token::Open => in_parentheses(alloc, making, behind, depth - 1, room),
         _ => Err(MarkerFault::BadMarker),
     }
 }
@@ -207,7 +207,7 @@ fn behind_close<'t, 'a>(tokens: &'t [Token<'a>]) -> Option<&'t [Token<'a>]>
     ensures none { IfNone result (is_closed (map token_of tokens.now) ≡ false) }
 {
     match tokens {
-        [first, behind @ ..] if matches!(first.lexeme, Lexeme::Close) => Some(behind),
+        [first, behind @ ..] if matches!(*first, Token::Close) => Some(behind),
         _ => None,
     }
 }
@@ -222,8 +222,8 @@ fn behind_word<'t, 'a>(link: Link, tokens: &'t [Token<'a>]) -> Option<&'t [Token
     let [first, behind @ ..] = tokens else {
         return None;
     };
-    match (link, first.lexeme) {
-        (Link::And, Lexeme::And) | (Link::Or, Lexeme::Or) => Some(behind),
+    match (link, *first) {
+        (Link::And, Token::And) | (Link::Or, Token::Or) => Some(behind),
         _ => None,
     }
 }

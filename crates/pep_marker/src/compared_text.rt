@@ -1,6 +1,6 @@
 //! The texts of a comparison.
 
-ghost use Rattle.std.specs.Prelude.{◌≡◌, ◌≢◌, ℕ, IfErr, IfOk, List, MatchOption, Ok};
+ghost use Rattle.std.specs.Prelude.{◌≡◌, ◌≢◌, ℕ, IfErr, IfOk, IsTrue, List, MatchOption, Ok};
 ghost use Rattle.std.specs.Option.{option_copied, option_map};
 ghost use Rattle.pep_version.specs.Spelling.{Spells};
 ghost use Rattle.pep_version.specs.Version as version;
@@ -57,6 +57,16 @@ impl<'a> ComparedText<'a> {
         match self {
             ComparedText::Written(text) => Normal::of(alloc, text),
             ComparedText::Known(value) => Ok(Normal::Same(value.normal())),
+        }
+    }
+
+    /// Whether the text is known to be no version.
+    pub(crate) fn is_no_version(self) -> bool
+        ensures { IsTrue result → (v : version.Version) → ¬ Spells (compared_bytes self.entry) v }
+    {
+        match self {
+            ComparedText::Written(_) => false,
+            ComparedText::Known(value) => value.version().is_none(),
         }
     }
 

@@ -233,6 +233,9 @@ fn written_truth(
     ensures value { IfOk result (VersionsSay op (compared_bytes left.entry) right.now) }
     ensures faults { IfErr result (λ e. e ≡ MarkerFault.NoMemory) }
 {
+    if left.is_no_version() {
+        return Ok(None);
+    }
     match clause_of(alloc, op, right)? {
         Some(clause) => left.admitted_by(alloc, &clause),
         None => Ok(None),

@@ -71,8 +71,8 @@ impl<'a> JudgedMarkers<'a> {
     }
 
     /// Whether the text is a marker that is true in the environment (PEP 508, "Environment
-    /// Markers"): what [`Marker::read`] and [`Marker::holds`] say, found out once for a text that is
-    /// remembered.
+    /// Markers"): what [`Marker::read`](crate::Marker::read) and
+    /// [`Marker::holds`](crate::Marker::holds) say, found out once for a text that is remembered.
     ///
     /// A text that is no marker is `BadMarker`, 26, or `TooDeep`, 27; a marker that is undefined
     /// there is `Undefined`, 28. Memory may run out, 29.
@@ -104,7 +104,7 @@ impl<'a> JudgedMarkers<'a> {
     }
 }
 
-// The truth of the marker that the text is.
+// The truth of the marker that the text is, of which no tree is made.
 fn truth_of(alloc: Global, environment: &Environment, text: &str) -> Result<bool, MarkerFault>
     ensures value { IfOk result (λ b. TextSays environment.now text.now (Some b)) }
     ensures faults { IfErr result (RefusesText environment.now text.now) }

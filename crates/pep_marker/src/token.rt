@@ -7,12 +7,13 @@ ghost use Rattle.std.specs.Str.{IsCharBoundary};
 ghost use Rattle.pep_marker.specs.Marker as syntax;
 ghost use Rattle.pep_marker.specs.Marker.{BeginsWith, HasTokens, is_quote, is_word_byte};
 ghost use Rattle.texts.specs.Runs.{without_leading_blanks};
-ghost use Rattle.pep_marker.specs.Way.Token.{AreSpans, IsTokenAt, found_of, lexeme_of, token_of};
+ghost use Rattle.pep_marker.specs.Way.Token.{IsTokenAt, found_of, token_of};
 ghost use Rattle.pep_marker.specs.Way.TokenReading.{in_behind, is_quoted_byte, next_token};
 ghost use Rattle.pep_marker.specs.Way.TokenReading.{operator_token, text_token, word_of, word_token};
 
 use crate::environment::Variable;
 use crate::fault::MarkerFault;
+use crate::forms::form_of;
 use crate::marker::Operator;
 use specifiers::Op;
 use std::alloc::Global;
@@ -26,22 +27,13 @@ pub(crate) enum Side<'a> {
 }
 
 #[derive(Clone, Copy)]
-pub(crate) enum Lexeme<'a> {
+pub(crate) enum Token<'a> {
     Open,
     Close,
     And,
     Or,
     Operand(Side<'a>),
     Operator(Operator),
-}
-
-// A token, and the slice of the marker's text that it is written as, from `start` up to `end`.
-#[derive(Clone, Copy)]
-pub(crate) struct Token<'a> {
-    pub(crate) lexeme: Lexeme<'a>,
-    pub(crate) written: &'a str,
-    pub(crate) start: usize,
-    pub(crate) end: usize,
 }
 
 // The tokens in front of a text: all of it where `whole`, else up to the first place where no token
@@ -56,7 +48,7 @@ pub(crate) struct Tokens<'a> {
 fn is_word_byte(b: u8) -> bool
     ensures { result ≡ is_word_byte b }
 {
-    b.is_ascii_alphanumeric() || b == b'_' || b == b'.'
+    form_of(b) > b',' && b != b'-'
 }
 
 // Whether the byte begins a text in quotes.
@@ -93,20 +85,20 @@ fn quoted_run(quote: u8, text: &[u8]) -> usize
 
 // What a word is, `not` apart.
 #[tactic(auto, unfolding(crate::specs::Way::TokenReading::word_of))]
-fn word_lexeme<'a>(word: &[u8]) -> Option<Lexeme<'a>>
-    ensures { option_map lexeme_of result ≡ word_of word.now }
+fn word_lexeme<'a>(word: &[u8]) -> Option<Token<'a>>
+    ensures { option_map token_of result ≡ word_of word.now }
 {
     if word == "and".as_bytes() {
-        return Some(Lexeme::And);
+        return Some(Token::And);
     }
     if word == "or".as_bytes() {
-        return Some(Lexeme::Or);
+        return Some(Token::Or);
     }
     if word == "in".as_bytes() {
-        return Some(Lexeme::Operator(Operator::In));
+        return Some(Token::Operator(Operator::In));
     }
     let variable = Variable::of_name(word)?;
-    Some(Lexeme::Operand(Side::Variable(variable)))
+    Some(Token::Operand(Side::Variable(variable)))
 }
 
 // How many bytes of white space and `in` stand behind a `not`.
@@ -127,21 +119,21 @@ fn in_behind(text: &[u8]) -> Option<usize>
 
 // The token of a word, and how many bytes it is written in.
 #[tactic(auto, unfolding(crate::specs::Way::TokenReading::word_token))]
-fn word_token<'a>(text: &[u8]) -> Option<(Lexeme<'a>, usize)>
+fn word_token<'a>(text: &[u8]) -> Option<(Token<'a>, usize)>
     ensures { found_of result ≡ word_token text.now }
 {
     let (word, rest) = text.split_at(word_run(text));
     if word == "not".as_bytes() {
         let count = in_behind(rest)?;
-        return Some((Lexeme::Operator(Operator::NotIn), count + 3));
+        return Some((Token::Operator(Operator::NotIn), count + 3));
     }
-    let lexeme = word_lexeme(word)?;
-    Some((lexeme, word.len()))
+    let token = word_lexeme(word)?;
+    Some((token, word.len()))
 }
 
 // The token of a text in quotes, from the byte behind the first one on.
 #[tactic(auto, unfolding(crate::specs::Way::TokenReading::text_token))]
-fn text_token(quote: u8, text: &str) -> Option<(Lexeme<'_>, usize)>
+fn text_token(quote: u8, text: &str) -> Option<(Token<'_>, usize)>
     requires { IsTrue (is_quote quote) }
     ensures { found_of result ≡ text_token quote text.now }
 {
@@ -150,7 +142,7 @@ fn text_token(quote: u8, text: &str) -> Option<(Lexeme<'_>, usize)>
     match rest {
         [first, ..] if *first == quote => {
             let (inner, _) = text.split_at(count);
-            Some((Lexeme::Operand(Side::Text(inner)), count + 2))
+            Some((Token::Operand(Side::Text(inner)), count + 2))
         }
         _ => None,
     }
@@ -158,18 +150,18 @@ fn text_token(quote: u8, text: &str) -> Option<(Lexeme<'_>, usize)>
 
 // The operator in front of a text, and how many bytes it is written in.
 #[tactic(auto, unfolding(crate::specs::Way::TokenReading::operator_token))]
-fn operator_token<'a>(text: &[u8]) -> Option<(Lexeme<'a>, usize)>
+fn operator_token<'a>(text: &[u8]) -> Option<(Token<'a>, usize)>
     ensures { found_of result ≡ operator_token text.now }
 {
     let operator = Op::at_front(text)?;
     let count = operator.text().len();
-    Some((Lexeme::Operator(Operator::Version(operator)), count))
+    Some((Token::Operator(Operator::Version(operator)), count))
 }
 
 // The token in front of a text that does not begin with white space, and how many bytes it is
 // written in.
 #[tactic(auto, unfolding(crate::specs::Way::TokenReading::next_token))]
-fn next_token(text: &str) -> Option<(Lexeme<'_>, usize)>
+fn next_token(text: &str) -> Option<(Token<'_>, usize)>
     ensures { found_of result ≡ next_token text.now }
 {
     let [first, ..] = text.as_bytes() else {
@@ -180,29 +172,23 @@ fn next_token(text: &str) -> Option<(Lexeme<'_>, usize)>
     } else if is_quote(*first) {
         text_token(*first, &text[1..])
     } else if *first == b'(' {
-        Some((Lexeme::Open, 1))
+        Some((Token::Open, 1))
     } else if *first == b')' {
-        Some((Lexeme::Close, 1))
+        Some((Token::Close, 1))
     } else {
         operator_token(text.as_bytes())
     }
 }
 
-// The token at a place where no white space stands.
-fn token_at(text: &str, start: usize) -> Option<Token<'_>>
+// The token at a place where no white space stands, and the place behind it.
+fn token_at(text: &str, start: usize) -> Option<(Token<'_>, usize)>
     requires { IsCharBoundary text.now start }
-    ensures { MatchOption result (next_token (drop start text.now)
-        ≡ None) (IsTokenAt text.now start) }
+    ensures { MatchOption result (next_token (drop start text.now) ≡ None)
+        (λ found. IsTokenAt text.now start (token_of found.0) found.1) }
 {
     let (_, rest) = text.split_at(start);
-    let (lexeme, count) = next_token(rest)?;
-    let (written, _) = rest.split_at(count);
-    Some(Token {
-        lexeme,
-        written,
-        start,
-        end: start + count,
-    })
+    let (token, count) = next_token(rest)?;
+    Some((token, start + count))
 }
 
 // The place behind the white space at a place.
@@ -223,19 +209,18 @@ pub(crate) fn tokens_of(alloc: Global, text: &str) -> Result<Tokens<'_>, MarkerF
     ensures stopped { IfOk result (λ found. found.whole ≡ false
         → (ts : List syntax.Token) → ¬ HasTokens text.now ts) }
     ensures front { IfOk result (λ found. BeginsWith text.now (map token_of found.items.items)) }
-    ensures spans { IfOk result (λ found. AreSpans text.now found.items.items) }
     ensures faults { IfErr result (λ e. e ≡ MarkerFault.NoMemory) }
 {
     let mut items = Vec::new(alloc);
     let mut start = past_blanks(text, 0);
     while start < text.len() {
-        let Some(token) = token_at(text, start) else {
+        let Some((token, behind)) = token_at(text, start) else {
             return Ok(Tokens {
                 items,
                 whole: false,
             });
         };
-        start = past_blanks(text, token.end);
+        start = past_blanks(text, behind);
         items.push(token)?;
     }
     Ok(Tokens { items, whole: true })

@@ -1,7 +1,7 @@
 use Rattle.std.proofs.Common.{sym, subst}
 use Rattle.std.proofs.lemmas.Str.{IsCharBoundary-start}
 use Rattle.pep_marker.proofs.TokenLoop.{SoFar, all_tokens, no_token, none_yet, one_more}
-use Rattle.pep_marker.proofs.TokenLoop.{spans_so_far, tokens_in_front}
+use Rattle.pep_marker.proofs.TokenLoop.{tokens_in_front}
 use Rattle.pep_marker.proofs.token.tokens_of.Goals as goal
 
 pub past_blanks-start-requires : goal.past_blanks-start-requires
@@ -19,10 +19,6 @@ returns-in_default-clause-stopped c =
     λ _. no_token c.args.text.now loop.items.items loop.start loop.invariant c.loop-start-test.true
     c.in_default.ensures
 
-pub returns-in_default-clause-spans : goal.returns-in_default-clause-spans
-returns-in_default-clause-spans c =
-    spans_so_far c.args.text.now c.loop-start.items.items c.loop-start.start c.loop-start.invariant
-
 pub returns-in_default-clause-front : goal.returns-in_default-clause-front
 returns-in_default-clause-front c =
     tokens_in_front c.args.text.now c.loop-start.items.items c.loop-start.start
@@ -33,19 +29,14 @@ loop-start-preserved c =
     let loop = c.loop-start in
     let blanks = c.past_blanks-start-in-loop-start in
     subst (λ ts. SoFar c.args.text.now ts blanks.result) (sym c.in_ok-push.ensures.items)
-    (one_more c.args.text.now loop.items.items loop.start blanks.result c.in-Some.token
-    loop.invariant c.in-Some.ensures blanks.ensures.boundary blanks.ensures.rest
-    blanks.ensures.ordered)
+    (one_more c.args.text.now loop.items.items loop.start c.in-Some.behind blanks.result
+    c.in-Some.token loop.invariant c.in-Some.ensures blanks.ensures.boundary blanks.ensures.rest)
 
 pub returns-clause-whole : goal.returns-clause-whole
 returns-clause-whole c =
     let loop = c.loop-start in
     λ _. all_tokens c.args.text.now loop.items.items loop.start loop.invariant
     c.loop-start-test.false
-
-pub returns-clause-spans : goal.returns-clause-spans
-returns-clause-spans c =
-    spans_so_far c.args.text.now c.loop-start.items.items c.loop-start.start c.loop-start.invariant
 
 pub returns-clause-front : goal.returns-clause-front
 returns-clause-front c =
