@@ -11,7 +11,7 @@ use Rattle.pep_marker.specs.declared.fault.MarkerFault.{MarkerFault}
 use Rattle.pep_marker.specs.declared.token.Token as cut
 use Rattle.pep_marker.specs.Marker.{MarkerParts, comparisons, Token, open_parenthesis, AreTooMany}
 use Rattle.pep_marker.specs.Marker.{close_parenthesis, Operand, Operator, compare, operand, operator}
-use Rattle.pep_marker.specs.Way.Chains.{ItemFrom, comparison_from, parentheses_from, PartFrom}
+use Rattle.pep_marker.specs.Way.Chains.{ItemFrom, comparison_from, parentheses_from}
 use Rattle.pep_marker.specs.Way.Chains.{ChainFrom, parts_from, RestFrom}
 use Rattle.pep_marker.specs.Way.Chains.{rest_end, rest_more, ends, part_ends, joined}
 use Rattle.pep_marker.specs.Way.Chains.{link_word, PartTo, ChainTo, IsFront, IsRead, Joins}

@@ -1,9 +1,9 @@
 -- A text is one marker, by the law of its tokens and that of chains.
-use Rattle.std.proofs.Common.{◌≡◌, ℕ, ◌≤◌, ◌<◌, Bool, true, false, List, [], ◌∷◌, ◌++◌, length}
+use Rattle.std.proofs.Common.{◌≡◌, ℕ, ◌<◌, Bool, true, false, List, [], ◌∷◌, ◌++◌, length}
 use Rattle.std.proofs.Common.{sym, ap, subst, ◌∙◌, refl, append-nil, arith, map, ◌==◌, ◌⊎◌}
 use Rattle.std.proofs.Common.{inl, inr}
 use Rattle.std.proofs.lemmas.Bool.Decides.{nat_tests}
-use Rattle.pep_marker.specs.Marker.{MarkerParts, comparisons, Token, HasTokens, IsOrChain}
+use Rattle.pep_marker.specs.Marker.{MarkerParts, Token, HasTokens, IsOrChain}
 use Rattle.pep_marker.specs.Marker.{IsMarker, is_word_byte, NoMarker, BeginsWith, IsNoMarker}
 use Rattle.pep_marker.specs.declared.fault.MarkerFault.{MarkerFault}
 use Rattle.pep_marker.specs.declared.fault.MarkerFault.TheVariants.{NoMemory}

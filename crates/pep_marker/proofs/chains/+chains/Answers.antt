@@ -1,5 +1,5 @@
 -- The chains are read as the grammar has them.
-use Rattle.std.proofs.Common.{◌≡◌, ◌<◌, inl, inr, sym, subst, map, refl, arith}
+use Rattle.std.proofs.Common.{inl, inr, sym, subst, map, refl, arith}
 use Rattle.std.proofs.lemmas.Result.{err_from_is_err_and}
 use Rattle.std.specs.Prelude.{IfOk}
 use Rattle.pep_marker.specs.Way.Chains.{IsRead, ItemFrom, chain_part, item_part, link_word}
