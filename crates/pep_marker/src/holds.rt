@@ -11,7 +11,6 @@ ghost use Rattle.pep_marker.specs.Holds.{
   plain_truth,
   text_truth,
 };
-ghost use Rattle.pep_marker.specs.Marker as syntax;
 ghost use Rattle.pep_marker.specs.Name.{normalized};
 ghost use Rattle.pep_marker.specs.Way.ComparedView.{VersionsSay, compared_bytes};
 ghost use Rattle.pep_marker.specs.Way.Token.{operand_of};
@@ -25,7 +24,7 @@ use crate::marker::{Marker, Operand, Operator, Tree};
 use crate::token::Side;
 use crate::value::{Value, clause_of};
 use specifiers::Op;
-use std::alloc::{AllocError, Global};
+use std::alloc::Global;
 
 // True, false, or undefined.
 type Truth = Option<bool>;
@@ -60,7 +59,7 @@ fn tree_truth(alloc: Global, environment: &Environment, tree: &Tree) -> Result<T
 {
     match tree {
         Tree::Comparison(left, operator, right) => {
-            comparison_truth(alloc, environment, left.side(), *operator, right.side())
+            environment.compared(alloc, left.side(), *operator, right.side())
         }
         Tree::And(left, right) => {
             let left = tree_truth(alloc, environment, left)?;
@@ -87,23 +86,28 @@ impl Operand {
     }
 }
 
-// Judges markers, whose trees nobody makes.
+// Judges markers, of which no trees are made.
 impl Making for Environment {
     type Part = Truth;
 
     ghost means = { λ e t m. Evaluates e m t };
 
+    // Not part of the frame of a function that calls itself: of those of `tree_truth` there are as
+    // many as comparisons in a chain.
+    #[inline(never)]
     fn compared(
         &self,
         alloc: Global,
         left: Side<'_>,
         operator: Operator,
         right: Side<'_>,
-    ) -> Result<Truth, AllocError> {
-        let Ok(truth) = comparison_truth(alloc, self, left, operator, right) else {
-            return Err(AllocError);
-        };
-        Ok(truth)
+    ) -> Result<Truth, MarkerFault> {
+        let left_text = ComparedText::of(self, left);
+        let right_text = ComparedText::of(self, right);
+        if is_extra(left) || is_extra(right) {
+            return normal_truth(alloc, operator, left_text, right_text);
+        }
+        compared(alloc, operator, left_text, right_text)
     }
 
     fn joined(
@@ -112,7 +116,7 @@ impl Making for Environment {
         link: Link,
         left: Truth,
         right: Truth,
-    ) -> Result<Truth, AllocError> {
+    ) -> Result<Truth, MarkerFault> {
         Ok(match link {
             Link::And => and_truth(left, right),
             Link::Or => or_truth(left, right),
@@ -142,28 +146,6 @@ fn is_extra(side: Side) -> bool
     ensures { result ≡ is_extra (operand_of side.entry) }
 {
     matches!(side, Side::Variable(Variable::Extra))
-}
-
-// Not part of the frame of a function that calls itself: of those of `tree_truth` there are as many
-// as comparisons in a chain.
-#[inline(never)]
-fn comparison_truth(
-    alloc: Global,
-    environment: &Environment,
-    left: Side,
-    operator: Operator,
-    right: Side,
-) -> Result<Truth, MarkerFault>
-    ensures value { IfOk result (λ t. Evaluates environment.now (syntax.compare
-        (operand_of left.entry) (operator_parts operator) (operand_of right.entry)) t) }
-    ensures faults { IfErr result (λ e. e ≡ MarkerFault.NoMemory) }
-{
-    let left_text = ComparedText::of(environment, left);
-    let right_text = ComparedText::of(environment, right);
-    if is_extra(left) || is_extra(right) {
-        return normal_truth(alloc, operator, left_text, right_text);
-    }
-    compared(alloc, operator, left_text, right_text)
 }
 
 // What the operator says of the normal forms of two texts.

@@ -1,14 +1,15 @@
 // What is made of a marker while its tokens are read.
 
-ghost use Rattle.std.specs.Prelude.{IfOk};
+ghost use Rattle.std.specs.Prelude.{◌≡◌, IfErr, IfOk};
 ghost use Rattle.pep_marker.specs.Marker as syntax;
 ghost use Rattle.pep_marker.specs.Way.Chains.{Joins};
 ghost use Rattle.pep_marker.specs.Way.Token.{operand_of};
 ghost use Rattle.pep_marker.specs.View.{operator_parts};
 
+use crate::fault::MarkerFault;
 use crate::marker::Operator;
 use crate::token::Side;
-use std::alloc::{AllocError, Global};
+use std::alloc::Global;
 
 // What joins markers: items under `and`, and and-chains under `or`.
 #[derive(Clone, Copy)]
@@ -17,7 +18,8 @@ pub(crate) enum Link {
     Or,
 }
 
-// Makes of a marker what it is read for: its tree, or its truth in an environment.
+// Makes of a marker what it is read for: its tree, or its truth in an environment. The only fault is
+// `NoMemory`, 29.
 pub(crate) trait Making {
     ghost use Rattle.pep_marker.specs.Marker.{MarkerParts};
 
@@ -34,9 +36,10 @@ pub(crate) trait Making {
         left: Side<'_>,
         operator: Operator,
         right: Side<'_>,
-    ) -> Result<Self::Part, AllocError>
-        ensures { IfOk result (λ p. means self.now p (syntax.compare (operand_of left.entry)
-            (operator_parts operator) (operand_of right.entry))) };
+    ) -> Result<Self::Part, MarkerFault>
+        ensures made { IfOk result (λ p. means self.now p (syntax.compare (operand_of left.entry)
+            (operator_parts operator) (operand_of right.entry))) }
+        ensures faults { IfErr result (λ e. e ≡ MarkerFault.NoMemory) };
 
     // What is made of two markers under a link, of what is made of each.
     fn joined(
@@ -45,7 +48,8 @@ pub(crate) trait Making {
         link: Link,
         left: Self::Part,
         right: Self::Part,
-    ) -> Result<Self::Part, AllocError>
-        ensures { IfOk result (λ p. Joins link (means self.now left) (means self.now right)
-            (means self.now p)) };
+    ) -> Result<Self::Part, MarkerFault>
+        ensures made { IfOk result (λ p. Joins link (means self.now left) (means self.now right)
+            (means self.now p)) }
+        ensures faults { IfErr result (λ e. e ≡ MarkerFault.NoMemory) };
 }

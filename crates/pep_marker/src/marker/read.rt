@@ -1,7 +1,6 @@
 // How a marker is read.
 
 ghost use Rattle.std.specs.Prelude.{◌≡◌, IfOk};
-ghost use Rattle.pep_marker.specs.Way.Chains.{joined};
 ghost use Rattle.pep_marker.specs.Way.Token.{operand_of};
 ghost use Rattle.pep_marker.specs.View.{operand_parts, tree_parts};
 
@@ -48,7 +47,7 @@ impl Making for Trees {
         left: Side<'_>,
         operator: Operator,
         right: Side<'_>,
-    ) -> Result<Tree, AllocError> {
+    ) -> Result<Tree, MarkerFault> {
         let left = operand(alloc, left)?;
         let right = operand(alloc, right)?;
         Ok(Tree::Comparison(left, operator, right))
@@ -60,8 +59,13 @@ impl Making for Trees {
         link: Link,
         left: Tree,
         right: Tree,
-    ) -> Result<Tree, AllocError> {
-        joined_tree(alloc, link, left, right)
+    ) -> Result<Tree, MarkerFault> {
+        let left = Box::new(alloc, left)?;
+        let right = Box::new(alloc, right)?;
+        Ok(match link {
+            Link::And => Tree::And(left, right),
+            Link::Or => Tree::Or(left, right),
+        })
     }
 }
 
@@ -72,16 +76,4 @@ fn operand(alloc: Global, side: Side) -> Result<Operand, AllocError>
         Side::Variable(variable) => Ok(Operand::Variable(variable)),
         Side::Text(text) => Ok(Operand::Text(String::from_str(alloc, text)?)),
     }
-}
-
-// The tree of two trees, each in storage of its own.
-fn joined_tree(alloc: Global, link: Link, left: Tree, right: Tree) -> Result<Tree, AllocError>
-    ensures { IfOk result (λ t. tree_parts t ≡ joined link (tree_parts left) (tree_parts right)) }
-{
-    let left = Box::new(alloc, left)?;
-    let right = Box::new(alloc, right)?;
-    Ok(match link {
-        Link::And => Tree::And(left, right),
-        Link::Or => Tree::Or(left, right),
-    })
 }
