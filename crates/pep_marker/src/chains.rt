@@ -113,7 +113,6 @@ fn item_at<'t, 'a, M: Making>(
     depth: usize,
     room: usize,
 ) -> Result<Front<'t, 'a, M::Part>, MarkerFault>
-    requires { room ≤ 1024 }
     ensures read { IfOk result (IsRead (M.means making.now)
         (ItemFrom depth (map token_of tokens.now)) room) }
     ensures refused { IfErr result (RefusesFront ItemFrom depth room (map token_of tokens.now)) }
@@ -138,7 +137,6 @@ fn in_parentheses<'t, 'a, M: Making>(
     depth: usize,
     room: usize,
 ) -> Result<Front<'t, 'a, M::Part>, MarkerFault>
-    requires { room ≤ 1024 }
     ensures read { IfOk result (IsRead (M.means making.now)
         (ItemFrom (depth + 1) (syntax.open_parenthesis ∷ map token_of behind.now)) room) }
     ensures refused { IfErr result (RefusesFront ItemFrom (depth + 1) room
@@ -161,7 +159,6 @@ fn part_at<'t, 'a, M: Making>(
     depth: usize,
     room: usize,
 ) -> Result<Front<'t, 'a, M::Part>, MarkerFault>
-    requires { room ≤ 1024 }
     ensures read { IfOk result (IsRead (M.means making.now)
         (PartTo link depth (map token_of tokens.now)) room) }
     ensures refused { IfErr result (RefusesFront (PartTo link) depth room (map token_of tokens.now)) }
@@ -182,7 +179,6 @@ fn chain<'t, 'a, M: Making>(
     depth: usize,
     room: usize,
 ) -> Result<Front<'t, 'a, M::Part>, MarkerFault>
-    requires { room ≤ 1024 }
     ensures read { IfOk result (IsRead (M.means making.now)
         (ChainTo link depth (map token_of tokens.now)) room) }
     ensures refused { IfErr result (RefusesFront (ChainTo link) depth room (map token_of tokens.now)) }

@@ -40,7 +40,7 @@ chain-returns-in_err-next-clause-refused g t c =
 
 pub chain-overflow_add-front : goal.chain-overflow_add-front
 chain-overflow_add-front g t c =
-    omega (arith, c.loop-behind.invariant.few, c.in_ok-next.ensures.read.few, c.requires)
+    omega (arith, c.loop-behind.invariant.few, c.in_ok-next.ensures.read.few, c.ranges.room)
 
 pub chain-loop-behind-smaller : goal.chain-loop-behind-smaller
 chain-loop-behind-smaller g t c =
