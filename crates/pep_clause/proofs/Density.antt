@@ -169,10 +169,10 @@ zeros_and_letter-word letters =
 -- if it does
 abbrev next_letters : List Segment → List Segment → List ℕ
 next_letters [] [] = 97 ∷ []
-next_letters [] (number n ∷ others) = 97 ∷ []
-next_letters [] (word letters ∷ others) = zeros_and_letter letters
+next_letters [] (number n ∷ more) = 97 ∷ []
+next_letters [] (word letters ∷ more) = zeros_and_letter letters
 next_letters (s ∷ rest) [] = 97 ∷ []
-next_letters (s ∷ rest) (t ∷ others) = next_letters rest others
+next_letters (s ∷ rest) (t ∷ more) = next_letters rest more
 
 abbrev continued : List Segment → List Segment → List Segment
 continued label other = label ++ (word (next_letters label other) ∷ [])
@@ -189,22 +189,22 @@ continued-below : (label other : List Segment) → AllByRecursion IsSegment othe
     slice_cmp segment_cmp label other ≡ Less
     → slice_cmp segment_cmp (continued label other) other ≡ Less
 continued-below [] [] h e = cc e
-continued-below [] (number n ∷ others) h e = refl
-continued-below [] (word letters ∷ others) h e =
+continued-below [] (number n ∷ more) h e = refl
+continued-below [] (word letters ∷ more) h e =
     let parts =
     and_parts (list_all is_word_byte letters) (list_any is_ascii_lowercase letters) h.0 in
     rw (zeros-below_word letters parts.0 parts.1) refl
 continued-below (s ∷ rest) [] h e = cc e
-continued-below (s ∷ rest) (t ∷ others) h e =
-    behind (segment_cmp s t) (slice_cmp segment_cmp rest others)
-    (slice_cmp segment_cmp (continued rest others) others) (continued-below rest others h.1) e
+continued-below (s ∷ rest) (t ∷ more) h e =
+    behind (segment_cmp s t) (slice_cmp segment_cmp rest more)
+    (slice_cmp segment_cmp (continued rest more) more) (continued-below rest more h.1) e
 
 next_letters-word : (label other : List Segment) → IsTrue (is_word (next_letters label other))
 next_letters-word [] [] = refl
-next_letters-word [] (number n ∷ others) = refl
-next_letters-word [] (word letters ∷ others) = zeros_and_letter-word letters
+next_letters-word [] (number n ∷ more) = refl
+next_letters-word [] (word letters ∷ more) = zeros_and_letter-word letters
 next_letters-word (s ∷ rest) [] = refl
-next_letters-word (s ∷ rest) (t ∷ others) = next_letters-word rest others
+next_letters-word (s ∷ rest) (t ∷ more) = next_letters-word rest more
 
 all-append : {A : Type 0} (P : A → Type 0) (xs ys : List A) → AllByRecursion P xs →
     AllByRecursion P ys → AllByRecursion P (xs ++ ys)

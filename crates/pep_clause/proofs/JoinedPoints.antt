@@ -57,8 +57,8 @@ is_point-range_joined r s c =
     ∙ pair_up (is_lt (cut_cmp c r.high)) (is_lt (cut_cmp c s.high)) (not (is_lt (cut_cmp c r.low)))
     (not (is_lt (cut_cmp c s.low)))
 
-pub is_point-row_joined : (r : Range) (others : List Range) (c : Cut) →
-    is_point (row_joined r others) c ≡ (has_point r c && is_point others c)
+pub is_point-row_joined : (r : Range) (other_ranges : List Range) (c : Cut) →
+    is_point (row_joined r other_ranges) c ≡ (has_point r c && is_point other_ranges c)
 is_point-row_joined r [] c = sym (and-false (has_point r c))
 is_point-row_joined r (s ∷ rest) c =
     is_point-append (range_joined r s) (row_joined r rest) c
@@ -66,32 +66,32 @@ is_point-row_joined r (s ∷ rest) c =
     ∙ sym (and-or_distrib_left (has_point r c) (has_point s c) (is_point rest c))
 
 -- a cut is a point of what two lists have in common exactly if it is one of both
-pub is_point-joined : (ranges others : List Range) (c : Cut) →
-    is_point (joined ranges others) c ≡ (is_point ranges c && is_point others c)
-is_point-joined [] others c = refl
-is_point-joined (r ∷ rest) others c =
-    is_point-append (row_joined r others) (joined rest others) c
-    ∙ (λ i. is_point-row_joined r others c i || is_point-joined rest others c i)
-    ∙ sym (and-or_distrib_right (has_point r c) (is_point rest c) (is_point others c))
+pub is_point-joined : (ranges other_ranges : List Range) (c : Cut) →
+    is_point (joined ranges other_ranges) c ≡ (is_point ranges c && is_point other_ranges c)
+is_point-joined [] other_ranges c = refl
+is_point-joined (r ∷ rest) other_ranges c =
+    is_point-append (row_joined r other_ranges) (joined rest other_ranges) c
+    ∙ (λ i. is_point-row_joined r other_ranges c i || is_point-joined rest other_ranges c i)
+    ∙ sym (and-or_distrib_right (has_point r c) (is_point rest c) (is_point other_ranges c))
 
 -- a version is in what two lists have in common exactly if it is in both
-pub is_in-joined : (ranges others : List Range) (v : Version) →
-    is_in (joined ranges others) v ≡ (is_in ranges v && is_in others v)
-is_in-joined ranges others v =
-    is_in-is_point (joined ranges others) v
-    ∙ is_point-joined ranges others (before v)
-    ∙ (λ i. sym (is_in-is_point ranges v) i && sym (is_in-is_point others v) i)
+pub is_in-joined : (ranges other_ranges : List Range) (v : Version) →
+    is_in (joined ranges other_ranges) v ≡ (is_in ranges v && is_in other_ranges v)
+is_in-joined ranges other_ranges v =
+    is_in-is_point (joined ranges other_ranges) v
+    ∙ is_point-joined ranges other_ranges (before v)
+    ∙ (λ i. sym (is_in-is_point ranges v) i && sym (is_in-is_point other_ranges v) i)
 
 -- .. of a list that is what two lists have in common
-pub joined_points : (ranges others found : List Range) → found ≡ joined ranges others → (c : Cut) →
-    is_point found c ≡ (is_point ranges c && is_point others c)
-joined_points ranges others found e c =
-    (λ i. is_point (e i) c) ∙ is_point-joined ranges others c
+pub joined_points : (ranges other_ranges found : List Range) → found ≡ joined ranges other_ranges → (c : Cut) →
+    is_point found c ≡ (is_point ranges c && is_point other_ranges c)
+joined_points ranges other_ranges found e c =
+    (λ i. is_point (e i) c) ∙ is_point-joined ranges other_ranges c
 
-pub joined_versions : (ranges others found : List Range) → found ≡ joined ranges others →
-    (v : Version) → is_in found v ≡ (is_in ranges v && is_in others v)
-joined_versions ranges others found e v =
-    (λ i. is_in (e i) v) ∙ is_in-joined ranges others v
+pub joined_versions : (ranges other_ranges found : List Range) → found ≡ joined ranges other_ranges →
+    (v : Version) → is_in found v ≡ (is_in ranges v && is_in other_ranges v)
+joined_versions ranges other_ranges found e v =
+    (λ i. is_in (e i) v) ∙ is_in-joined ranges other_ranges v
 
 -- ---- ranges that lie in one range
 
@@ -118,8 +118,8 @@ point_within r s c e h =
     (λ t. ap not t))
 
 -- the points of ranges that lie in one range are points of that range
-pub is_point-within : (ranges others : List Range) (c : Cut) → are_within ranges others ≡ true →
-    is_point ranges c ≡ (is_point ranges c && is_point others c)
+pub is_point-within : (ranges other_ranges : List Range) (c : Cut) → are_within ranges other_ranges ≡ true →
+    is_point ranges c ≡ (is_point ranges c && is_point other_ranges c)
 is_point-within ranges [] c e = cc e
 is_point-within [] (s ∷ []) c e = refl
 is_point-within (r ∷ rest) (s ∷ []) c e =
@@ -130,16 +130,16 @@ is_point-within (r ∷ rest) (s ∷ []) c e =
 is_point-within ranges (s ∷ t ∷ rest) c e = cc e
 
 -- and so are their versions
-pub is_in-within : (ranges others : List Range) (v : Version) → are_within ranges others ≡ true →
-    is_in ranges v ≡ (is_in ranges v && is_in others v)
-is_in-within ranges others v e =
+pub is_in-within : (ranges other_ranges : List Range) (v : Version) → are_within ranges other_ranges ≡ true →
+    is_in ranges v ≡ (is_in ranges v && is_in other_ranges v)
+is_in-within ranges other_ranges v e =
     is_in-is_point ranges v
-    ∙ is_point-within ranges others (before v) e
-    ∙ (λ i. sym (is_in-is_point ranges v) i && sym (is_in-is_point others v) i)
+    ∙ is_point-within ranges other_ranges (before v) e
+    ∙ (λ i. sym (is_in-is_point ranges v) i && sym (is_in-is_point other_ranges v) i)
 
 -- where there is one other range
-pub one_other : (ranges others : List Range) (s : Range) → 1 ≤ length others → length others < 2 →
-    s ≡ get_or others 0 s → all_within ranges s ≡ are_within ranges others
+pub one_other : (ranges other_ranges : List Range) (s : Range) → 1 ≤ length other_ranges → length other_ranges < 2 →
+    s ≡ get_or other_ranges 0 s → all_within ranges s ≡ are_within ranges other_ranges
 one_other ranges [] s some one e = absurd (omega (arith, some))
 one_other ranges (t ∷ []) s some one e = ap (all_within ranges) e
 one_other ranges (t ∷ u ∷ rest) s some one e = absurd (omega (arith, one))

@@ -88,12 +88,12 @@ common_right r s e h g =
     ap (λ c. range c s.high) (later_turned s.low r.low g h)
     ∙ ap (λ b. range (later cut_cmp r.low s.low) (if b then r.high else s.high)) (sym e)
 
-moved_left : (ranges others found rest more : List Range) (r s t : Range) →
-    IsSwept ranges others found (r ∷ rest) (s ∷ more) → is_lt (cut_cmp r.high s.high) ≡ true →
+moved_left : (ranges other_ranges found rest more : List Range) (r s t : Range) →
+    IsSwept ranges other_ranges found (r ∷ rest) (s ∷ more) → is_lt (cut_cmp r.high s.high) ≡ true →
     SameBehind r.high s t → Under t.low t.high →
-    IsSwept ranges others (found ++ range_joined r s) rest (t ∷ more)
-moved_left ranges others found rest more r s t h e b up =
-    let turn = left_swept ranges others found r s rest more h e in record {
+    IsSwept ranges other_ranges (found ++ range_joined r s) rest (t ∷ more)
+moved_left ranges other_ranges found rest more r s t h e b up =
+    let turn = left_swept ranges other_ranges found r s rest more h e in record {
       rest = ap (λ x. (found ++ range_joined r s) ++ x)
           (sym (joined_behind r.high s t rest more h.left_apart.1 b))
           ∙ turn.rest;
@@ -101,12 +101,12 @@ moved_left ranges others found rest more r s t h e b up =
       right_apart = apart_behind r.high s t more up b h.right_apart;
     }
 
-moved_right : (ranges others found rest more : List Range) (r s t : Range) →
-    IsSwept ranges others found (r ∷ rest) (s ∷ more) → is_lt (cut_cmp r.high s.high) ≡ false →
+moved_right : (ranges other_ranges found rest more : List Range) (r s t : Range) →
+    IsSwept ranges other_ranges found (r ∷ rest) (s ∷ more) → is_lt (cut_cmp r.high s.high) ≡ false →
     SameBehind s.high r t → Under t.low t.high →
-    IsSwept ranges others (found ++ range_joined r s) (t ∷ rest) more
-moved_right ranges others found rest more r s t h e b up =
-    let turn = right_swept ranges others found r s rest more h e in record {
+    IsSwept ranges other_ranges (found ++ range_joined r s) (t ∷ rest) more
+moved_right ranges other_ranges found rest more r s t h e b up =
+    let turn = right_swept ranges other_ranges found r s rest more h e in record {
       rest = ap (λ x. (found ++ range_joined r s) ++ (x ++ joined rest more))
           (sym (row_behind s.high r t more h.right_apart.1 b))
           ∙ turn.rest;
@@ -115,38 +115,38 @@ moved_right ranges others found rest more r s t h e b up =
     }
 
 -- the same, of what the code finds
-pub left_moves : (ranges others found new rest more : List Range) (r s t : Range) →
-    IsSwept ranges others found (r ∷ rest) (s ∷ more) → is_lt (cut_cmp r.high s.high) ≡ true →
+pub left_moves : (ranges other_ranges found new rest more : List Range) (r s t : Range) →
+    IsSwept ranges other_ranges found (r ∷ rest) (s ∷ more) → is_lt (cut_cmp r.high s.high) ≡ true →
     SameBehind r.high s t → Under t.low t.high →
     new ≡ found ++ range (later cut_cmp r.low s.low) r.high →
-    IsSwept ranges others new rest (t ∷ more)
-left_moves ranges others found new rest more r s t h e behind up n =
-    subst (λ x. IsSwept ranges others x rest (t ∷ more))
+    IsSwept ranges other_ranges new rest (t ∷ more)
+left_moves ranges other_ranges found new rest more r s t h e behind up n =
+    subst (λ x. IsSwept ranges other_ranges x rest (t ∷ more))
     (sym (n ∙ ap (λ x. found ++ x) (common_left r s e)))
-    (moved_left ranges others found rest more r s t h e behind up)
+    (moved_left ranges other_ranges found rest more r s t h e behind up)
 
-pub right_moves : (ranges others found new rest more : List Range) (r s t : Range) →
-    IsSwept ranges others found (r ∷ rest) (s ∷ more) → is_lt (cut_cmp r.high s.high) ≡ false →
+pub right_moves : (ranges other_ranges found new rest more : List Range) (r s t : Range) →
+    IsSwept ranges other_ranges found (r ∷ rest) (s ∷ more) → is_lt (cut_cmp r.high s.high) ≡ false →
     IsCut s.low × IsCut r.low → SameBehind s.high r t → Under t.low t.high →
     new ≡ found ++ range (later cut_cmp s.low r.low) s.high →
-    IsSwept ranges others new (t ∷ rest) more
-right_moves ranges others found new rest more r s t h e cuts behind up n =
-    subst (λ x. IsSwept ranges others x (t ∷ rest) more)
+    IsSwept ranges other_ranges new (t ∷ rest) more
+right_moves ranges other_ranges found new rest more r s t h e cuts behind up n =
+    subst (λ x. IsSwept ranges other_ranges x (t ∷ rest) more)
     (sym (n ∙ ap (λ x. found ++ x) (common_right r s e cuts.1 cuts.0)))
-    (moved_right ranges others found rest more r s t h e behind up)
+    (moved_right ranges other_ranges found rest more r s t h e behind up)
 
 -- before the first turn
-pub first_moves : (ranges others found left right : List Range) → IsNormal ranges →
-    IsNormal others → found ≡ [] → ranges ≡ left → others ≡ right →
-    IsSwept ranges others found left right
-first_moves ranges others found left right h g e f k =
-    subst (λ x. IsSwept ranges others found x right) f
-    (subst (λ y. IsSwept ranges others found ranges y) k
-    (swept_first ranges others found 0 h g e).0)
+pub first_moves : (ranges other_ranges found left right : List Range) → IsNormal ranges →
+    IsNormal other_ranges → found ≡ [] → ranges ≡ left → other_ranges ≡ right →
+    IsSwept ranges other_ranges found left right
+first_moves ranges other_ranges found left right h g e f k =
+    subst (λ x. IsSwept ranges other_ranges found x right) f
+    (subst (λ y. IsSwept ranges other_ranges found ranges y) k
+    (swept_first ranges other_ranges found 0 h g e).0)
 
 -- where there is no other range
-pub none_moves : (ranges others found : List Range) → found ≡ [] → 0 ≡ length others →
-    found ≡ joined ranges others
+pub none_moves : (ranges other_ranges found : List Range) → found ≡ [] → 0 ≡ length other_ranges →
+    found ≡ joined ranges other_ranges
 none_moves ranges [] found e h = e ∙ sym (joined_with_none ranges)
 none_moves ranges (s ∷ more) found e h = absurd (omega (arith, h))
 

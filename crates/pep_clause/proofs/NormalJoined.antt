@@ -84,35 +84,35 @@ range_joined_spelled r s e f g h =
 
 -- ---- one range with a list
 
-row_above_first : (c : Cut) (r : Range) (others : List Range) → Under c r.low →
-    AllAbove c (row_joined r others)
+row_above_first : (c : Cut) (r : Range) (other_ranges : List Range) → Under c r.low →
+    AllAbove c (row_joined r other_ranges)
 row_above_first c r [] e = tt
 row_above_first c r (s ∷ rest) e =
     AllAbove-append c (range_joined r s) (row_joined r rest) (range_joined_above_first c r s e)
     (row_above_first c r rest e)
 
-row_above_second : (c : Cut) (r : Range) (others : List Range) → AllAbove c others →
-    AllAbove c (row_joined r others)
+row_above_second : (c : Cut) (r : Range) (other_ranges : List Range) → AllAbove c other_ranges →
+    AllAbove c (row_joined r other_ranges)
 row_above_second c r [] h = tt
 row_above_second c r (s ∷ rest) h =
     AllAbove-append c (range_joined r s) (row_joined r rest) (range_joined_above_second c r s h.0)
     (row_above_second c r rest h.1)
 
-row_within : (r : Range) (others : List Range) → NoneBeyond r.high (row_joined r others)
+row_within : (r : Range) (other_ranges : List Range) → NoneBeyond r.high (row_joined r other_ranges)
 row_within r [] = tt
 row_within r (s ∷ rest) =
     NoneBeyond-append r.high (range_joined r s) (row_joined r rest) (range_joined_within_first r s)
     (row_within r rest)
 
-row_apart : (r : Range) (others : List Range) → Apart others → Apart (row_joined r others)
+row_apart : (r : Range) (other_ranges : List Range) → Apart other_ranges → Apart (row_joined r other_ranges)
 row_apart r [] h = tt
 row_apart r (s ∷ rest) h =
     Apart-append s.high (range_joined r s) (row_joined r rest)
     (Apart-range (low_of r s) (high_of r s)) (row_apart r rest h.2)
     (range_joined_within_second r s) (row_above_second s.high r rest h.1)
 
-row_spelled : (r : Range) (others : List Range) → IsCut r.low → IsCut r.high → Spelled others →
-    Spelled (row_joined r others)
+row_spelled : (r : Range) (other_ranges : List Range) → IsCut r.low → IsCut r.high → Spelled other_ranges →
+    Spelled (row_joined r other_ranges)
 row_spelled r [] e f h = tt
 row_spelled r (s ∷ rest) e f h =
     Spelled-append (range_joined r s) (row_joined r rest) (range_joined_spelled r s e f h.0 h.1)
@@ -120,36 +120,36 @@ row_spelled r (s ∷ rest) e f h =
 
 -- ---- two lists
 
-joined_above : (c : Cut) (ranges others : List Range) → AllAbove c ranges →
-    AllAbove c (joined ranges others)
-joined_above c [] others h = tt
-joined_above c (r ∷ rest) others h =
-    AllAbove-append c (row_joined r others) (joined rest others) (row_above_first c r others h.0)
-    (joined_above c rest others h.1)
+joined_above : (c : Cut) (ranges other_ranges : List Range) → AllAbove c ranges →
+    AllAbove c (joined ranges other_ranges)
+joined_above c [] other_ranges h = tt
+joined_above c (r ∷ rest) other_ranges h =
+    AllAbove-append c (row_joined r other_ranges) (joined rest other_ranges) (row_above_first c r other_ranges h.0)
+    (joined_above c rest other_ranges h.1)
 
-joined_apart : (ranges others : List Range) → Apart ranges → Apart others →
-    Apart (joined ranges others)
-joined_apart [] others h g = tt
-joined_apart (r ∷ rest) others h g =
-    Apart-append r.high (row_joined r others) (joined rest others)
-    (row_apart r others g) (joined_apart rest others h.2 g)
-    (row_within r others) (joined_above r.high rest others h.1)
+joined_apart : (ranges other_ranges : List Range) → Apart ranges → Apart other_ranges →
+    Apart (joined ranges other_ranges)
+joined_apart [] other_ranges h g = tt
+joined_apart (r ∷ rest) other_ranges h g =
+    Apart-append r.high (row_joined r other_ranges) (joined rest other_ranges)
+    (row_apart r other_ranges g) (joined_apart rest other_ranges h.2 g)
+    (row_within r other_ranges) (joined_above r.high rest other_ranges h.1)
 
-joined_spelled : (ranges others : List Range) → Spelled ranges → Spelled others →
-    Spelled (joined ranges others)
-joined_spelled [] others h g = tt
-joined_spelled (r ∷ rest) others h g =
-    Spelled-append (row_joined r others) (joined rest others) (row_spelled r others h.0 h.1 g)
-    (joined_spelled rest others h.2 g)
+joined_spelled : (ranges other_ranges : List Range) → Spelled ranges → Spelled other_ranges →
+    Spelled (joined ranges other_ranges)
+joined_spelled [] other_ranges h g = tt
+joined_spelled (r ∷ rest) other_ranges h g =
+    Spelled-append (row_joined r other_ranges) (joined rest other_ranges) (row_spelled r other_ranges h.0 h.1 g)
+    (joined_spelled rest other_ranges h.2 g)
 
 -- what two normal lists have in common is a normal list
-pub IsNormal-joined : (ranges others : List Range) → IsNormal ranges → IsNormal others →
-    IsNormal (joined ranges others)
-IsNormal-joined ranges others h g =
-    IsNormal-from (joined ranges others)
-    (joined_apart ranges others (IsNormal-apart ranges h) (IsNormal-apart others g))
-    (joined_spelled ranges others (IsNormal-spelled ranges h) (IsNormal-spelled others g))
+pub IsNormal-joined : (ranges other_ranges : List Range) → IsNormal ranges → IsNormal other_ranges →
+    IsNormal (joined ranges other_ranges)
+IsNormal-joined ranges other_ranges h g =
+    IsNormal-from (joined ranges other_ranges)
+    (joined_apart ranges other_ranges (IsNormal-apart ranges h) (IsNormal-apart other_ranges g))
+    (joined_spelled ranges other_ranges (IsNormal-spelled ranges h) (IsNormal-spelled other_ranges g))
 
-pub joined_normal : (ranges others found : List Range) → found ≡ joined ranges others →
-    IsNormal ranges → IsNormal others → IsNormal found
-joined_normal ranges others found e h g = rw e (IsNormal-joined ranges others h g)
+pub joined_normal : (ranges other_ranges found : List Range) → found ≡ joined ranges other_ranges →
+    IsNormal ranges → IsNormal other_ranges → IsNormal found
+joined_normal ranges other_ranges found e h g = rw e (IsNormal-joined ranges other_ranges h g)

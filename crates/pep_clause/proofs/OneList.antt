@@ -39,7 +39,7 @@ none_under_first r rest c h e =
     (none_below r.high c rest h.1 (not_turned cut_total c r.high
     (cut_total.trans c r.low r.high (less_told (cut_cmp c r.low) e) h.0)))
 
--- above the first range the points are those of the others
+-- above the first range the points are those of the rest
 past_first : (r : Range) (rest : List Range) (c : Cut) → is_lt (cut_cmp c r.high) ≡ false →
     is_point (r ∷ rest) c ≡ is_point rest c
 past_first r rest c e =
@@ -100,8 +100,8 @@ same_rest r s rest more h g high same c spelled =
     (λ t. sym (past_first r rest c t) ∙ same c spelled
     ∙ past_first s more c ((λ i. is_lt (cut_cmp c (sym high i))) ∙ t))
 
-one_list : (ranges others : List Range) → Apart ranges → Apart others → Spelled ranges →
-    Spelled others → SamePoints ranges others → ranges ≡ others
+one_list : (ranges other_ranges : List Range) → Apart ranges → Apart other_ranges → Spelled ranges →
+    Spelled other_ranges → SamePoints ranges other_ranges → ranges ≡ other_ranges
 one_list [] [] h g e f same = refl
 one_list [] (s ∷ more) h g e f same =
     answers_differ (is_point (s ∷ more) s.low) false (sym (same s.low f.0))
@@ -112,12 +112,12 @@ one_list (r ∷ rest) [] h g e f same =
 one_list (r ∷ rest) (s ∷ more) h g e f same =
     let low = one_low r s rest more h g e.0 f.0 same in
     let high = one_high r s rest more h g e.1 f.1 low same in
-    let others = one_list rest more h.2 g.2 e.2 f.2 (same_rest r s rest more h g high same) in
-    λ i. record { low = low i; high = high i } ∷ others i
+    let same_rests = one_list rest more h.2 g.2 e.2 f.2 (same_rest r s rest more h g high same) in
+    λ i. record { low = low i; high = high i } ∷ same_rests i
 
 -- two normal lists with the same points are one list
-pub same_points : (ranges others : List Range) → IsNormal ranges → IsNormal others →
-    SamePoints ranges others → ranges ≡ others
-same_points ranges others h g same =
-    one_list ranges others (IsNormal-apart ranges h) (IsNormal-apart others g)
-    (IsNormal-spelled ranges h) (IsNormal-spelled others g) same
+pub same_points : (ranges other_ranges : List Range) → IsNormal ranges → IsNormal other_ranges →
+    SamePoints ranges other_ranges → ranges ≡ other_ranges
+same_points ranges other_ranges h g same =
+    one_list ranges other_ranges (IsNormal-apart ranges h) (IsNormal-apart other_ranges g)
+    (IsNormal-spelled ranges h) (IsNormal-spelled other_ranges g) same

@@ -78,10 +78,10 @@ until_low (r ∷ rest) c h s k e n =
           let both =
           and_parts (below p more.0) (below p r.low)
           (sym (below-earlier cut_total p more.0 r.low) ∙ b) in
-          let others = more.3 p a both.0 in (
-            others.0,
+          let clear = more.3 p a both.0 in (
+            clear.0,
             or_from (is_between cut_cmp r.low r.high p) (is_point rest p)
-                (and_not_right (below p r.high) (below p r.low) both.1) others.1,
+                (and_not_right (below p r.high) (below p r.low) both.1) clear.1,
           ),
     ))
     (λ f. (
@@ -89,13 +89,13 @@ until_low (r ∷ rest) c h s k e n =
       more.1,
       more.2,
       λ p a b.
-          let others = more.3 p a b in
+          let clear = more.3 p a b in
           let past : below p r.high ≡ false =
           still_not_below p c r.high a (and_not_first (below c r.high) (below c r.low) none.0 f)
           in (
-            others.0,
+            clear.0,
             or_from (is_between cut_cmp r.low r.high p) (is_point rest p)
-                (and_left (below p r.high) (not (below p r.low)) past) others.1,
+                (and_left (below p r.high) (not (below p r.low)) past) clear.1,
           ),
     ))
 
@@ -133,12 +133,12 @@ versions-point ranges c h normal is high less all =
 
 -- a cut is no point of the one list alone: a version is between it and the next place where a list
 -- changes
-not_one_alone : (ranges others : List Range) → IsNormal ranges → IsNormal others →
-    SameVersions ranges others → (c : Cut) → IsCut c
-    → is_point ranges c ≡ true → is_point others c ≡ false → ⊥
-not_one_alone ranges others h g same c is e f =
+not_one_alone : (ranges other_ranges : List Range) → IsNormal ranges → IsNormal other_ranges →
+    SameVersions ranges other_ranges → (c : Cut) → IsCut c
+    → is_point ranges c ≡ true → is_point other_ranges c ≡ false → ⊥
+not_one_alone ranges other_ranges h g same c is e f =
     let inside = until_high ranges c (IsNormal-spelled ranges h) e in
-    let outside = until_low others c inside.0 (IsNormal-spelled others g) inside.1 inside.2 f in
+    let outside = until_low other_ranges c inside.0 (IsNormal-spelled other_ranges g) inside.1 inside.2 f in
     let found = between_cuts c outside.0 is outside.1 (less_told (cut_cmp c outside.0) outside.2) in
     let not_below : below (before found.0) c ≡ false = sym (is_under-cut_cmp c found.0) ∙ found.2 in
     let under : below (before found.0) outside.0 ≡ true =
@@ -146,19 +146,19 @@ not_one_alone ranges others h g same c is e f =
     let none = outside.3 (before found.0) not_below under in
     let some = inside.3 (before found.0) not_below none.0 in
     cc (sym some ∙ sym (is_in-is_point ranges found.0) ∙ same found.0 found.1
-    ∙ is_in-is_point others found.0 ∙ none.1)
+    ∙ is_in-is_point other_ranges found.0 ∙ none.1)
 
 -- two normal lists that hold the same versions are one list
-pub same_versions : (ranges others : List Range) → IsNormal ranges → IsNormal others →
-    SameVersions ranges others → ranges ≡ others
-same_versions ranges others h g same =
-    same_points ranges others h g
+pub same_versions : (ranges other_ranges : List Range) → IsNormal ranges → IsNormal other_ranges →
+    SameVersions ranges other_ranges → ranges ≡ other_ranges
+same_versions ranges other_ranges h g same =
+    same_points ranges other_ranges h g
     (λ c is.
     by_answer (is_point ranges c)
-    (λ t. by_answer (is_point others c) (λ u. t ∙ sym u) (λ f.
-    absurd (not_one_alone ranges others h g same c is t f)))
-    (λ f. by_answer (is_point others c) (λ t.
-    absurd (not_one_alone others ranges g h (λ v k. sym (same v k)) c is t f)) (λ u. f
+    (λ t. by_answer (is_point other_ranges c) (λ u. t ∙ sym u) (λ f.
+    absurd (not_one_alone ranges other_ranges h g same c is t f)))
+    (λ f. by_answer (is_point other_ranges c) (λ t.
+    absurd (not_one_alone other_ranges ranges g h (λ v k. sym (same v k)) c is t f)) (λ u. f
     ∙ sym u)))
 
 -- ---- equal sets
@@ -172,8 +172,8 @@ tied_cut c d h g e = one-cut c d h g (told (cut_cmp c d) e)
     told Equal e = refl
     told Greater e = cc e
 
-same_told : (ranges others : List Range) → Spelled ranges → Spelled others →
-    same_ranges ranges others ≡ true → ranges ≡ others
+same_told : (ranges other_ranges : List Range) → Spelled ranges → Spelled other_ranges →
+    same_ranges ranges other_ranges ≡ true → ranges ≡ other_ranges
 same_told [] [] h g e = refl
 same_told [] (s ∷ more) h g e = cc e
 same_told (r ∷ rest) [] h g e = cc e
@@ -182,22 +182,22 @@ same_told (r ∷ rest) (s ∷ more) h g e =
     let cuts = and_parts (is_eq (cut_cmp r.low s.low)) (is_eq (cut_cmp r.high s.high)) both.0 in
     let low = tied_cut r.low s.low h.0 g.0 cuts.0 in
     let high = tied_cut r.high s.high h.1 g.1 cuts.1 in
-    let others = same_told rest more h.2 g.2 both.1 in
-    λ i. record { low = low i; high = high i } ∷ others i
+    let same_rests = same_told rest more h.2 g.2 both.1 in
+    λ i. record { low = low i; high = high i } ∷ same_rests i
 
 -- `==` says that two sets are one list
-pub same_ranges-exactly : (ranges others : List Range) (b : Bool) → IsNormal ranges →
-    IsNormal others → b ≡ same_ranges ranges others
-    → IsTrue b ↔ (ranges ≡ others)
-same_ranges-exactly ranges others b h g e = (
-  λ t. same_told ranges others (IsNormal-spelled ranges h) (IsNormal-spelled others g) (sym e ∙ t),
-  λ one. e ∙ (λ i. same_ranges (one i) others) ∙ same_ranges-equiv.refl others,
+pub same_ranges-exactly : (ranges other_ranges : List Range) (b : Bool) → IsNormal ranges →
+    IsNormal other_ranges → b ≡ same_ranges ranges other_ranges
+    → IsTrue b ↔ (ranges ≡ other_ranges)
+same_ranges-exactly ranges other_ranges b h g e = (
+  λ t. same_told ranges other_ranges (IsNormal-spelled ranges h) (IsNormal-spelled other_ranges g) (sym e ∙ t),
+  λ one. e ∙ (λ i. same_ranges (one i) other_ranges) ∙ same_ranges-equiv.refl other_ranges,
 )
 
 -- and so that they hold the same versions
-pub same_versions-exactly : (ranges others : List Range) (b : Bool) → IsNormal ranges →
-    IsNormal others → b ≡ same_ranges ranges others
-    → IsTrue b ↔ SameVersions ranges others
-same_versions-exactly ranges others b h g e =
-    let list = same_ranges-exactly ranges others b h g e in
-    (λ t v k. (λ i. is_in (list.0 t i) v), λ same. list.1 (same_versions ranges others h g same))
+pub same_versions-exactly : (ranges other_ranges : List Range) (b : Bool) → IsNormal ranges →
+    IsNormal other_ranges → b ≡ same_ranges ranges other_ranges
+    → IsTrue b ↔ SameVersions ranges other_ranges
+same_versions-exactly ranges other_ranges b h g e =
+    let list = same_ranges-exactly ranges other_ranges b h g e in
+    (λ t v k. (λ i. is_in (list.0 t i) v), λ same. list.1 (same_versions ranges other_ranges h g same))

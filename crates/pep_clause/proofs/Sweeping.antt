@@ -35,7 +35,7 @@ none_below t s e =
     (below-later_first cut_total s.high t.low s.low e)
     (earlier-not_above_second cut_total t.high s.high)
 
-row_none : (r : Range) (others : List Range) → AllAbove r.high others → row_joined r others ≡ []
+row_none : (r : Range) (other_ranges : List Range) → AllAbove r.high other_ranges → row_joined r other_ranges ≡ []
 row_none r [] h = refl
 row_none r (t ∷ rest) h = λ i. none_above r t h.0 i ++ row_none r rest h.1 i
 
@@ -79,7 +79,7 @@ one_or_none r s =
     at_most_one (is_lt (cut_cmp low high)) (record { low = low; high = high })
 
 abbrev IsShort : List Range → List Range → Type 0
-IsShort ranges others = length (joined ranges others) ≤ length ranges + length others - 1
+IsShort ranges other_ranges = length (joined ranges other_ranges) ≤ length ranges + length other_ranges - 1
 
 left_short : (r s : Range) (rest more : List Range) → IsShort rest (s ∷ more) →
     joined (r ∷ rest) (s ∷ more) ≡ range_joined r s ++ joined rest (s ∷ more) →
@@ -102,60 +102,60 @@ short_by false r s rest more e h g left right =
     right_short r s rest more right (right_passed r s rest more h e)
 
 row_short : (r : Range) (rest : List Range) →
-    ((others : List Range) → Apart others → IsShort rest others) → Apart (r ∷ rest) →
-    (others : List Range) → Apart others → IsShort (r ∷ rest) others
+    ((other_ranges : List Range) → Apart other_ranges → IsShort rest other_ranges) → Apart (r ∷ rest) →
+    (other_ranges : List Range) → Apart other_ranges → IsShort (r ∷ rest) other_ranges
 row_short r rest f h [] g = rw (joined_with_none rest) (omega arith)
 row_short r rest f h (s ∷ more) g =
     short_by (is_lt (cut_cmp r.high s.high)) r s rest more refl h g (f (s ∷ more) g)
     (row_short r rest f h more g.2)
 
-joined_short : (ranges : List Range) → Apart ranges → (others : List Range) → Apart others →
-    IsShort ranges others
-joined_short [] h others g = omega arith
-joined_short (r ∷ rest) h others g = row_short r rest (joined_short rest h.2) h others g
+joined_short : (ranges : List Range) → Apart ranges → (other_ranges : List Range) → Apart other_ranges →
+    IsShort ranges other_ranges
+joined_short [] h other_ranges g = omega arith
+joined_short (r ∷ rest) h other_ranges g = row_short r rest (joined_short rest h.2) h other_ranges g
 
-none_of : (ranges others : List Range) → (ranges ≡ []) ⊎ (others ≡ []) → joined ranges others ≡ []
-none_of ranges others (inl e) = ap (λ x. joined x others) e
-none_of ranges others (inr e) = ap (joined ranges) e ∙ joined_with_none ranges
+none_of : (ranges other_ranges : List Range) → (ranges ≡ []) ⊎ (other_ranges ≡ []) → joined ranges other_ranges ≡ []
+none_of ranges other_ranges (inl e) = ap (λ x. joined x other_ranges) e
+none_of ranges other_ranges (inr e) = ap (joined ranges) e ∙ joined_with_none ranges
 
 -- what two normal lists have in common has few ranges
-pub few_ranges : (ranges others found : List Range) → found ≡ joined ranges others →
-    IsNormal ranges → IsNormal others → HasFewRanges ranges others found
-few_ranges ranges others found e h g = rw e (record {
-  most = joined_short ranges (IsNormal-apart ranges h) others (IsNormal-apart others g);
-  none = none_of ranges others;
+pub few_ranges : (ranges other_ranges found : List Range) → found ≡ joined ranges other_ranges →
+    IsNormal ranges → IsNormal other_ranges → HasFewRanges ranges other_ranges found
+few_ranges ranges other_ranges found e h g = rw e (record {
+  most = joined_short ranges (IsNormal-apart ranges h) other_ranges (IsNormal-apart other_ranges g);
+  none = none_of ranges other_ranges;
 })
 
 -- ---- the loop of the sweep
 
 -- What is found so far, and what is left of both lists: with what that has in common it is all that the two lists
 -- have in common.
-pub record IsSwept (ranges others found left right : List Range) : Type 0 where
-  pub rest : found ++ joined left right ≡ joined ranges others
+pub record IsSwept (ranges other_ranges found left right : List Range) : Type 0 where
+  pub rest : found ++ joined left right ≡ joined ranges other_ranges
   pub left_apart : Apart left
   pub right_apart : Apart right
 
 -- .. with the turns so far: each passes a range, and no other change is made to their count
 abbrev pub SweepState : List Range → List Range → ℕ → List Range → List Range → List Range → ℕ →
     Type 0
-SweepState ranges others before found left right passed =
-    IsSwept ranges others found left right
-    × (passed + (length left + length right) ≤ before + (length ranges + length others))
+SweepState ranges other_ranges before found left right passed =
+    IsSwept ranges other_ranges found left right
+    × (passed + (length left + length right) ≤ before + (length ranges + length other_ranges))
     × (before ≤ passed)
 
-pub swept_first : (ranges others found : List Range) (before : ℕ) → IsNormal ranges →
-    IsNormal others → found ≡ [] → SweepState ranges others before found ranges others before
-swept_first ranges others found before h g e = (
+pub swept_first : (ranges other_ranges found : List Range) (before : ℕ) → IsNormal ranges →
+    IsNormal other_ranges → found ≡ [] → SweepState ranges other_ranges before found ranges other_ranges before
+swept_first ranges other_ranges found before h g e = (
   record {
-    rest = ap (λ x. x ++ joined ranges others) e;
+    rest = ap (λ x. x ++ joined ranges other_ranges) e;
     left_apart = IsNormal-apart ranges h;
-    right_apart = IsNormal-apart others g;
+    right_apart = IsNormal-apart other_ranges g;
   },
   omega arith,
   omega arith,
 )
 
--- a list, by its first range and the others
+-- a list, by its first range and the rest
 pub cut_first : (ranges : List Range) (r : Range) (n : ℕ) → 1 ≤ length ranges →
     r ≡ get_or ranges 0 r → n ≡ length ranges - 1 → ranges ≡ r ∷ take n (drop 1 ranges)
 cut_first [] r n some e f = absurd (omega (arith, some))
@@ -163,10 +163,10 @@ cut_first (x ∷ rest) r n some e f =
     (λ i. sym e i ∷ rest) ∙ ap (λ xs. r ∷ xs) (sym (take_all n rest (omega (arith, f))))
 
 -- a turn that passes the left range, or the right one
-pub left_swept : (ranges others found : List Range) (r s : Range) (rest more : List Range) →
-    IsSwept ranges others found (r ∷ rest) (s ∷ more) → is_lt (cut_cmp r.high s.high) ≡ true →
-    IsSwept ranges others (found ++ range_joined r s) rest (s ∷ more)
-left_swept ranges others found r s rest more h e = record {
+pub left_swept : (ranges other_ranges found : List Range) (r s : Range) (rest more : List Range) →
+    IsSwept ranges other_ranges found (r ∷ rest) (s ∷ more) → is_lt (cut_cmp r.high s.high) ≡ true →
+    IsSwept ranges other_ranges (found ++ range_joined r s) rest (s ∷ more)
+left_swept ranges other_ranges found r s rest more h e = record {
   rest = append_assoc found (range_joined r s) (joined rest (s ∷ more))
       ∙ ap (λ x. found ++ x) (sym (left_passed r s rest more h.right_apart e))
       ∙ h.rest;
@@ -174,10 +174,10 @@ left_swept ranges others found r s rest more h e = record {
   right_apart = h.right_apart;
 }
 
-pub right_swept : (ranges others found : List Range) (r s : Range) (rest more : List Range) →
-    IsSwept ranges others found (r ∷ rest) (s ∷ more) → is_lt (cut_cmp r.high s.high) ≡ false →
-    IsSwept ranges others (found ++ range_joined r s) (r ∷ rest) more
-right_swept ranges others found r s rest more h e = record {
+pub right_swept : (ranges other_ranges found : List Range) (r s : Range) (rest more : List Range) →
+    IsSwept ranges other_ranges found (r ∷ rest) (s ∷ more) → is_lt (cut_cmp r.high s.high) ≡ false →
+    IsSwept ranges other_ranges (found ++ range_joined r s) (r ∷ rest) more
+right_swept ranges other_ranges found r s rest more h e = record {
   rest = append_assoc found (range_joined r s) (joined (r ∷ rest) more)
       ∙ ap (λ x. found ++ x) (sym (right_passed r s rest more h.left_apart e))
       ∙ h.rest;
@@ -185,42 +185,42 @@ right_swept ranges others found r s rest more h e = record {
   right_apart = h.right_apart.2;
 }
 
-pub left_turn : (ranges others found left right new rest more : List Range) (r s : Range)
-    (before passed next : ℕ) → SweepState ranges others before found left right passed →
+pub left_turn : (ranges other_ranges found left right new rest more : List Range) (r s : Range)
+    (before passed next : ℕ) → SweepState ranges other_ranges before found left right passed →
     left ≡ r ∷ rest → right ≡ s ∷ more → new ≡ found ++ range_joined r s → next ≡ passed + 1 →
-    is_lt (cut_cmp r.high s.high) ≡ true → SweepState ranges others before new rest right next
-left_turn ranges others found left right new rest more r s before passed next h e f g k lt =
-    let whole = subst (λ x. SweepState ranges others before found x right passed) e h in
-    let both = subst (λ y. IsSwept ranges others found (r ∷ rest) y) f whole.0 in
-    let done = left_swept ranges others found r s rest more both lt in (
-      subst (λ y. IsSwept ranges others new rest y) (sym f)
-          (subst (λ x. IsSwept ranges others x rest (s ∷ more)) (sym g) done),
+    is_lt (cut_cmp r.high s.high) ≡ true → SweepState ranges other_ranges before new rest right next
+left_turn ranges other_ranges found left right new rest more r s before passed next h e f g k lt =
+    let whole = subst (λ x. SweepState ranges other_ranges before found x right passed) e h in
+    let both = subst (λ y. IsSwept ranges other_ranges found (r ∷ rest) y) f whole.0 in
+    let done = left_swept ranges other_ranges found r s rest more both lt in (
+      subst (λ y. IsSwept ranges other_ranges new rest y) (sym f)
+          (subst (λ x. IsSwept ranges other_ranges x rest (s ∷ more)) (sym g) done),
       omega (arith, whole.1, k),
       omega (arith, whole.2, k),
     )
 
-pub right_turn : (ranges others found left right new rest more : List Range) (r s : Range)
-    (before passed next : ℕ) → SweepState ranges others before found left right passed →
+pub right_turn : (ranges other_ranges found left right new rest more : List Range) (r s : Range)
+    (before passed next : ℕ) → SweepState ranges other_ranges before found left right passed →
     left ≡ r ∷ rest → right ≡ s ∷ more → new ≡ found ++ range_joined r s → next ≡ passed + 1 →
-    is_lt (cut_cmp r.high s.high) ≡ false → SweepState ranges others before new left more next
-right_turn ranges others found left right new rest more r s before passed next h e f g k lt =
-    let whole = subst (λ y. SweepState ranges others before found left y passed) f h in
-    let both = subst (λ x. IsSwept ranges others found x (s ∷ more)) e whole.0 in
-    let done = right_swept ranges others found r s rest more both lt in (
-      subst (λ x. IsSwept ranges others new x more) (sym e)
-          (subst (λ x. IsSwept ranges others x (r ∷ rest) more) (sym g) done),
+    is_lt (cut_cmp r.high s.high) ≡ false → SweepState ranges other_ranges before new left more next
+right_turn ranges other_ranges found left right new rest more r s before passed next h e f g k lt =
+    let whole = subst (λ y. SweepState ranges other_ranges before found left y passed) f h in
+    let both = subst (λ x. IsSwept ranges other_ranges found x (s ∷ more)) e whole.0 in
+    let done = right_swept ranges other_ranges found r s rest more both lt in (
+      subst (λ x. IsSwept ranges other_ranges new x more) (sym e)
+          (subst (λ x. IsSwept ranges other_ranges x (r ∷ rest) more) (sym g) done),
       omega (arith, whole.1, k),
       omega (arith, whole.2, k),
     )
 
 -- where one list is used up, all is found
-pub swept_left : (ranges others found left right : List Range) →
-    IsSwept ranges others found left right → length left < 1 → found ≡ joined ranges others
-swept_left ranges others found [] right h few = sym (append-nil found) ∙ h.rest
-swept_left ranges others found (r ∷ left) right h few = absurd (omega (arith, few))
+pub swept_left : (ranges other_ranges found left right : List Range) →
+    IsSwept ranges other_ranges found left right → length left < 1 → found ≡ joined ranges other_ranges
+swept_left ranges other_ranges found [] right h few = sym (append-nil found) ∙ h.rest
+swept_left ranges other_ranges found (r ∷ left) right h few = absurd (omega (arith, few))
 
-pub swept_right : (ranges others found left right : List Range) →
-    IsSwept ranges others found left right → length right < 1 → found ≡ joined ranges others
-swept_right ranges others found left [] h few =
+pub swept_right : (ranges other_ranges found left right : List Range) →
+    IsSwept ranges other_ranges found left right → length right < 1 → found ≡ joined ranges other_ranges
+swept_right ranges other_ranges found left [] h few =
     sym (ap (λ x. found ++ x) (joined_with_none left) ∙ append-nil found) ∙ h.rest
-swept_right ranges others found left (s ∷ right) h few = absurd (omega (arith, few))
+swept_right ranges other_ranges found left (s ∷ right) h few = absurd (omega (arith, few))

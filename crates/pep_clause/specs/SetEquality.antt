@@ -24,8 +24,8 @@ same_ranges-equiv = lists_equiv same_range-equiv
 
 -- the two sets hold the same versions
 abbrev pub SameVersions : List Range → List Range → Type 0
-SameVersions ranges others = (v : Version) → IsVersion v → is_in ranges v ≡ is_in others v
+SameVersions ranges other_ranges = (v : Version) → IsVersion v → is_in ranges v ≡ is_in other_ranges v
 
 -- the two lists have the same points
 abbrev pub SamePoints : List Range → List Range → Type 0
-SamePoints ranges others = (c : Cut) → IsCut c → is_point ranges c ≡ is_point others c
+SamePoints ranges other_ranges = (c : Cut) → IsCut c → is_point ranges c ≡ is_point other_ranges c

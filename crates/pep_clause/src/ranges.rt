@@ -82,18 +82,18 @@ impl Ranges {
     }
 
     /// What both have in common, which are used up: no cut is copied.
-    pub(crate) fn common(self, alloc: Global, others: Ranges) -> Result<Ranges, AllocError>
+    pub(crate) fn common(self, alloc: Global, other_ranges: Ranges) -> Result<Ranges, AllocError>
         requires ranges { IsNormal (ranges_of self) }
-        requires others { IsNormal (ranges_of others) }
-        ensures { IfOk result (λ both. ranges_of both ≡ joined (ranges_of self) (ranges_of others)) }
+        requires other_ranges { IsNormal (ranges_of other_ranges) }
+        ensures { IfOk result (λ both. ranges_of both ≡ joined (ranges_of self) (ranges_of other_ranges)) }
     {
-        match (self, others) {
+        match (self, other_ranges) {
             (Ranges::One(range), Ranges::One(other)) => {
                 Ok(Ranges::of_option(alloc, range.common(other)))
             }
-            (ranges, others) => {
+            (ranges, other_ranges) => {
                 let list = ranges.into_list(alloc)?;
-                let other_list = others.into_list(alloc)?;
+                let other_list = other_ranges.into_list(alloc)?;
                 Ok(Ranges::of_list(moved_ranges(alloc, list, other_list)?))
             }
         }

@@ -112,11 +112,11 @@ fn all_within(ranges: &[Range], other: &Range) -> bool
     ranges.iter().all(|range| range.is_within(other))
 }
 
-/// Whether all the ranges lie in the one range of the others.
-fn are_within(ranges: &[Range], others: &[Range]) -> bool
-    ensures { result ≡ are_within ranges.now others.now }
+/// Whether the other ranges are a single one, in which all the ranges lie.
+fn are_within(ranges: &[Range], other_ranges: &[Range]) -> bool
+    ensures { result ≡ are_within ranges.now other_ranges.now }
 {
-    match others {
+    match other_ranges {
         [other] => all_within(ranges, other),
         _ => false,
     }
@@ -265,8 +265,8 @@ impl VersionSet {
         ensures no_fewer { turns.old.passed ≤ turns.new.passed }
         ensures faults { IfErr result (λ e. e ≡ ClauseFault.NoMemory) }
     {
-        let (ranges, others) = (self.ranges.as_slice(), other.ranges.as_slice());
-        let ranges = swept_ranges(alloc, ranges, others, turns)?;
+        let (ranges, other_ranges) = (self.ranges.as_slice(), other.ranges.as_slice());
+        let ranges = swept_ranges(alloc, ranges, other_ranges, turns)?;
         Ok(VersionSet {
             ranges: Ranges::of_list(ranges),
         })

@@ -55,19 +55,19 @@ fn push_common(
 pub(crate) fn swept_ranges(
     alloc: Global,
     ranges: &[Range],
-    others: &[Range],
+    other_ranges: &[Range],
     turns: &mut Turns,
 ) -> Result<Vec<Range>, AllocError>
     requires ranges { IsNormal ranges.now }
-    requires others { IsNormal others.now }
-    ensures ok { IfOk result (λ done. done.items ≡ joined ranges.now others.now) }
-    ensures turns { turns.new.passed ≤ turns.old.passed + (length ranges.now + length others.now) }
+    requires other_ranges { IsNormal other_ranges.now }
+    ensures ok { IfOk result (λ done. done.items ≡ joined ranges.now other_ranges.now) }
+    ensures turns { turns.new.passed ≤ turns.old.passed + (length ranges.now + length other_ranges.now) }
     ensures no_fewer { turns.old.passed ≤ turns.new.passed }
 {
     // Between two ranges in common one of the lists goes on to its next.
-    let most = ranges.len().saturating_add(others.len().saturating_sub(1));
+    let most = ranges.len().saturating_add(other_ranges.len().saturating_sub(1));
     let mut done = Vec::with_capacity(alloc, most)?;
-    let (mut left, mut right) = (ranges, others);
+    let (mut left, mut right) = (ranges, other_ranges);
     'sweep: loop {
         let [range, left_rest @ ..] = left else {
             return Ok(done);
@@ -102,15 +102,15 @@ fn push_first(done: &mut Vec<Range>, mut first: Range, other: &mut Range) -> Res
 pub(crate) fn moved_ranges(
     alloc: Global,
     ranges: Vec<Range>,
-    others: Vec<Range>,
+    other_ranges: Vec<Range>,
 ) -> Result<Vec<Range>, AllocError>
     requires ranges { IsNormal ranges.items }
-    requires others { IsNormal others.items }
-    ensures { IfOk result (λ done. done.items ≡ joined ranges.items others.items) }
+    requires other_ranges { IsNormal other_ranges.items }
+    ensures { IfOk result (λ done. done.items ≡ joined ranges.items other_ranges.items) }
 {
-    let most = ranges.len().saturating_add(others.len().saturating_sub(1));
+    let most = ranges.len().saturating_add(other_ranges.len().saturating_sub(1));
     let mut done = Vec::with_capacity(alloc, most)?;
-    let (mut left, mut right) = (ranges.into_iter(), others.into_iter());
+    let (mut left, mut right) = (ranges.into_iter(), other_ranges.into_iter());
     let Some(mut range) = left.next() else {
         return Ok(done);
     };

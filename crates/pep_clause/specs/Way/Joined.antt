@@ -33,8 +33,8 @@ row_joined r (s ∷ rest) = range_joined r s ++ row_joined r rest
 
 -- what two lists have in common
 abbrev pub joined : List Range → List Range → List Range
-joined [] others = []
-joined (r ∷ rest) others = row_joined r others ++ joined rest others
+joined [] other_ranges = []
+joined (r ∷ rest) other_ranges = row_joined r other_ranges ++ joined rest other_ranges
 
 -- the range begins and ends inside the other
 abbrev pub is_within : Range → Range → Bool
@@ -44,7 +44,7 @@ is_within r s = is_ge (cut_cmp r.low s.low) && is_ge (cut_cmp s.high r.high)
 abbrev pub all_within : List Range → Range → Bool
 all_within ranges s = list_all (λ r. is_within r s) ranges
 
--- all the ranges lie in the one range of the others
+-- the other ranges are a single one, in which all the ranges lie
 abbrev pub are_within : List Range → List Range → Bool
 are_within ranges [] = false
 are_within ranges (s ∷ []) = all_within ranges s

@@ -6,7 +6,7 @@ use Rattle.pep_clause.proofs.sweep.moved_ranges.Given as goal
 -- .. of each list the range at hand is the first that is left
 abbrev pub invariant-sweep : goal.invariant-sweep
 invariant-sweep l =
-    IsSwept l.fn.ranges.items l.fn.others.items l.done.items (l.range ∷ into_iter_items l.left)
+    IsSwept l.fn.ranges.items l.fn.other_ranges.items l.done.items (l.range ∷ into_iter_items l.left)
     (l.other ∷ into_iter_items l.right)
     × (into_iter_len l.left ≡ length (into_iter_items l.left))
     × (into_iter_len l.right ≡ length (into_iter_items l.right))

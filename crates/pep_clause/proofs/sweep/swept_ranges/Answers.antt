@@ -7,12 +7,12 @@ use Rattle.pep_clause.proofs.sweep.swept_ranges.Goals as goal
 
 pub sweep-init : goal.sweep-init
 sweep-init c =
-    swept_first c.args.ranges.now c.args.others.now c.in_ok-done.done.items
-    c.args.turns.now.passed c.requires.ranges c.requires.others c.in_ok-done.ensures.items
+    swept_first c.args.ranges.now c.args.other_ranges.now c.in_ok-done.done.items
+    c.args.turns.now.passed c.requires.ranges c.requires.other_ranges c.in_ok-done.ensures.items
 
 pub returns-in_default-right-clause-ok : goal.returns-in_default-right-clause-ok
 returns-in_default-right-clause-ok c =
-    swept_right c.args.ranges.now c.args.others.now c.sweep.done.items c.sweep.left.now
+    swept_right c.args.ranges.now c.args.other_ranges.now c.sweep.done.items c.sweep.left.now
     c.sweep.right.now c.sweep.invariant.0 c.in_default-right.len_below
 
 pub sweep-preserved-then-branch : goal.sweep-preserved-then-branch
@@ -20,7 +20,7 @@ sweep-preserved-then-branch c =
     let r = c.range-item.result in
     let s = c.other-item.result in
     let lt : is_lt (cut_cmp r.high s.high) ≡ true = search rules in
-    left_turn c.args.ranges.now c.args.others.now c.sweep.done.items c.sweep.left.now
+    left_turn c.args.ranges.now c.args.other_ranges.now c.sweep.done.items c.sweep.left.now
     c.sweep.right.now c.push_common.new.done.items _ _ r s c.args.turns.now.passed
     c.sweep.turns.passed c.tick.new.self.passed c.sweep.invariant
     (cut_first c.sweep.left.now r _ c.in-len1-up.len_at_least c.range-item.is refl)
@@ -32,7 +32,7 @@ sweep-preserved c =
     let r = c.range-item.result in
     let s = c.other-item.result in
     let lt : is_lt (cut_cmp r.high s.high) ≡ false = search rules in
-    right_turn c.args.ranges.now c.args.others.now c.sweep.done.items c.sweep.left.now
+    right_turn c.args.ranges.now c.args.other_ranges.now c.sweep.done.items c.sweep.left.now
     c.sweep.right.now c.push_common.new.done.items _ _ r s c.args.turns.now.passed
     c.sweep.turns.passed c.tick.new.self.passed c.sweep.invariant
     (cut_first c.sweep.left.now r _ c.in-len1-up.len_at_least c.range-item.is refl)

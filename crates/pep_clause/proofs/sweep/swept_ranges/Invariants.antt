@@ -4,7 +4,7 @@ use Rattle.pep_clause.proofs.sweep.swept_ranges.Given as goal
 
 abbrev pub invariant-sweep : goal.invariant-sweep
 invariant-sweep l =
-    SweepState l.fn.ranges l.fn.others l.initial.turns.passed l.done.items l.left l.right
+    SweepState l.fn.ranges l.fn.other_ranges l.initial.turns.passed l.done.items l.left l.right
     l.turns.passed
 
 abbrev pub decreases-sweep : goal.decreases-sweep
