@@ -142,18 +142,18 @@ find_pieces : (closed : Bool) (piece : List ℕ) (pieces : List (List ℕ)) (las
     IsLastComma last → is_end closed (without_leading_blanks rest) ≡ true →
     BoundsFrom closed (join_with_byte 44 (piece ∷ pieces) ++ (last ++ rest)) (c ∷ cs)
     (without_leading_blanks rest)
-find_pieces closed piece [] last rest c [] is others at e =
+find_pieces closed piece [] last rest c [] is are at e =
     find_last closed piece last rest c is at e
-find_pieces closed piece [] last rest c (d ∷ cs) is others at e = absurd others
-find_pieces closed piece (next ∷ pieces) last rest c [] is others at e = absurd others
-find_pieces closed piece (next ∷ pieces) last rest c (d ∷ cs) is others at e =
+find_pieces closed piece [] last rest c (d ∷ cs) is are at e = absurd are
+find_pieces closed piece (next ∷ pieces) last rest c [] is are at e = absurd are
+find_pieces closed piece (next ∷ pieces) last rest c (d ∷ cs) is are at e =
     let behind = join_with_byte 44 (next ∷ pieces) ++ (last ++ rest) in
-    let begin = pieces_begin next pieces (last ++ rest) d others.0 in
+    let begin = pieces_begin next pieces (last ++ rest) d are.0 in
     subst (λ t. BoundsFrom closed t (c ∷ d ∷ cs) (without_leading_blanks rest))
     (sym (append_assoc piece (44 ∷ join_with_byte 44 (next ∷ pieces)) (last ++ rest)))
     (more_bounds (bound_found piece (44 ∷ behind) c is refl)
     (bare_no_end closed (without_leading_blanks behind) begin)
-    (find_pieces closed next pieces last rest d cs others.0 others.1 at e))
+    (find_pieces closed next pieces last rest d cs are.0 are.1 at e))
 
 -- white space in front may stand or go
 pub bounds_to_strip : (closed : Bool) (x rest : List ℕ) (cs : List Clause) →
@@ -231,39 +231,39 @@ front closed x rest cs (last_comma {behind = behind} {c = c} b e) =
 front closed x rest cs (more_bounds {behind = behind} {c = c} b e more) =
     record { clause = c; behind = 44 ∷ behind; bound = b }
 
-pub one_bounds : (closed : Bool) (x rest others : List ℕ) (cs ds : List Clause) →
-    BoundsFrom closed x cs rest → BoundsFrom closed x ds others → (cs ≡ ds) × (rest ≡ others)
-one_bounds closed x rest others cs ds (last_bound {c = c} b e) (last_bound {c = d} g f) =
-    let same = one_bound x rest others c d b g in (ap (λ t. t ∷ []) same.0, same.1)
-one_bounds closed x rest others cs ds (last_bound {c = c} b e)
+pub one_bounds : (closed : Bool) (x rest remaining : List ℕ) (cs ds : List Clause) →
+    BoundsFrom closed x cs rest → BoundsFrom closed x ds remaining → (cs ≡ ds) × (rest ≡ remaining)
+one_bounds closed x rest remaining cs ds (last_bound {c = c} b e) (last_bound {c = d} g f) =
+    let same = one_bound x rest remaining c d b g in (ap (λ t. t ∷ []) same.0, same.1)
+one_bounds closed x rest remaining cs ds (last_bound {c = c} b e)
     (last_comma {behind = behind} {c = d} g f) =
     absurd (no_comma_told behind rest (one_bound x rest (44 ∷ behind) c d b g).1 e)
-one_bounds closed x rest others cs ds (last_bound {c = c} b e)
+one_bounds closed x rest remaining cs ds (last_bound {c = c} b e)
     (more_bounds {behind = behind} {c = d} g f more) =
     absurd (no_comma_told behind rest (one_bound x rest (44 ∷ behind) c d b g).1 e)
-one_bounds closed x rest others cs ds (last_comma {behind = behind} {c = c} b e)
+one_bounds closed x rest remaining cs ds (last_comma {behind = behind} {c = c} b e)
     (last_bound {c = d} g f) =
-    absurd (no_comma_told behind others (sym (one_bound x (44 ∷ behind) others c d b g).1) f)
-one_bounds closed x rest others cs ds (last_comma {behind = behind} {c = c} b e)
+    absurd (no_comma_told behind remaining (sym (one_bound x (44 ∷ behind) remaining c d b g).1) f)
+one_bounds closed x rest remaining cs ds (last_comma {behind = behind} {c = c} b e)
     (last_comma {behind = left} {c = d} g f) =
     let same = one_bound x (44 ∷ behind) (44 ∷ left) c d b g in
     (ap (λ t. t ∷ []) same.0, ap (λ t. without_leading_blanks (tail t)) same.1)
-one_bounds closed x rest others cs ds (last_comma {behind = behind} {c = c} b e)
+one_bounds closed x rest remaining cs ds (last_comma {behind = behind} {c = c} b e)
     (more_bounds {behind = left} {c = d} g f more) =
     absurd (no_end_told closed behind left (one_bound x (44 ∷ behind) (44 ∷ left) c d b g).1 e f)
-one_bounds closed x rest others cs ds (more_bounds {behind = behind} {c = c} b e more)
+one_bounds closed x rest remaining cs ds (more_bounds {behind = behind} {c = c} b e more)
     (last_bound {c = d} g f) =
-    absurd (no_comma_told behind others (sym (one_bound x (44 ∷ behind) others c d b g).1) f)
-one_bounds closed x rest others cs ds (more_bounds {behind = behind} {c = c} b e more)
+    absurd (no_comma_told behind remaining (sym (one_bound x (44 ∷ behind) remaining c d b g).1) f)
+one_bounds closed x rest remaining cs ds (more_bounds {behind = behind} {c = c} b e more)
     (last_comma {behind = left} {c = d} g f) =
     absurd (no_end_told closed left behind (sym (one_bound x (44 ∷ behind) (44 ∷ left) c d b g).1) f
     e)
-one_bounds closed x rest others cs ds
+one_bounds closed x rest remaining cs ds
     (more_bounds {behind = behind} {c = c} {cs = later_cs} b e more)
     (more_bounds {behind = left} {c = d} {cs = later_ds} g f last_more) =
     let same = one_bound x (44 ∷ behind) (44 ∷ left) c d b g in
-    let later = one_bounds closed behind rest others later_cs later_ds more
-    (subst (λ t. BoundsFrom closed t later_ds others) (sym (ap tail same.1)) last_more) in
+    let later = one_bounds closed behind rest remaining later_cs later_ds more
+    (subst (λ t. BoundsFrom closed t later_ds remaining) (sym (ap tail same.1)) last_more) in
     (λ i. same.0 i ∷ later.0 i, later.1)
 
 pub refused_bounds : (closed : Bool) (x rest : List ℕ) (cs : List Clause) (f : RequireFault) →

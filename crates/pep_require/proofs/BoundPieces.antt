@@ -235,9 +235,9 @@ bound_read x c rest h =
 
 -- ---- at most one
 
-pub one_bound : (x rest others : List ℕ) (c d : Clause) → ClauseFrom x c rest →
-    ClauseFrom x d others → (c ≡ d) × (rest ≡ others)
-one_bound x rest others c d h g =
+pub one_bound : (x rest remaining : List ℕ) (c d : Clause) → ClauseFrom x c rest →
+    ClauseFrom x d remaining → (c ≡ d) × (rest ≡ remaining)
+one_bound x rest remaining c d h g =
     let y = without_leading_blanks x in
     let same : h.operator ≡ g.operator = cc (h.found, g.found) in
     let own = subst (λ o. ClauseOf o (clause_run (after_operator o y)) (Ok c)) same h.clause in (

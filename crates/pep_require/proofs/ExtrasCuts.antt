@@ -71,25 +71,25 @@ pub none_done : (x : List ℕ) → NamesSoFar x [] x
 none_done x = record { parts = []; named = tt; split = refl }
 
 -- a comma follows
-comma_parts : (left piece back others : List ℕ) → CutAt 44 left piece back → back ≡ 44 ∷ others →
-    slice_split (λ b. b == 44) left ≡ piece ∷ slice_split (λ b. b == 44) others
-comma_parts left piece back others cut comma =
+comma_parts : (left piece back following : List ℕ) → CutAt 44 left piece back → back ≡ 44 ∷ following →
+    slice_split (λ b. b == 44) left ≡ piece ∷ slice_split (λ b. b == 44) following
+comma_parts left piece back following cut comma =
     ap (slice_split (λ b. b == 44)) (cut.whole ∙ ap (λ t. piece ++ t) comma)
-    ∙ slice_split_at (λ b. b == 44) piece 44 others (none_pass 44 piece cut.clean) refl
+    ∙ slice_split_at (λ b. b == 44) piece 44 following (none_pass 44 piece cut.clean) refl
 
 -- or the text ends
 last_part : (left piece : List ℕ) → left ≡ piece → all_but 44 piece ≡ true →
     slice_split (λ b. b == 44) left ≡ piece ∷ []
 last_part left piece same clean = ap (slice_split (λ b. b == 44)) same ∙ one_part piece clean
 
-pub name_done : (x left piece back others n : List ℕ) (done : List (List ℕ)) → NamesSoFar x done left →
-    CutAt 44 left piece back → back ≡ 44 ∷ others → IsExtra piece n →
-    NamesSoFar x (done ++ n ∷ []) others
-name_done x left piece back others n done so cut comma is = record {
+pub name_done : (x left piece back following n : List ℕ) (done : List (List ℕ)) → NamesSoFar x done left →
+    CutAt 44 left piece back → back ≡ 44 ∷ following → IsExtra piece n →
+    NamesSoFar x (done ++ n ∷ []) following
+name_done x left piece back following n done so cut comma is = record {
   parts = so.parts ++ piece ∷ [];
   named = one_more so.parts done piece n so.named is;
-  split = so.split ∙ ap (λ t. so.parts ++ t) (comma_parts left piece back others cut comma)
-      ∙ sym (append_assoc so.parts (piece ∷ []) (slice_split (λ b. b == 44) others));
+  split = so.split ∙ ap (λ t. so.parts ++ t) (comma_parts left piece back following cut comma)
+      ∙ sym (append_assoc so.parts (piece ∷ []) (slice_split (λ b. b == 44) following));
 }
 
 pub all_done : (x left piece back n : List ℕ) (done : List (List ℕ)) → NamesSoFar x done left →
@@ -115,9 +115,10 @@ first_part left piece back cut = by back cut
     by : (back : List ℕ) → CutAt 44 left piece back →
         (more : List (List ℕ)) × (slice_split (λ b. b == 44) left ≡ piece ∷ more)
     by [] cut = ([], last_part left piece (cut.whole ∙ append-nil piece) cut.clean)
-    by (b ∷ others) cut =
+    by (b ∷ following) cut =
         let comma : b ≡ 44 = let e = cut.stops in grind (arith, nat_tests, e) in
-        (slice_split (λ b. b == 44) others, comma_parts left piece (b ∷ others) others cut (ap (λ n. n ∷ others) comma))
+        (slice_split (λ b. b == 44) following,
+            comma_parts left piece (b ∷ following) following cut (ap (λ n. n ∷ following) comma))
 
 pub none_named_within : (x rest left piece back : List ℕ) (done : List (List ℕ)) →
     rest ≡ without_leading_blanks x → (length rest == 0) ≡ false → NamesSoFar x done left →
@@ -131,18 +132,18 @@ none_named_within x rest left piece back done stripped more so cut off ns (some_
     (subst (λ t. AllZip IsExtra t ns) (so.split ∙ ap (λ t. so.parts ++ t) first.1) h)
 
 -- what is left is a text
-pub text_left : (left back others : List ℕ) (n : ℕ) → IsUtf8 left → n ≡ prefix_len (λ b. not (b == 44)) left →
-    back ≡ drop n left → back ≡ 44 ∷ others → IsUtf8 others
-text_left left back others n utf8 count behind comma =
-    IsUtf8-past_char back others 44
+pub text_left : (left back following : List ℕ) (n : ℕ) → IsUtf8 left → n ≡ prefix_len (λ b. not (b == 44)) left →
+    back ≡ drop n left → back ≡ 44 ∷ following → IsUtf8 following
+text_left left back following n utf8 count behind comma =
+    IsUtf8-past_char back following 44
     (subst IsUtf8 (sym behind) (IsUtf8-drop left n utf8
     (subst (IsCharBoundary left) (sym count) (boundary-byte 44 (lit< tt) left))))
-    (comma ∙ ap (λ t. t ++ others) (sym (encode_ascii 44 (lit< tt))))
+    (comma ∙ ap (λ t. t ++ following) (sym (encode_ascii 44 (lit< tt))))
 
 -- and less than before
-pub less_named : (left piece back others : List ℕ) → CutAt 44 left piece back → back ≡ 44 ∷ others →
-    length others < length left
-less_named left piece back others cut comma =
-    let whole : length left ≡ length (piece ++ 44 ∷ others) =
+pub less_named : (left piece back following : List ℕ) → CutAt 44 left piece back → back ≡ 44 ∷ following →
+    length following < length left
+less_named left piece back following cut comma =
+    let whole : length left ≡ length (piece ++ 44 ∷ following) =
     ap length (cut.whole ∙ ap (λ t. piece ++ t) comma) in
-    omega (arith, whole, length-append piece (44 ∷ others))
+    omega (arith, whole, length-append piece (44 ∷ following))

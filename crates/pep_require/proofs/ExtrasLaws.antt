@@ -72,31 +72,31 @@ names_bracketed : (x written rest : List ℕ) (named : List (List ℕ)) → x �
 names_bracketed x written rest named whole none e = absurd (cc e)
 names_bracketed x written rest named whole (empty space h) e =
     bracketed x [] rest space whole (no_end_in_blank space h) (no_names h)
-names_bracketed x written rest named whole (listed {n = n} {ns = ns} piece pieces is others) e =
+names_bracketed x written rest named whole (listed {n = n} {ns = ns} piece pieces is are) e =
     bracketed x (n ∷ ns) rest (join_with_byte 44 (piece ∷ pieces)) whole
-    (no_end_joined piece n pieces ns is others)
+    (no_end_joined piece n pieces ns is are)
     (some_names (subst (λ t. AllZip IsExtra t (n ∷ ns))
-    (sym (parts_joined piece n pieces ns is others)) (is, others)))
+    (sym (parts_joined piece n pieces ns is are)) (is, are)))
 
 abbrev pub tail : List ℕ → List ℕ
 tail [] = []
 tail (b ∷ x) = x
 
 -- the first `]` ends them
-pub one_end : (inner rest own others : List ℕ) → all_but 93 inner ≡ true → all_but 93 own ≡ true →
-    inner ++ 93 ∷ rest ≡ own ++ 93 ∷ others → (inner ≡ own) × (rest ≡ others)
-one_end inner rest own others h g same =
+pub one_end : (inner rest own remaining : List ℕ) → all_but 93 inner ≡ true → all_but 93 own ≡ true →
+    inner ++ 93 ∷ rest ≡ own ++ 93 ∷ remaining → (inner ≡ own) × (rest ≡ remaining)
+one_end inner rest own remaining h g same =
     let p : ℕ → Bool = λ b. not (b == 93) in (
       sym (run-span p inner (93 ∷ rest) h refl) ∙ ap (λ t. take (prefix_len p t) t) same
-          ∙ run-span p own (93 ∷ others) g refl,
+          ∙ run-span p own (93 ∷ remaining) g refl,
       ap tail (sym (rest-span p inner (93 ∷ rest) h refl) ∙ ap (λ t. drop (prefix_len p t) t) same
-          ∙ rest-span p own (93 ∷ others) g refl),
+          ∙ rest-span p own (93 ∷ remaining) g refl),
     )
 
-one_bracketed : (x rest others : List ℕ) (ns ms : List (List ℕ)) → Bracketed x ns rest →
-    Bracketed x ms others → (ns ≡ ms) × (rest ≡ others)
-one_bracketed x rest others ns ms h g =
-    let same = one_end h.inner rest g.inner others h.clean g.clean
+one_bracketed : (x rest remaining : List ℕ) (ns ms : List (List ℕ)) → Bracketed x ns rest →
+    Bracketed x ms remaining → (ns ≡ ms) × (rest ≡ remaining)
+one_bracketed x rest remaining ns ms h g =
+    let same = one_end h.inner rest g.inner remaining h.clean g.clean
     (ap tail (sym h.whole ∙ g.whole)) in
     (one_within g.inner ns ms (subst (λ t. NamesWithin t ns) same.0 h.within) g.within, same.1)
 
@@ -115,7 +115,7 @@ names_none : (written : List ℕ) (named : List (List ℕ)) → NamesExtras writ
     begins is_bracket written ≡ false → (written ≡ []) × (named ≡ [])
 names_none written named none e = (refl, refl)
 names_none written named (empty space h) e = absurd (cc e)
-names_none written named (listed piece pieces is others) e = absurd (cc e)
+names_none written named (listed piece pieces is are) e = absurd (cc e)
 
 -- what is read where no `[` stands in front
 unread : (x rest : List ℕ) (e : List (List ℕ)) (h : ExtrasFrom x e rest) →
@@ -124,12 +124,12 @@ unread x rest e h off =
     let gone = names_none h.written h.reads.named h.reads.written (sym h.opened ∙ off) in
     (sym (h.whole ∙ ap (λ t. t ++ rest) gone.0), gone.1)
 
-unread_both : (x rest others : List ℕ) (e f : List (List ℕ)) (h : ExtrasFrom x e rest)
-    (g : ExtrasFrom x f others) → begins is_bracket x ≡ false →
-    (h.reads.named ≡ g.reads.named) × (rest ≡ others)
-unread_both x rest others e f h g off =
+unread_both : (x rest remaining : List ℕ) (e f : List (List ℕ)) (h : ExtrasFrom x e rest)
+    (g : ExtrasFrom x f remaining) → begins is_bracket x ≡ false →
+    (h.reads.named ≡ g.reads.named) × (rest ≡ remaining)
+unread_both x rest remaining e f h g off =
     let own = unread x rest e h off in
-    let other = unread x others f g off in (own.1 ∙ sym other.1, own.0 ∙ sym other.0)
+    let other = unread x remaining f g off in (own.1 ∙ sym other.1, own.0 ∙ sym other.0)
 
 -- .. and where one stands
 pub in_brackets : (x rest : List ℕ) (e : List (List ℕ)) (h : ExtrasFrom x e rest) →
@@ -137,14 +137,14 @@ pub in_brackets : (x rest : List ℕ) (e : List (List ℕ)) (h : ExtrasFrom x e 
 in_brackets x rest e h on =
     names_bracketed x h.written rest h.reads.named h.whole h.reads.written (sym h.opened ∙ on)
 
-pub one_extras : (x rest others : List ℕ) (e f : List (List ℕ)) → ExtrasFrom x e rest →
-    ExtrasFrom x f others → (e ≡ f) × (rest ≡ others)
-one_extras x rest others e f h g =
-    let named : (h.reads.named ≡ g.reads.named) × (rest ≡ others) =
+pub one_extras : (x rest remaining : List ℕ) (e f : List (List ℕ)) → ExtrasFrom x e rest →
+    ExtrasFrom x f remaining → (e ≡ f) × (rest ≡ remaining)
+one_extras x rest remaining e f h g =
+    let named : (h.reads.named ≡ g.reads.named) × (rest ≡ remaining) =
     by_answer (begins is_bracket x)
-    (λ on. one_bracketed x rest others h.reads.named g.reads.named (in_brackets x rest e h on)
-    (in_brackets x others f g on))
-    (λ off. unread_both x rest others e f h g off) in
+    (λ on. one_bracketed x rest remaining h.reads.named g.reads.named (in_brackets x rest e h on)
+    (in_brackets x remaining f g on))
+    (λ off. unread_both x rest remaining e f h g off) in
     let own : (n : List ℕ) → Contains e n ↔ Contains g.reads.named n =
     subst (λ t. (n : List ℕ) → Contains e n ↔ Contains t n) named.0 h.reads.same in
     (same_names e f g.reads.named h.reads.ascending g.reads.ascending own g.reads.same, named.1)

@@ -172,8 +172,8 @@ not_ended x text opened clean extras rest h =
 
 pub names_refused : (x text inner rest : List ℕ) → x ≡ 91 ∷ text → text ≡ inner ++ 93 ∷ rest →
     all_but 93 inner ≡ true → NoneWithin inner → NoExtras x
-names_refused x text inner rest opened whole clean off extras others h =
-    let found = in_brackets x others extras h (ap (begins is_bracket) opened) in
-    let same = one_end found.inner others inner rest found.clean clean
+names_refused x text inner rest opened whole clean off extras remaining h =
+    let found = in_brackets x remaining extras h (ap (begins is_bracket) opened) in
+    let same = one_end found.inner remaining inner rest found.clean clean
     (ap tail (sym found.whole ∙ opened) ∙ whole) in
     off h.reads.named (subst (λ t. NamesWithin t h.reads.named) same.0 found.within)

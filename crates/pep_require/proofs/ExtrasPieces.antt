@@ -191,18 +191,18 @@ one_part x h = slice_split_none (λ b. b == 44) x (none_pass 44 x h)
 pub parts_joined : (piece n : List ℕ) (pieces ns : List (List ℕ)) → IsExtra piece n →
     AllZip IsExtra pieces ns →
     slice_split (λ b. b == 44) (join_with_byte 44 (piece ∷ pieces)) ≡ piece ∷ pieces
-parts_joined piece n [] ns is others = one_part piece (no_comma_in piece n is)
-parts_joined piece n (next ∷ pieces) [] is others = absurd others
-parts_joined piece n (next ∷ pieces) (m ∷ ns) is others =
+parts_joined piece n [] ns is are = one_part piece (no_comma_in piece n is)
+parts_joined piece n (next ∷ pieces) [] is are = absurd are
+parts_joined piece n (next ∷ pieces) (m ∷ ns) is are =
     slice_split_at (λ b. b == 44) piece 44 (join_with_byte 44 (next ∷ pieces))
     (none_pass 44 piece (no_comma_in piece n is)) refl
-    ∙ ap (λ t. piece ∷ t) (parts_joined next m pieces ns others.0 others.1)
+    ∙ ap (λ t. piece ∷ t) (parts_joined next m pieces ns are.0 are.1)
 
 -- no `]` stands between them
 pub no_end_joined : (piece n : List ℕ) (pieces ns : List (List ℕ)) → IsExtra piece n →
     AllZip IsExtra pieces ns → all_but 93 (join_with_byte 44 (piece ∷ pieces)) ≡ true
-no_end_joined piece n [] ns is others = no_end_in piece n is
-no_end_joined piece n (next ∷ pieces) [] is others = absurd others
-no_end_joined piece n (next ∷ pieces) (m ∷ ns) is others =
+no_end_joined piece n [] ns is are = no_end_in piece n is
+no_end_joined piece n (next ∷ pieces) [] is are = absurd are
+no_end_joined piece n (next ∷ pieces) (m ∷ ns) is are =
     both_all (λ b. not (b == 93)) piece (44 ∷ join_with_byte 44 (next ∷ pieces))
-    (no_end_in piece n is) (no_end_joined next m pieces ns others.0 others.1)
+    (no_end_in piece n is) (no_end_joined next m pieces ns are.0 are.1)

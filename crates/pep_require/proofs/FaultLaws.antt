@@ -106,10 +106,10 @@ one_ending_fault (b ∷ x) f g (inr h) (inr k) = inl (h.1 ∙ sym k.1)
 abbrev IsTold : RequireFault → Type 0
 IsTold f = (f ≢ fault.NoMemory) × (f ≢ fault.UrlOverflow)
 
-same_place : (x rest others : List ℕ) (extras found : List (List ℕ)) → ExtrasFrom x extras rest →
-    ExtrasFrom x found others → without_leading_blanks others ≡ without_leading_blanks rest
-same_place x rest others extras found h k =
-    ap without_leading_blanks (sym (one_extras x rest others extras found h k).1)
+same_place : (x rest remaining : List ℕ) (extras found : List (List ℕ)) → ExtrasFrom x extras rest →
+    ExtrasFrom x found remaining → without_leading_blanks remaining ≡ without_leading_blanks rest
+same_place x rest remaining extras found h k =
+    ap without_leading_blanks (sym (one_extras x rest remaining extras found h k).1)
 
 one_line_fault : (x : List ℕ) (f g : RequireFault) → IsTold f → IsTold g → RefusesLine x f →
     RefusesLine x g → IsSameFault f g
@@ -135,27 +135,27 @@ one_line_fault x f g told known (bad_target e a h) (bad_beginning i) =
 one_line_fault x f g told known (bad_target {extras = extras} {rest = rest} e a h)
     (bad_extras i k) = absurd (k.2 extras rest a)
 one_line_fault x f g told known (bad_target {extras = extras} {rest = rest} e a h)
-    (bad_target {extras = found} {rest = others} i b k) =
+    (bad_target {extras = found} {rest = remaining} i b k) =
     inl (one_target_fault told.1 known.1 h (subst (λ t. RefusesTarget t g)
-    (same_place (after_name x) rest others extras found a b) k))
+    (same_place (after_name x) rest remaining extras found a b) k))
 one_line_fault x f g told known (bad_target {extras = extras} {rest = rest} e a h)
-    (bad_ending {extras = found} {rest = others} {behind = behind} {t = t} i b at k) =
+    (bad_ending {extras = found} {rest = remaining} {behind = behind} {t = t} i b at k) =
     absurd (refused_target told.1 h (subst (λ y. TargetFrom y t behind)
-    (same_place (after_name x) rest others extras found a b) at))
+    (same_place (after_name x) rest remaining extras found a b) at))
 one_line_fault x f g told known (bad_ending e a at h) (bad_beginning i) =
     absurd (none-some g (sym e ∙ i))
 one_line_fault x f g told known (bad_ending {extras = extras} {rest = rest} e a at h)
     (bad_extras i k) = absurd (k.2 extras rest a)
 one_line_fault x f g told known
     (bad_ending {extras = extras} {rest = rest} {behind = behind} {t = t} e a at h)
-    (bad_target {extras = found} {rest = others} i b k) =
+    (bad_target {extras = found} {rest = remaining} i b k) =
     absurd (refused_target known.1 k (subst (λ y. TargetFrom y t behind)
-    (same_place (after_name x) others rest found extras b a) at))
+    (same_place (after_name x) remaining rest found extras b a) at))
 one_line_fault x f g told known
     (bad_ending {extras = extras} {rest = rest} {behind = behind} {t = t} e a at h)
-    (bad_ending {extras = found} {rest = others} {behind = left} {t = s} i b there k) =
+    (bad_ending {extras = found} {rest = remaining} {behind = left} {t = s} i b there k) =
     let same = one_target at (subst (λ y. TargetFrom y s left)
-    (same_place (after_name x) rest others extras found a b) there) in
+    (same_place (after_name x) rest remaining extras found a b) there) in
     one_ending_fault (without_leading_blanks behind) f g h
     (subst (λ y. RefusesEnding (without_leading_blanks y) g) (sym same.1) k)
 

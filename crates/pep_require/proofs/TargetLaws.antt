@@ -219,46 +219,46 @@ bare_is_target [] e = e
 bare_is_target (b ∷ x) e = grind (arith, nat_tests)
 
 abbrev Same : TargetParts → TargetParts → List ℕ → List ℕ → Type 0
-Same t s rest others = (t ≡ s) × (rest ≡ others)
+Same t s rest remaining = (t ≡ s) × (rest ≡ remaining)
 
-one_url : (x rest others : List ℕ) (u v : UrlParts) → UrlFrom x u rest → UrlFrom x v others →
-    Same (direct u) (direct v) rest others
-one_url x rest others u v h g =
+one_url : (x rest remaining : List ℕ) (u v : UrlParts) → UrlFrom x u rest → UrlFrom x v remaining →
+    Same (direct u) (direct v) rest remaining
+one_url x rest remaining u v h g =
     let parts : h.url.parts ≡ g.url.parts = cc (sym h.url.parsed ∙ g.url.parsed) in
     let same : u ≡ v = h.url.kept
     ∙ ap (λ p. record { written = url_run (without_leading_blanks x); text = serialize p }) parts
     ∙ sym g.url.kept in
     (ap direct same, h.left ∙ sym g.left)
 
-closed_same : (cs ds : List Clause) (rest others : List ℕ) →
-    (cs ≡ ds) × (41 ∷ rest ≡ 41 ∷ others) → Same (bounds cs) (bounds ds) rest others
-closed_same cs ds rest others h = (ap bounds h.0, ap tail h.1)
+closed_same : (cs ds : List Clause) (rest remaining : List ℕ) →
+    (cs ≡ ds) × (41 ∷ rest ≡ 41 ∷ remaining) → Same (bounds cs) (bounds ds) rest remaining
+closed_same cs ds rest remaining h = (ap bounds h.0, ap tail h.1)
   where
     tail : List ℕ → List ℕ
     tail [] = []
     tail (b ∷ x) = x
 
-pub one_target : {x rest others : List ℕ} {t s : TargetParts} → TargetFrom x t rest →
-    TargetFrom x s others → Same t s rest others
+pub one_target : {x rest remaining : List ℕ} {t s : TargetParts} → TargetFrom x t rest →
+    TargetFrom x s remaining → Same t s rest remaining
 one_target (no_target e) (no_target f) = (refl, refl)
 one_target (no_target e) (url_target h) = absurd (cc e)
 one_target (no_target e) (closed_target h) = absurd (cc e)
 one_target {x = x} (no_target e) (bare_target f h) = absurd (cc (sym e ∙ bare_is_target x f))
 one_target (url_target h) (no_target e) = absurd (cc e)
-one_target (url_target {x = x} {rest = rest} {u = u} h) (url_target {rest = others} {u = v} g) =
-    one_url x rest others u v h g
+one_target (url_target {x = x} {rest = rest} {u = u} h) (url_target {rest = remaining} {u = v} g) =
+    one_url x rest remaining u v h g
 one_target (url_target h) (bare_target e g) = absurd (cc e)
 one_target (closed_target h) (no_target e) = absurd (cc e)
 one_target (closed_target {x = x} {rest = rest} {cs = cs} h)
-    (closed_target {rest = others} {cs = ds} g) =
-    closed_same cs ds rest others (one_bounds true x (41 ∷ rest) (41 ∷ others) cs ds h g)
+    (closed_target {rest = remaining} {cs = ds} g) =
+    closed_same cs ds rest remaining (one_bounds true x (41 ∷ rest) (41 ∷ remaining) cs ds h g)
 one_target (closed_target h) (bare_target e g) = absurd (cc e)
 one_target {x = x} (bare_target e h) (no_target f) = absurd (cc (sym f ∙ bare_is_target x e))
 one_target (bare_target e h) (url_target g) = absurd (cc e)
 one_target (bare_target e h) (closed_target g) = absurd (cc e)
 one_target (bare_target {x = x} {rest = rest} {cs = cs} e h)
-    (bare_target {rest = others} {cs = ds} f g) =
-    let same = one_bounds false x rest others cs ds h g in (ap bounds same.0, same.1)
+    (bare_target {rest = remaining} {cs = ds} f g) =
+    let same = one_bounds false x rest remaining cs ds h g in (ap bounds same.0, same.1)
 
 -- ---- what is refused has none; of an overflow of the reader of URLs nothing is known
 
@@ -274,8 +274,8 @@ refused_target known (bad_closed {x = x} {f = f} h) (closed_target {rest = rest}
 refused_target known (bad_closed h) (bare_target e g) = cc e
 refused_target known (not_closed h f) (no_target e) = cc e
 refused_target known (not_closed {x = x} {rest = rest} {cs = cs} h f)
-    (closed_target {rest = others} {cs = ds} g) =
-    let same = one_bounds true x rest (41 ∷ others) cs ds h g in
+    (closed_target {rest = remaining} {cs = ds} g) =
+    let same = one_bounds true x rest (41 ∷ remaining) cs ds h g in
     absurd (cc (sym f ∙ ap (begins (λ b. b == 41)) same.1))
 refused_target known (not_closed h f) (bare_target e g) = cc e
 refused_target {x = x} known (bad_bare e h) (no_target f) = cc (sym f ∙ bare_is_target x e)

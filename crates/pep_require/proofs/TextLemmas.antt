@@ -34,10 +34,10 @@ clauses_written cs c ds old one new e f g =
     ∙ ap (λ l. join_with_byte 44 (map clause_text l)) (sym e))
 
 pub extras_written : (xs : List (List ℕ)) (x : List ℕ) (ys : List (List ℕ))
-    (old bracket one others new : List ℕ) → xs ≡ x ∷ ys → bracket ≡ old ++ 91 ∷ [] →
-    one ≡ bracket ++ x → others ≡ one ++ behind_commas ys → new ≡ others ++ 93 ∷ [] →
+    (old bracket one named new : List ℕ) → xs ≡ x ∷ ys → bracket ≡ old ++ 91 ∷ [] →
+    one ≡ bracket ++ x → named ≡ one ++ behind_commas ys → new ≡ named ++ 93 ∷ [] →
     new ≡ old ++ extras_text xs
-extras_written xs x ys old bracket one others new e f g h k =
+extras_written xs x ys old bracket one named new e f g h k =
     let rest = behind_commas ys in
     k ∙ ap (λ t. t ++ 93 ∷ []) (h ∙ ap (λ t. t ++ rest) (g ∙ ap (λ t. t ++ x) f)
     ∙ append_assoc (old ++ 91 ∷ []) x rest ∙ append_assoc old (91 ∷ []) (x ++ rest))

@@ -47,10 +47,10 @@ pub(crate) fn walk_clauses<'a, S: LineSink>(
     let mut left = text;
     loop {
         let rest = sink.clause(line, left)?;
-        let Some(others) = behind(rest, ',') else {
+        let Some(following) = behind(rest, ',') else {
             return Ok(rest);
         };
-        left = stripped(others);
+        left = stripped(following);
         if is_end(closed, left) {
             return Ok(left);
         }

@@ -174,12 +174,12 @@ fn goes_on(bytes: &[u8]) -> bool
 {
     let mut spot = Spot::Label;
     let mut rest = bytes;
-    while let Some((first, others)) = rest.split_first() {
+    while let Some((first, following)) = rest.split_first() {
         let Some(next) = spot.behind(*first) else {
             return false;
         };
         spot = next;
-        rest = behind_run(next, others);
+        rest = behind_run(next, following);
     }
     spot.ends()
 }

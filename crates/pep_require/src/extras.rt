@@ -109,10 +109,10 @@ fn walk_names<S: LineSink>(
         let (piece, after) = left.split_at(run_before(left.as_bytes(), b','));
         let name = extra(alloc, piece)?;
         sink.extra(line, name)?;
-        let Some(others) = behind(after, ',') else {
+        let Some(following) = behind(after, ',') else {
             return Ok(());
         };
-        left = others;
+        left = following;
     }
 }
 

@@ -45,12 +45,12 @@ fn push_extras(text: &mut String, extras: &[Name]) -> Result<(), RequireFault>
         ≡ string_bytes text.old ++ extras_text extras.now) }
     ensures faults { IfErr result (λ e. e ≡ RequireFault.NoMemory) }
 {
-    let Some((first, others)) = extras.split_first() else {
+    let Some((first, rest)) = extras.split_first() else {
         return Ok(());
     };
     text.push_str("[")?;
     text.push_str(first.text())?;
-    push_other_extras(text, others)?;
+    push_other_extras(text, rest)?;
     text.push_str("]")?;
     Ok(())
 }
@@ -82,11 +82,11 @@ fn push_clauses(alloc: Global, text: &mut String, clauses: &[Clause]) -> Result<
         ≡ string_bytes text.old ++ join_with_byte 44 (map clause_text clauses.now)) }
     ensures faults { IfErr result (λ e. e ≡ RequireFault.NoMemory) }
 {
-    let Some((first, others)) = clauses.split_first() else {
+    let Some((first, rest)) = clauses.split_first() else {
         return Ok(());
     };
     push_clause(alloc, text, first)?;
-    push_other_clauses(alloc, text, others)?;
+    push_other_clauses(alloc, text, rest)?;
     Ok(())
 }
 

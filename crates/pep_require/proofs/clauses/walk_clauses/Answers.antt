@@ -59,14 +59,14 @@ returns-then-is_end-clause-ok g c =
     let here = c.in_ok-rest.ensures.ok in (
       done.0 ++ here.0 ∷ [],
       ends_at_comma c.args.closed c.args.text.now c.loop-rest.left.now c.in_ok-rest.rest.now
-          c.in-Some.others.now c.stripped-left.result.now done.0 here.0 done.1 here.1 c.in-Some.ensures
+          c.in-Some.following.now c.stripped-left.result.now done.0 here.0 done.1 here.1 c.in-Some.ensures
           c.stripped-left.ensures (sym c.is_end.ensures ∙ c.if-is_end.true),
       more g (goal.at.returns-then-is_end-clause-ok g c).In_ok-rest,
     )
 
 pub loop-rest-smaller : goal.loop-rest-smaller
 loop-rest-smaller g c =
-    less_left c.loop-rest.left.now c.in_ok-rest.rest.now c.in-Some.others.now
+    less_left c.loop-rest.left.now c.in_ok-rest.rest.now c.in-Some.following.now
     c.stripped-left.result.now c.in_ok-rest.ensures.ok.0 c.in_ok-rest.ensures.ok.1 c.in-Some.ensures
     c.stripped-left.ensures
 
@@ -79,7 +79,7 @@ loop-rest-preserved g c =
       (
         done.0 ++ here.0 ∷ [],
         one_more c.args.closed c.args.text.now c.loop-rest.left.now c.in_ok-rest.rest.now
-            c.in-Some.others.now c.stripped-left.result.now done.0 here.0 done.1 here.1
+            c.in-Some.following.now c.stripped-left.result.now done.0 here.0 done.1 here.1
             c.in-Some.ensures c.stripped-left.ensures (sym c.is_end.ensures ∙ c.if-is_end.false),
         more g (goal.at.loop-rest-preserved g c).In_ok-rest,
       ),

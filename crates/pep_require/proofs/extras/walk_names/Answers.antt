@@ -79,7 +79,7 @@ returns-in_default-clause-ok g c =
 
 pub loop-name-smaller : goal.loop-name-smaller
 loop-name-smaller g c =
-    less_named c.loop-name.left.now c.split_at.result.0.now c.split_at.result.1.now c.in-Some.others.now
+    less_named c.loop-name.left.now c.split_at.result.0.now c.split_at.result.1.now c.in-Some.following.now
     (cut g (goal.at.loop-name-smaller g c).After-split_at) c.in-Some.ensures
 
 pub loop-name-preserved : goal.loop-name-preserved
@@ -87,7 +87,7 @@ loop-name-preserved g c =
     let at = goal.at.loop-name-preserved g c in
     let done = c.loop-name.invariant.2 in
     let name = c.in_ok-name.name in (
-      text_left c.loop-name.left.now c.split_at.result.1.now c.in-Some.others.now c.run_before.result
+      text_left c.loop-name.left.now c.split_at.result.1.now c.in-Some.following.now c.run_before.result
           c.loop-name.invariant.0
           (c.run_before.ensures.count ∙ ap (prefix_len (λ b. not (b == 44))) c.as_bytes.ensures.value)
           c.split_at.ensures.back c.in-Some.ensures,
@@ -95,7 +95,7 @@ loop-name-preserved g c =
       (
         done.0 ++ name ∷ [],
         name_done c.args.inner.now c.loop-name.left.now c.split_at.result.0.now c.split_at.result.1.now
-            c.in-Some.others.now name done.0 done.1 (cut g at.After-split_at) c.in-Some.ensures
+            c.in-Some.following.now name done.0 done.1 (cut g at.After-split_at) c.in-Some.ensures
             c.in_ok-name.ensures.read,
         more g at.In_ok-extra,
       ),

@@ -3,6 +3,6 @@ use Rattle.pep_require.proofs.text.push_clauses.Goals as goal
 
 pub returns-clause-text : goal.returns-clause-text
 returns-clause-text c =
-    clauses_written c.args.clauses.now c.in-Some.first.now c.in-Some.others.now _ _ _
+    clauses_written c.args.clauses.now c.in-Some.first.now c.in-Some.rest.now _ _ _
     c.in-Some.ensures.cases.0 c.in_ok-push_clause.ensures.text
     c.in_ok-push_other_clauses.ensures.text

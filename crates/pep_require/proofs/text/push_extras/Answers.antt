@@ -4,7 +4,7 @@ use Rattle.pep_require.proofs.text.push_extras.Goals as goal
 
 pub returns-clause-text : goal.returns-clause-text
 returns-clause-text c =
-    extras_written c.args.extras.now c.in-Some.first.now c.in-Some.others.now _ _ _ _ _
+    extras_written c.args.extras.now c.in-Some.first.now c.in-Some.rest.now _ _ _ _ _
     c.in-Some.ensures.cases.0 c.in_ok-push_str.ensures.bytes
     (c.in_ok-push_str-2.ensures.bytes
     ∙ ap (λ t. string_bytes c.push_str.new.self ++ t) c.text.ensures.text)
