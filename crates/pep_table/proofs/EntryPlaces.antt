@@ -1,21 +1,23 @@
 -- The entries of a table by their places.
 use Rattle.std.proofs.Common.{◌≡◌, ℕ, zero, suc, ◌+◌, ◌<◌, ◌≤◌, Bool, true, false, List, [], ◌∷◌}
 use Rattle.std.proofs.Common.{◌++◌, length, Option, Some, None, refl, sym, ap, subst, ◌∙◌, inl, inr}
-use Rattle.std.proofs.Common.{arith}
+use Rattle.std.proofs.Common.{arith, get_or, map}
 use Rattle.std.specs.Prelude.{bytes_eq, if◌then◌else◌, nat_lt, slice_index_or}
+use Rattle.std.specs.List.{All}
 use Rattle.std.specs.List.Sorted.{IsNonDecreasingBy, IsPartitionPoint}
 use Rattle.std.specs.Cmp.Lexicographic.{nat_list_cmp_total}
 use Rattle.std.specs.Ordering.{ordering_index}
 use Rattle.std.specs.declared.cmp.Ordering.{Ordering}
 use Rattle.std.specs.declared.cmp.Ordering.TheVariants.{Less, Equal, Greater}
 use Rattle.std.proofs.lemmas.Bool.{ltb-false, ltb-true}
+use Rattle.std.proofs.lemmas.List.Elements.{All-head, All-tail}
 use Rattle.std.proofs.lemmas.List.Sorted.{IsNonDecreasingBy-from_all_adjacent}
 use Rattle.std.proofs.lemmas.Slice.Eq.{bytes_eq-Decides}
 use Rattle.pep_require.specs.Requirement.{IsAscending}
 use Rattle.pep_require.proofs.Ascending.{IsIn, first_below, irreflexive, rest_ascends}
 use Rattle.demands.specs.Join.{JoinsAt, JoinsTables}
 use Rattle.pep_table.specs.OneText.{absent, entry_first, entry_other, eq_true, name_there}
-use Rattle.demands.specs.Table.{EntryParts, IsValidTable, TableParts, entry_at, names}
+use Rattle.demands.specs.Table.{EntryParts, IsValidEntry, IsValidTable, TableParts, entry_at, names}
 use Rattle.pep_table.specs.TableLaws.{alone, left_kept}
 use Rattle.demands.proofs.KeptSets.{above, same_text, text_cmp}
 
@@ -23,6 +25,13 @@ abbrev Named : Type 0
 Named = List ℕ × EntryParts
 
 -- ---- an entry behind others
+
+-- of valid entries the next is valid, and so are those behind it
+pub next_valid : (left more : TableParts) (p : Named) → All (λ p. IsValidEntry p.1) left → left ≡ p ∷ more →
+    IsValidEntry p.1 × All (λ p. IsValidEntry p.1) more
+next_valid left more p valid split =
+    let all = subst (All (λ p. IsValidEntry p.1)) split valid in
+    (All-head (λ p. IsValidEntry p.1) p more all, All-tail (λ p. IsValidEntry p.1) p more all)
 
 -- no entry before has the name of one behind it
 pub behind_apart : (t : TableParts) (p : Named) (rest : TableParts) →
@@ -142,49 +151,57 @@ none_at (p ∷ t) n h =
     entry_other p t n (λ e. h 0 p (omega arith) e)
     ∙ none_at t n (λ i d lt e. h (suc i) d (omega (arith, lt)) e)
 
-adjacent : (t : TableParts) → IsAscending (names t) → (k : ℕ) (d : Named) → k + 1 < length t →
-    text_cmp (slice_index_or t k d).0 (slice_index_or t (k + 1) d).0 ≡ Less
-adjacent [] up k d lt = absurd (omega (arith, lt))
-adjacent (p ∷ []) up k d lt = absurd (omega (arith, lt))
-adjacent (p ∷ q ∷ t) up zero d lt = up.0
-adjacent (p ∷ q ∷ t) up (suc k) d lt =
-    let more : suc k + 1 ≡ suc (k + 1) = omega arith in
-    rw more (adjacent (q ∷ t) up.1 k d (omega (arith, lt)))
+-- ---- a name's place among names that rise
 
-no_higher : (x y n : List ℕ) → text_cmp x y ≡ Less →
-    ordering_index (text_cmp x n) ≤ ordering_index (text_cmp y n)
-no_higher x y n below = by (text_cmp y n) refl
-  where
-    by : (o : Ordering) → text_cmp y n ≡ o → ordering_index (text_cmp x n) ≤ ordering_index o
-    by Less e = rw (nat_list_cmp_total.trans x y n below e) (omega arith)
-    by Equal e = rw (subst (λ z. text_cmp x z ≡ Less) (same_text y n e) below) (omega arith)
-    by Greater e = any (text_cmp x n)
-      where
-        any : (o : Ordering) → ordering_index o ≤ ordering_index Greater
-        any Less = omega arith
-        any Equal = omega arith
-        any Greater = omega arith
+module _ {A : Type 0} (name : A → List ℕ) (n : List ℕ) where
+  adjacent : (xs : List A) → IsAscending (map name xs) → (k : ℕ) (d : A) → k + 1 < length xs →
+      text_cmp (name (get_or xs k d)) (name (get_or xs (k + 1) d)) ≡ Less
+  adjacent [] up k d lt = absurd (omega (arith, lt))
+  adjacent (x ∷ []) up k d lt = absurd (omega (arith, lt))
+  adjacent (x ∷ y ∷ xs) up zero d lt = up.0
+  adjacent (x ∷ y ∷ xs) up (suc k) d lt =
+      let more : suc k + 1 ≡ suc (k + 1) = omega arith in
+      rw more (adjacent (y ∷ xs) up.1 k d (omega (arith, lt)))
 
--- how entries stand to a name rises with their places
-rises : (n : List ℕ) (t : TableParts) → IsAscending (names t) →
-    IsNonDecreasingBy (λ (p : Named). ordering_index (text_cmp p.0 n)) t
-rises n t up = IsNonDecreasingBy-from_all_adjacent (λ (p : Named). ordering_index (text_cmp p.0 n))
-    t (λ k d lt. no_higher (slice_index_or t k d).0 (slice_index_or t (k + 1) d).0 n
-    (adjacent t up k d lt))
+  no_higher : (x y : List ℕ) → text_cmp x y ≡ Less →
+      ordering_index (text_cmp x n) ≤ ordering_index (text_cmp y n)
+  no_higher x y below = by (text_cmp y n) refl
+    where
+      by : (o : Ordering) → text_cmp y n ≡ o → ordering_index (text_cmp x n) ≤ ordering_index o
+      by Less e = rw (nat_list_cmp_total.trans x y n below e) (omega arith)
+      by Equal e = rw (subst (λ z. text_cmp x z ≡ Less) (same_text y n e) below) (omega arith)
+      by Greater e = any (text_cmp x n)
+        where
+          any : (o : Ordering) → ordering_index o ≤ ordering_index Greater
+          any Less = omega arith
+          any Equal = omega arith
+          any Greater = omega arith
+
+  -- how they stand to a name rises with their places
+  rises : (xs : List A) → IsAscending (map name xs) →
+      IsNonDecreasingBy (λ (a : A). ordering_index (text_cmp (name a) n)) xs
+  rises xs up = IsNonDecreasingBy-from_all_adjacent (λ (a : A). ordering_index (text_cmp (name a) n)) xs
+      (λ k d lt. no_higher (name (get_or xs k d)) (name (get_or xs (k + 1) d)) (adjacent xs up k d lt))
+
+  -- where those below it end and those above it begin, it stands nowhere
+  pub none_named : (xs : List A) (i : ℕ) → IsAscending (map name xs) →
+      (IsNonDecreasingBy (λ (a : A). ordering_index (text_cmp (name a) n)) xs →
+      IsPartitionPoint (λ (a : A). text_cmp (name a) n ≡ Less) (λ a. text_cmp (name a) n ≡ Greater) xs i) →
+      (k : ℕ) (d : A) → k < length xs → name (get_or xs k d) ≡ n → ⊥
+  none_named xs i up h k d lt e = by (nat_lt k i) refl (h (rises xs up))
+    where
+      by : (b : Bool) → nat_lt k i ≡ b → IsPartitionPoint (λ (a : A). text_cmp (name a) n ≡ Less)
+          (λ a. text_cmp (name a) n ≡ Greater) xs i → ⊥
+      by true under point =
+          irreflexive n (subst (λ x. text_cmp x n ≡ Less) e
+          (point.0 k d (omega arith) (ltb-true k i under)))
+      by false over point =
+          let greater = subst (λ x. text_cmp x n ≡ Greater) e
+          (point.1 k d (ltb-false k i over) lt) in
+          irreflexive n (above n n greater)
 
 pub none_found : (t : TableParts) (n : List ℕ) (i : ℕ) → IsAscending (names t) →
     (IsNonDecreasingBy (λ (p : Named). ordering_index (text_cmp p.0 n)) t →
     IsPartitionPoint (λ (p : Named). text_cmp p.0 n ≡ Less) (λ p. text_cmp p.0 n ≡ Greater) t i) →
     entry_at t n ≡ None
-none_found t n i up h = none_at t n (λ k d lt e. by k d lt e (nat_lt k i) refl (h (rises n t up)))
-  where
-    by : (k : ℕ) (d : Named) → k < length t → (slice_index_or t k d).0 ≡ n → (b : Bool) →
-        nat_lt k i ≡ b → IsPartitionPoint (λ (p : Named). text_cmp p.0 n ≡ Less)
-        (λ p. text_cmp p.0 n ≡ Greater) t i → ⊥
-    by k d lt e true under point =
-        irreflexive n (subst (λ x. text_cmp x n ≡ Less) e
-        (point.0 k d (omega arith) (ltb-true k i under)))
-    by k d lt e false over point =
-        let greater = subst (λ x. text_cmp x n ≡ Greater) e
-        (point.1 k d (ltb-false k i over) lt) in
-        irreflexive n (above n n greater)
+none_found t n i up h = none_at t n (none_named (λ (p : Named). p.0) n t i up h)

@@ -111,6 +111,17 @@ alone_valid t n (Some e) at v =
           (All-nil (λ p. IsValidEntry p.1));
     }
 
+-- .. with the entry of that name, and of no other
+pub alone_own : (n : List ℕ) (o : Option EntryParts) (name : List ℕ) → name ≡ n →
+    entry_at (entry_alone n o) name ≡ o
+alone_own n None name same = refl
+alone_own n (Some e) name same = ap (entry_at ((n, e) ∷ [])) same ∙ entry_first (n, e) []
+
+pub alone_other : (n : List ℕ) (o : Option EntryParts) (name : List ℕ) → (name ≡ n → ⊥) →
+    entry_at (entry_alone n o) name ≡ None
+alone_other n None name other = refl
+alone_other n (Some e) name other = entry_other (n, e) [] name (λ same. other (sym same))
+
 -- ---- what a change is
 
 pub changed_takes : (old new : TableParts) (r : RequirementParts) (w : EntryParts) →

@@ -1,7 +1,9 @@
 -- What is gathered by the numbers of names, as a table.
 use Rattle.std.proofs.Common.{◌≡◌, ◌≢◌, ℕ, ◌<◌, ◌≤◌, Bool, true, false, List, [], ◌∷◌, ◌++◌, Option, Some, None}
+use Rattle.std.proofs.Common.{IfOk, Result}
 use Rattle.std.proofs.Common.{ap, arith, get_or, length, length-append, refl, set, subst, suc, sym, zero, ◌∙◌}
 use Rattle.std.proofs.lemmas.List.{get_or-set_other, get_or-set_same, get_or_default}
+use Rattle.std.proofs.lemmas.Result.{IfOk-weaker}
 use Rattle.std.specs.Prelude.{bytes_eq, option_map, unwrap_or}
 use Rattle.std.specs.List.{AllByRecursion}
 use Rattle.std.specs.List.Sorted.{IsStrictlySortedBy}
@@ -100,7 +102,7 @@ opened_kept : (ps : PlaceParts) (ds : List EntryParts) (n : List ℕ) (i : ℕ) 
 opened_kept ps ds n i room None at is = room.bare i (let e : i ≡ length ps = is in omega arith)
 opened_kept ps ds n i room (Some j) at is = ap (demands_at ds) is
 
-pub opened : (old new : PlaceParts) (ds : List EntryParts) (n : List ℕ) (i : ℕ) → HasRoom old ds →
+opened : (old new : PlaceParts) (ds : List EntryParts) (n : List ℕ) (i : ℕ) → HasRoom old ds →
     length old < length ds → ArePlaces new → AddsAtMostOne old new → TakesPlace old n new i →
     OpensPlace (table_of old ds) n new ds i
 opened old new ds n i room more are count takes = record {
@@ -111,6 +113,15 @@ opened old new ds n i room more are count takes = record {
   others = λ q other. entry_at-table_of new ds q ∙ ap (option_map (demands_at ds)) (takes.others q other)
       ∙ sym (entry_at-table_of old ds q);
 }
+
+-- .. as it is found, once there is room for a name more
+pub place_opened : {E : Type 0} (old new : PlaceParts) (given ds : List EntryParts) (n : List ℕ) (r : Result ℕ E) →
+    HasRoom old ds → length old < length ds → table_of old ds ≡ table_of old given → ArePlaces new →
+    AddsAtMostOne old new → IfOk r (TakesPlace old n new) → IfOk r (OpensPlace (table_of old given) n new ds)
+place_opened old new given ds n r room more same are count taken =
+    IfOk-weaker r (TakesPlace old n new) (OpensPlace (table_of old given) n new ds)
+    (λ i takes. subst (λ (t : TableParts). OpensPlace t n new ds i) same
+    (opened old new ds n i room more are count takes)) taken
 
 pub room_kept : (old new : PlaceParts) (ds : List EntryParts) → HasRoom old ds → length old < length ds →
     AddsAtMostOne old new → HasRoom new ds
@@ -154,10 +165,12 @@ changes old ps ds n i w are opens q =
     ∙ changed_alike (table_of ps ds) old n w q (opens.others q)
 
 pub placed_joins : (old : TableParts) (ps : PlaceParts) (ds : List EntryParts) (n : List ℕ) (i : ℕ)
-    (e w : EntryParts) → IsValidTable old → IsNormalName n → IsValidEntry e → ArePlaces ps →
-    OpensPlace old n ps ds i → JoinsEntries (demands_at ds i) e w →
+    (e w x d : EntryParts) (t : TableParts) → t ≡ old → IsValidTable old → IsNormalName n → IsValidEntry e →
+    ArePlaces ps → OpensPlace t n ps ds i → x ≡ get_or ds i d → JoinsEntries x e w →
     JoinsTables old ((n, e) ∷ []) (table_of ps (set ds i w))
-placed_joins old ps ds n i e w v normal ev are opens joins =
+placed_joins old ps ds n i e w x d t same v normal ev are opened_t found joined =
+    let opens = subst (λ (s : TableParts). OpensPlace s n ps ds i) same opened_t in
+    let joins = subst (λ a. JoinsEntries a e w) (sym (read ds i x d opens.within found)) joined in
     let is = changes old ps ds n i w are opens in
     let own : JoinsEntries (unwrap_or (entry_at old n) bare_entry) e w =
     subst (λ a. JoinsEntries a e w) opens.kept joins in
@@ -168,10 +181,12 @@ placed_joins old ps ds n i e w v normal ev are opens joins =
     changed_joins old (table_of ps (set ds i w)) n e w valid ev wv is own
 
 pub placed_takes : (old : TableParts) (ps : PlaceParts) (ds : List EntryParts) (n : List ℕ) (i : ℕ)
-    (r : RequirementParts) (w : EntryParts) → n ≡ r.name → IsValidTable old → HasValidParts r → ArePlaces ps →
-    OpensPlace old n ps ds i → TakesEntry (demands_at ds i) r w →
+    (r : RequirementParts) (w x d : EntryParts) (t : TableParts) → t ≡ old → n ≡ r.name → IsValidTable old →
+    HasValidParts r → ArePlaces ps → OpensPlace t n ps ds i → x ≡ get_or ds i d → TakesEntry x r w →
     TakesRequirement old r (table_of ps (set ds i w))
-placed_takes old ps ds n i r w same v h are opens takes =
+placed_takes old ps ds n i r w x d t one same v h are opened_t found taken =
+    let opens = subst (λ (s : TableParts). OpensPlace s n ps ds i) one opened_t in
+    let takes = subst (λ a. TakesEntry a r w) (sym (read ds i x d opens.within found)) taken in
     let is : (q : List ℕ) → entry_at (table_of ps (set ds i w)) q ≡ changed old r.name w q =
     λ q. changes old ps ds n i w are opens q ∙ (λ k. changed old (same k) w q) in
     let own : TakesEntry (unwrap_or (entry_at old r.name) bare_entry) r w =

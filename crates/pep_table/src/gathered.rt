@@ -50,12 +50,15 @@ fn make_room(places: &Places, demands: &mut Vec<PackageDemands>) -> Result<(), A
     Ok(())
 }
 
-// The number of the name, by which what is demanded of it is kept: nothing, where the name is new.
+// The number of the name, by which what is demanded of it is kept: nothing, where the name is new. A name that may come
+// often is remembered.
+#[inline(always)]
 fn place_of(
     alloc: Global,
     places: &mut Places,
     demands: &mut Vec<PackageDemands>,
     name: Name,
+    comes_often: bool,
 ) -> Result<usize, AllocError>
     requires { HasRoom places.old demands.old.items }
     ensures opened { IfOk result (OpensPlace (table_of places.old demands.old.items) name places.new
@@ -64,23 +67,11 @@ fn place_of(
     ensures places { ArePlaces places.new }
 {
     make_room(places, demands)?;
-    places.place(alloc, name)
-}
-
-// The same of a name that is not remembered.
-fn mapped_place_of(
-    places: &mut Places,
-    demands: &mut Vec<PackageDemands>,
-    name: Name,
-) -> Result<usize, AllocError>
-    requires { HasRoom places.old demands.old.items }
-    ensures opened { IfOk result (OpensPlace (table_of places.old demands.old.items) name places.new
-        demands.new.items) }
-    ensures room { HasRoom places.new demands.new.items }
-    ensures places { ArePlaces places.new }
-{
-    make_room(places, demands)?;
-    places.mapped_place(name)
+    if comes_often {
+        places.place(alloc, name)
+    } else {
+        places.mapped_place(name)
+    }
 }
 
 impl Gathered {
@@ -114,7 +105,7 @@ impl Gathered {
         let Ok(name) = requirement.name().copied(alloc) else {
             return Err(AllocError);
         };
-        let place = place_of(alloc, &mut self.places, &mut self.demands, name)?;
+        let place = place_of(alloc, &mut self.places, &mut self.demands, name, true)?;
         let Ok(()) = self.demands[place].take(alloc, requirement) else {
             return Err(AllocError);
         };
@@ -128,7 +119,7 @@ impl Gathered {
     {
         // Its clause tells that the name is in its normalized form.
         let _ = name.text();
-        let place = mapped_place_of(&mut self.places, &mut self.demands, name)?;
+        let place = place_of(alloc, &mut self.places, &mut self.demands, name, false)?;
         let Ok(()) = self.demands[place].join(alloc, entry) else {
             return Err(AllocError);
         };
@@ -148,7 +139,7 @@ impl Gathered {
     {
         // Its clause tells that the name is in its normalized form.
         let _ = name.text();
-        let place = place_of(alloc, &mut self.places, &mut self.demands, name)?;
+        let place = place_of(alloc, &mut self.places, &mut self.demands, name, true)?;
         let Ok(()) = self.demands[place].take_line(alloc, line) else {
             return Err(AllocError);
         };

@@ -1,6 +1,6 @@
 //! What requirements and tables demand, gathered one by one.
 
-ghost use Rattle.std.specs.Prelude.{◌≡◌, ◌⊎◌, ◌++◌, ◌∷◌, [], IfErr, IfOk, OnOk, string_bytes};
+ghost use Rattle.std.specs.Prelude.{◌≡◌, ◌⊎◌, ◌++◌, ◌∷◌, [], IfErr, IfOk, OnOk, length, string_bytes};
 ghost use Rattle.pep_require.specs.Requirement.{HasUndefinedMarker, RequirementParts};
 ghost use Rattle.pep_require.specs.View.{requirement_parts};
 ghost use Rattle.demands.specs.Gathering.{TakesApplying, TakesRequirement};
@@ -62,6 +62,16 @@ impl Gathering {
         // Memory is asked for when a name comes.
         let _ = alloc;
         Gathering { gathered: None }
+    }
+
+    // How many names there are.
+    fn len(&self) -> usize
+        ensures { result ≡ length self.now }
+    {
+        match &self.gathered {
+            Some(gathered) => gathered.len(),
+            None => 0,
+        }
     }
 
     // What is demanded so far, to be changed.
@@ -168,7 +178,7 @@ impl Gathering {
         ensures same { IfOk result (λ table. table ≡ self) }
         ensures faults { IfErr result (λ e. e ≡ TableFault.NoMemory) }
     {
-        let mut entries = Vec::new(alloc);
+        let mut entries = Vec::with_capacity(alloc, self.len())?;
         for (name, gathered) in self.into_entries(alloc) {
             entries.push((name, gathered.entry(alloc)?))?;
         }

@@ -1,17 +1,14 @@
-use Rattle.std.proofs.Common.{subst}
-use Rattle.std.proofs.lemmas.Result.{IfOk-weaker}
-use Rattle.demands.specs.Table.{TableParts}
-use Rattle.pep_table.specs.Way.Gathered.{OpensPlace, TakesPlace, table_of}
-use Rattle.pep_table.proofs.Placed.{opened}
+use Rattle.pep_table.proofs.Placed.{place_opened}
 use Rattle.pep_table.proofs.gathered.place_of.Goals as goal
 
-pub returns-clause-opened : goal.returns-clause-opened
-returns-clause-opened c =
-    let old = c.args.places.now in
-    let new = c.place.new.self in
-    let ds = c.make_room.new.demands.items in
-    let n = c.args.name in
-    IfOk-weaker c.place.result (TakesPlace old n new) (OpensPlace (table_of old c.args.demands.now.items) n new ds)
-    (λ i taken. subst (λ (t : TableParts). OpensPlace t n new ds i) c.make_room.ensures.same
-    (opened old new ds n i c.make_room.ensures.room c.in_ok-make_room.ensures.more c.place.ensures.places
-    c.place.ensures.count taken)) c.place.ensures.taken
+pub returns-then-comes_often-clause-opened : goal.returns-then-comes_often-clause-opened
+returns-then-comes_often-clause-opened c =
+    place_opened c.args.places.now c.place.new.self _ c.make_room.new.demands.items c.args.name _
+    c.make_room.ensures.room c.in_ok-make_room.ensures.more c.make_room.ensures.same c.place.ensures.places
+    c.place.ensures.count c.place.ensures.taken
+
+pub returns-else-comes_often-clause-opened : goal.returns-else-comes_often-clause-opened
+returns-else-comes_often-clause-opened c =
+    place_opened c.args.places.now c.mapped_place.new.self _ c.make_room.new.demands.items c.args.name _
+    c.make_room.ensures.room c.in_ok-make_room.ensures.more c.make_room.ensures.same c.mapped_place.ensures.places
+    c.mapped_place.ensures.count c.mapped_place.ensures.taken

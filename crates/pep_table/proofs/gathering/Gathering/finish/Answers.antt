@@ -1,8 +1,8 @@
 use Rattle.std.proofs.Common.{◌≡◌, ◌∷◌, arith, rules, subst, sym}
 use Rattle.std.specs.List.{All}
 use Rattle.std.proofs.lemmas.Grind.{common_steps}
-use Rattle.std.proofs.lemmas.List.Elements.{All-head, All-tail}
 use Rattle.demands.specs.Table.{IsValidEntry, TableParts}
+use Rattle.pep_table.proofs.EntryPlaces.{next_valid}
 use Rattle.pep_table.proofs.gathering.Gathering.finish.Goals as goal
 
 pub loop-name-init : goal.loop-name-init
@@ -12,11 +12,8 @@ loop-name-init c =
 
 pub entry-requires : goal.entry-requires
 entry-requires c =
-    let left : TableParts = c.loop-name.name-iterator in
-    let more : TableParts = c.next.new.self in
-    let split : left ≡ (c.in-Some.name, c.in-Some.gathered) ∷ more = search rules in
-    All-head (λ p. IsValidEntry p.1) (c.in-Some.name, c.in-Some.gathered) more
-    (subst (All (λ p. IsValidEntry p.1)) split c.loop-name.invariant.1)
+    (next_valid c.loop-name.name-iterator c.next.new.self (c.in-Some.name, c.in-Some.gathered)
+    c.loop-name.invariant.1 (search rules)).0
 
 pub loop-name-preserved : goal.loop-name-preserved
 loop-name-preserved c =
@@ -24,6 +21,5 @@ loop-name-preserved c =
     let more : TableParts = c.next.new.self in
     let split : left ≡ (c.in-Some.name, c.in-Some.gathered) ∷ more = search rules in (
       grind (arith, common_steps),
-      All-tail (λ p. IsValidEntry p.1) (c.in-Some.name, c.in-Some.gathered) more
-          (subst (All (λ p. IsValidEntry p.1)) split c.loop-name.invariant.1),
+      (next_valid left more (c.in-Some.name, c.in-Some.gathered) c.loop-name.invariant.1 split).1,
     )

@@ -1,9 +1,9 @@
 use Rattle.std.proofs.Common.{◌≡◌, ◌∷◌, List, rules, string_bytes, subst, sym}
 use Rattle.std.specs.List.{All}
 use Rattle.demands.specs.Table.{IsValidEntry, TableParts}
-use Rattle.std.proofs.lemmas.List.Elements.{All-head, All-tail}
 use Rattle.pep_table.specs.declared.printout.Row.{Row}
 use Rattle.pep_table.proofs.PrintedRows.{RowsUpTo, all_rows, no_rows, one_row_more}
+use Rattle.pep_table.proofs.EntryPlaces.{next_valid}
 use Rattle.pep_table.proofs.gathering.Gathering.printout.Goals as goal
 
 pub loop-name-init : goal.loop-name-init
@@ -17,11 +17,8 @@ loop-name-init c =
 
 pub of-requires : goal.of-requires
 of-requires c =
-    let left : TableParts = c.loop-name.name-iterator in
-    let more : TableParts = c.next.new.self in
-    let split : left ≡ (c.in-Some.name, c.in-Some.gathered) ∷ more = search rules in
-    All-head (λ p. IsValidEntry p.1) (c.in-Some.name, c.in-Some.gathered) more
-    (subst (All (λ p. IsValidEntry p.1)) split c.loop-name.invariant.1)
+    (next_valid c.loop-name.name-iterator c.next.new.self (c.in-Some.name, c.in-Some.gathered)
+    c.loop-name.invariant.1 (search rules)).0
 
 pub loop-name-preserved : goal.loop-name-preserved
 loop-name-preserved c =
@@ -31,8 +28,7 @@ loop-name-preserved c =
     let made = c.in_ok-row.ensures in (
       one_row_more c.args.self left more c.loop-name.rows c.put.new.self (c.in-Some.name, c.in-Some.gathered)
           c.in_ok-row.row c.loop-name.invariant.0 split made.name made.same made.shows c.in_ok-put.ensures,
-      All-tail (λ p. IsValidEntry p.1) (c.in-Some.name, c.in-Some.gathered) more
-          (subst (All (λ p. IsValidEntry p.1)) split c.loop-name.invariant.1),
+      (next_valid left more (c.in-Some.name, c.in-Some.gathered) c.loop-name.invariant.1 split).1,
     )
 
 pub returns-clause-text : goal.returns-clause-text

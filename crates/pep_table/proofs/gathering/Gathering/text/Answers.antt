@@ -1,8 +1,8 @@
 use Rattle.std.proofs.Common.{◌≡◌, ◌∷◌, rules, string_bytes, subst, sym}
 use Rattle.std.specs.List.{All}
 use Rattle.demands.specs.Table.{IsValidEntry, TableParts}
-use Rattle.std.proofs.lemmas.List.Elements.{All-head, All-tail}
 use Rattle.pep_table.proofs.PrintedEntries.{PrintsUpTo, all_printed, none_printed, one_printed}
+use Rattle.pep_table.proofs.EntryPlaces.{next_valid}
 use Rattle.pep_table.proofs.gathering.Gathering.text.Goals as goal
 use Rattle.pep_table.proofs.gathering.Gathering.text.Goals.{In_ok-push_gathered}
 
@@ -18,11 +18,8 @@ loop-name-init c =
 
 pub push_gathered-requires : goal.push_gathered-requires
 push_gathered-requires c =
-    let left : TableParts = c.loop-name.name-iterator in
-    let more : TableParts = c.next.new.self in
-    let split : left ≡ (c.in-Some.name, c.in-Some.gathered) ∷ more = search rules in
-    All-head (λ p. IsValidEntry p.1) (c.in-Some.name, c.in-Some.gathered) more
-    (subst (All (λ p. IsValidEntry p.1)) split c.loop-name.invariant.1)
+    (next_valid c.loop-name.name-iterator c.next.new.self (c.in-Some.name, c.in-Some.gathered)
+    c.loop-name.invariant.1 (search rules)).0
 
 -- the lines of one name more are there
 one_more : (c : In_ok-push_gathered) →
@@ -36,8 +33,7 @@ one_more c =
       one_printed c.args.environment.now c.args.self left more (string_bytes c.loop-name.text)
           (string_bytes c.push_gathered.new.text) (c.in-Some.name, c.in-Some.gathered) verdict
           c.loop-name.invariant.0 split shows text,
-      All-tail (λ p. IsValidEntry p.1) (c.in-Some.name, c.in-Some.gathered) more
-          (subst (All (λ p. IsValidEntry p.1)) split c.loop-name.invariant.1),
+      (next_valid left more (c.in-Some.name, c.in-Some.gathered) c.loop-name.invariant.1 split).1,
     )
 
 pub loop-name-preserved : goal.loop-name-preserved
