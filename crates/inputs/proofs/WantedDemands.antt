@@ -1,25 +1,21 @@
 -- The table of those demands that count, where perhaps one name alone is asked for.
 use Rattle.std.proofs.Common.{◌≡◌, ℕ, ◌⊎◌, Bool, true, false, List, [], ◌∷◌, ◌++◌, refl, sym, ap}
 use Rattle.std.proofs.Common.{subst, ◌∙◌, inl, inr, Option, Some, None}
-use Rattle.std.proofs.lemmas.List.Elements.{All-cons, All-contains, All-nil}
 use Rattle.std.proofs.lemmas.Slice.Eq.{bytes_eq-Decides}
 use Rattle.pep_marker.specs.Environment.{EnvironmentParts}
-use Rattle.pep_marker.specs.Name.{IsNormalName}
 use Rattle.pep_require.specs.Requirement.{Applies, RequirementParts}
-use Rattle.pep_require.proofs.Ascending.{Contains-from_IsIn}
 use Rattle.pep_require.proofs.Members.{in_none}
 use Rattle.pep_table.proofs.JoinedDemands.{joined_is_table, own_table}
+use Rattle.pep_table.proofs.NamedEntries.{alone_other, alone_own, alone_valid}
 use Rattle.pep_table.proofs.SameDemands.{same_demands, with_nothing}
 use Rattle.pep_table.proofs.Taking.{demand_name, marker_one, no_demands, taken_is_table}
 use Rattle.pep_table.proofs.Taking.{with_taken, without_passed}
-use Rattle.pep_table.specs.NamedEntry.{entry_alone}
-use Rattle.pep_table.specs.OneText.{entry_first, entry_other, name_there, valid_at}
 use Rattle.demands.specs.Demand.{ApplyingDemands, Demand, Demands, HaveSameDemands}
 use Rattle.demands.specs.Demand.{RequirementDemands, Together}
 use Rattle.demands.specs.Gathering.{TakesIf}
 use Rattle.demands.specs.Join.{JoinsTables}
-use Rattle.demands.specs.Table.{EntryParts, HasExactPoints, IsTable, IsValidEntry, IsValidTable}
-use Rattle.demands.specs.Table.{TableDemands, TableParts, entry_at, names}
+use Rattle.demands.specs.Table.{HasExactPoints, IsTable, IsValidTable}
+use Rattle.demands.specs.Table.{TableDemands, TableParts, entry_at}
 use Rattle.inputs.specs.Way.Wanted.{TakesWanted, Wanted, wanted_part, wants}
 
 -- ---- demands that count
@@ -130,16 +126,6 @@ wanted_is_table e w Q s (r ∷ rs) t h g (mid, false, says, takes, more) =
 
 -- ---- tables
 
-alone_own : (n : List ℕ) (o : Option EntryParts) (name : List ℕ) → name ≡ n →
-    entry_at (entry_alone n o) name ≡ o
-alone_own n None name same = refl
-alone_own n (Some e) name same = ap (entry_at ((n, e) ∷ [])) same ∙ entry_first (n, e) []
-
-alone_other : (n : List ℕ) (o : Option EntryParts) (name : List ℕ) → (name ≡ n → ⊥) →
-    entry_at (entry_alone n o) name ≡ None
-alone_other n None name other = refl
-alone_other n (Some e) name other = entry_other (n, e) [] name (λ same. other (sym same))
-
 -- what counts of a table has the entries of the names that count, and no other
 part_own : (w : Option (List ℕ)) (t : TableParts) (name : List ℕ) → wants w name ≡ true →
     entry_at (wanted_part w t) name ≡ entry_at t name
@@ -167,18 +153,6 @@ part_demands w t name d = (there, λ q. (q.1.0, part_own w t name q.0 ∙ q.1.1,
 
     there : TableDemands (wanted_part w t) name d → Wanted w (TableDemands t) name d
     there q = by (wants w name) refl q
-
-alone_valid : (t : TableParts) (n : List ℕ) (o : Option EntryParts) → entry_at t n ≡ o →
-    IsValidTable t → IsValidTable (entry_alone n o)
-alone_valid t n None at v = no_demands.0.valid
-alone_valid t n (Some e) at v =
-    let normal : IsNormalName n = All-contains IsNormalName (names t) n v.names.1
-    (Contains-from_IsIn (names t) n (name_there t n e at)) in
-    record {
-      names = (tt, All-cons IsNormalName n [] normal (All-nil IsNormalName));
-      entries = All-cons (λ p. IsValidEntry p.1) (n, e) [] (valid_at t n e v.entries at)
-          (All-nil (λ p. IsValidEntry p.1));
-    }
 
 part_valid : (w : Option (List ℕ)) (t : TableParts) → IsValidTable t →
     IsValidTable (wanted_part w t)

@@ -1,5 +1,5 @@
 -- The claims of inputs, input by input.
-use Rattle.std.proofs.Common.{◌≡◌, ◌∙◌, ℕ, suc, ◌+◌, ◌<◌, ◌≤◌, ◌⊎◌, List, [], ◌∷◌, ◌++◌}
+use Rattle.std.proofs.Common.{◌≡◌, ◌≢◌, ◌∙◌, ℕ, suc, ◌+◌, ◌<◌, ◌≤◌, ◌⊎◌, List, [], ◌∷◌, ◌++◌}
 use Rattle.std.proofs.Common.{append_assoc, arith, length, length-append, refl, sym, ap, subst, inl}
 use Rattle.std.proofs.Common.{inr}
 use Rattle.std.proofs.Common.{get_or, length-take-le, take, Option, None}
@@ -139,35 +139,22 @@ of_kind e i k group bytes number os ns kind_is group_is same h =
     (subst (λ (x : List ℕ). AllZip (Gains (AreClaimsBy (StandsIn e k group x) number)) os ns) same h))
 
 -- lists and tables have no group
-pub list_group : (e : EnvironmentParts) (group : Option (List ℕ)) (bytes : List ℕ) (number : ℕ)
-    (os ns : List AskedParts) →
-    AllZip (Gains (AreClaimsBy (StandsIn e kind.List None bytes) number)) os ns →
-    AllZip (Gains (AreClaimsBy (StandsIn e kind.List group bytes) number)) os ns
-list_group e group bytes number os ns h =
-    gains_same (AreClaimsBy (StandsIn e kind.List None bytes) number)
-    (AreClaimsBy (StandsIn e kind.List group bytes) number) (λ name ps.
-    same_claims (StandsIn e kind.List None bytes) (StandsIn e kind.List group bytes) number name ps
-    (same name)) os ns h
+pub of_kind_alone : (e : EnvironmentParts) (i : Input) (k : Kind) (bytes : List ℕ) (number : ℕ)
+    (os ns : List AskedParts) → k ≢ kind.Project → i.kind ≡ k → bytes ≡ i.bytes.items →
+    AllZip (Gains (AreClaimsBy (StandsIn e k None bytes) number)) os ns →
+    AllZip (Gains (AreClaimsBy (ClaimsAt e i) number)) os ns
+of_kind_alone e i k bytes number os ns other kind_is same h =
+    of_kind e i k i.group bytes number os ns kind_is refl same
+    (gains_same (AreClaimsBy (StandsIn e k None bytes) number) (AreClaimsBy (StandsIn e k i.group bytes) number)
+    (λ name ps. same_claims (StandsIn e k None bytes) (StandsIn e k i.group bytes) number name ps
+    (λ n c is. alike k other n c)) os ns h)
   where
-    same : (name : List ℕ) (n : ℕ) (c : ClaimParts) → name_of c ≡ name →
-        StandsIn e kind.List None bytes n c ↔ StandsIn e kind.List group bytes n c
-    same name n (required r) is = ((λ at. at), λ at. at)
-    same name n (entered m x) is = ((λ at. at), λ at. at)
-
-pub table_group : (e : EnvironmentParts) (group : Option (List ℕ)) (bytes : List ℕ) (number : ℕ)
-    (os ns : List AskedParts) →
-    AllZip (Gains (AreClaimsBy (StandsIn e kind.Table None bytes) number)) os ns →
-    AllZip (Gains (AreClaimsBy (StandsIn e kind.Table group bytes) number)) os ns
-table_group e group bytes number os ns h =
-    gains_same (AreClaimsBy (StandsIn e kind.Table None bytes) number)
-    (AreClaimsBy (StandsIn e kind.Table group bytes) number) (λ name ps.
-    same_claims (StandsIn e kind.Table None bytes) (StandsIn e kind.Table group bytes) number name ps
-    (same name)) os ns h
-  where
-    same : (name : List ℕ) (n : ℕ) (c : ClaimParts) → name_of c ≡ name →
-        StandsIn e kind.Table None bytes n c ↔ StandsIn e kind.Table group bytes n c
-    same name n (required r) is = ((λ at. at), λ at. at)
-    same name n (entered m x) is = ((λ at. at), λ at. at)
+    alike : (k : Kind) → k ≢ kind.Project → (n : ℕ) (c : ClaimParts) →
+        StandsIn e k None bytes n c ↔ StandsIn e k i.group bytes n c
+    alike kind.List other n (required r) = ((λ at. at), λ at. at)
+    alike kind.Table other n (required r) = ((λ at. at), λ at. at)
+    alike kind.Project other n (required r) = absurd (other refl)
+    alike k other n (entered m x) = ((λ at. at), λ at. at)
 
 -- ---- the code's loop over inputs
 

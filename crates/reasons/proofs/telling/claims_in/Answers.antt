@@ -1,20 +1,14 @@
-use Rattle.std.proofs.Common.{map, option_copied, refl, rules}
+use Rattle.std.proofs.Common.{map, option_copied, rules}
 use Rattle.std.proofs.lemmas.Result.{IfOk-weaker}
 use Rattle.inputs.specs.declared.input.Kind.TheVariants as kind
 use Rattle.reasons.specs.Way.Asked.{asked_parts}
-use Rattle.reasons.proofs.ClaimsOfInputs.{list_group, of_kind, table_group}
+use Rattle.reasons.proofs.ClaimsOfInputs.{of_kind, of_kind_alone}
 use Rattle.reasons.proofs.telling.claims_in.Goals as goal
 
 pub returns-in-List-clause-claims : goal.returns-in-List-clause-claims
 returns-in-List-clause-claims c =
-    let e = c.args.environment.now in
-    let i = c.args.input.now in
-    let bytes = c.as_slice-bytes.result.now in
-    let olds = map asked_parts c.args.asked.items in
-    IfOk-weaker c.list_claims.result _ _ (λ new h.
-    of_kind e i kind.List i.group bytes c.args.number olds (map asked_parts new.items)
-    c.in-List.is refl c.as_slice-bytes.ensures.value
-    (list_group e i.group bytes c.args.number olds (map asked_parts new.items) h))
+    IfOk-weaker c.list_claims.result _ _ (λ new. of_kind_alone c.args.environment.now c.args.input.now kind.List
+    c.as_slice-bytes.result.now c.args.number _ _ (λ e. cc e) c.in-List.is c.as_slice-bytes.ensures.value)
     c.list_claims.ensures.claims
 
 pub returns-in-Project-clause-claims : goal.returns-in-Project-clause-claims
@@ -29,12 +23,6 @@ returns-in-Project-clause-claims c =
 
 pub returns-in-Table-clause-claims : goal.returns-in-Table-clause-claims
 returns-in-Table-clause-claims c =
-    let e = c.args.environment.now in
-    let i = c.args.input.now in
-    let bytes = c.as_slice-bytes.result.now in
-    let olds = map asked_parts c.args.asked.items in
-    IfOk-weaker c.table_claims.result _ _ (λ new h.
-    of_kind e i kind.Table i.group bytes c.args.number olds (map asked_parts new.items)
-    c.in-Table.is refl c.as_slice-bytes.ensures.value
-    (table_group e i.group bytes c.args.number olds (map asked_parts new.items) h))
+    IfOk-weaker c.table_claims.result _ _ (λ new. of_kind_alone c.args.environment.now c.args.input.now kind.Table
+    c.as_slice-bytes.result.now c.args.number _ _ (λ e. cc e) c.in-Table.is c.as_slice-bytes.ensures.value)
     c.table_claims.ensures.claims
