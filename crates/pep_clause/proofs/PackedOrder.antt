@@ -14,8 +14,9 @@ use Rattle.pep_version.specs.Order.{dev_cmp, pre_number, release_cmp, segment_cm
 use Rattle.pep_version.specs.Version.{Version}
 use Rattle.pep_version.specs.declared.parts.Phase.{Phase}
 use Rattle.pep_version.specs.declared.parts.Phase.TheVariants.{Alpha, Beta, Rc}
+use Rattle.specifiers.specs.Clause.{Prefix}
 use Rattle.pep_clause.specs.Cut.{Cut, before, after, past, end, cut_cmp}
-use Rattle.pep_clause.specs.PackedCut.{HasPackedCut, IsShortRelease, IsShortSuffix, IsShortVersion, digit_unit, number_unit, dev_digit, end_word, four, four_word, last_digit, packed_word, post_digit, release_word, suffixed_word, word_before}
+use Rattle.pep_clause.specs.PackedCut.{HasPackedCut, IsShortRelease, IsShortSuffix, IsShortVersion, digit_unit, number_unit, dev_digit, end_word, four, four_word, last_digit, packed_word, past_stage, post_digit, release_word, suffixed_word, word_before, word_past}
 
 -- ---- steps in turn, grouped from the left and from the right
 
@@ -130,12 +131,19 @@ dev-cmp (Some m) (Some n) h g = refl
 pub release-below : {m : ℕ} (r : List ℕ) → IsShortRelease m r → release_word r < 2 ^ 100
 release-below r h = omega (arith, h.numbers.first, h.numbers.second, h.numbers.third, h.numbers.fourth)
 
-pub below_end : (x s p q e : ℕ) → x < 2 ^ 100 → s ≤ 4 → AreDigits s p q e → suffixed_word x s p q e < end_word
+pub below_end : (x s p q e : ℕ) → x < 2 ^ 100 → s ≤ past_stage → AreDigits s p q e → suffixed_word x s p q e < end_word
 below_end x s p q e h low d = omega (arith, h, low, d.pre, d.post, d.dev)
 
 pub version-below : (v : Version) → IsShortVersion v → word_before v < end_word
 version-below v h =
-    below_end (release_word v.release) _ _ _ _ (release-below v.release h.release) (stage_low v.pre v.post v.dev) (version-digits v h.suffix)
+    below_end (release_word v.release) _ _ _ _ (release-below v.release h.release)
+    (omega (arith, stage_low v.pre v.post v.dev)) (version-digits v h.suffix)
+
+pub past-digits : AreDigits past_stage 0 0 last_digit
+past-digits = record { stage = omega arith; pre = omega arith; post = omega arith; dev = omega arith }
+
+pub past-below : {m : ℕ} (r : List ℕ) → IsShortRelease m r → word_past r < end_word
+past-below r h = below_end (release_word r) _ _ _ _ (release-below r h) (omega arith) past-digits
 
 -- ---- the order
 
@@ -149,14 +157,61 @@ between_versions v w p q =
     (ordering_then (ordering_then (ordering_then (nat_cmp (stage v) (stage w)) (nat_cmp (pre_number v) (pre_number w)))
     (ordering_then (option_cmp nat_cmp v.post w.post) (ordering_then (dev_cmp v.dev w.dev) (slice_cmp segment_cmp (p.label i) (q.label i))))) Equal)))
 
+-- past a release, the release alone decides
+stage_less : (r p q e : Ordering) → ordering_then (ordering_then (ordering_then (ordering_then r Less) p) q) e ≡ ordering_then r Less
+stage_less Less p q e = refl
+stage_less Equal p q e = refl
+stage_less Greater p q e = refl
+
+stage_greater : (r p q e : Ordering) → ordering_then (ordering_then (ordering_then (ordering_then r Greater) p) q) e ≡ ordering_then r Greater
+stage_greater Less p q e = refl
+stage_greater Equal p q e = refl
+stage_greater Greater p q e = refl
+
+stage_equal : (r : Ordering) → ordering_then (ordering_then (ordering_then (ordering_then r Equal) Equal) Equal) Equal ≡ ordering_then r Equal
+stage_equal Less = refl
+stage_equal Equal = refl
+stage_equal Greater = refl
+
+before_past : (v : Version) (r : Prefix) → IsShortVersion v → IsShortRelease r.epoch r.release
+    → nat_cmp (word_before v) (word_past r.release) ≡ cut_cmp (before v) (past r)
+before_past v r p q =
+    let below : stage v < past_stage = omega (arith, stage_low v.pre v.post v.dev) in
+    suffixed-cmp _ _ _ _ _ _ _ _ _ _ (version-digits v p.suffix) past-digits
+    ∙ (λ i. ordering_then (ordering_then (ordering_then (ordering_then (release_word-cmp v.release r.release p.release q i)
+    (is_less (stage v) past_stage below i)) (nat_cmp (pre_number v) 0)) (nat_cmp (post_digit v.post) 0)) (nat_cmp (dev_digit v.dev) last_digit))
+    ∙ stage_less (release_cmp v.release r.release) (nat_cmp (pre_number v) 0) (nat_cmp (post_digit v.post) 0) (nat_cmp (dev_digit v.dev) last_digit)
+    ∙ sym (λ i. ordering_then (nat_cmp (p.release.epoch i) (q.epoch i)) (ordering_then (release_cmp v.release r.release) Less))
+
+past_before : (r : Prefix) (v : Version) → IsShortRelease r.epoch r.release → IsShortVersion v
+    → nat_cmp (word_past r.release) (word_before v) ≡ cut_cmp (past r) (before v)
+past_before r v p q =
+    let below : stage v < past_stage = omega (arith, stage_low v.pre v.post v.dev) in
+    suffixed-cmp _ _ _ _ _ _ _ _ _ _ past-digits (version-digits v q.suffix)
+    ∙ (λ i. ordering_then (ordering_then (ordering_then (ordering_then (release_word-cmp r.release v.release p q.release i)
+    (is_greater past_stage (stage v) below i)) (nat_cmp 0 (pre_number v))) (nat_cmp 0 (post_digit v.post))) (nat_cmp last_digit (dev_digit v.dev)))
+    ∙ stage_greater (release_cmp r.release v.release) (nat_cmp 0 (pre_number v)) (nat_cmp 0 (post_digit v.post)) (nat_cmp last_digit (dev_digit v.dev))
+    ∙ sym (λ i. ordering_then (nat_cmp (p.epoch i) (q.release.epoch i)) (ordering_then (release_cmp r.release v.release) Greater))
+
+between_pasts : (r t : Prefix) → IsShortRelease r.epoch r.release → IsShortRelease t.epoch t.release
+    → nat_cmp (word_past r.release) (word_past t.release) ≡ cut_cmp (past r) (past t)
+between_pasts r t p q =
+    suffixed-cmp (release_word r.release) _ _ _ _ (release_word t.release) _ _ _ _ past-digits past-digits
+    ∙ (λ i. ordering_then (ordering_then (ordering_then (ordering_then (release_word-cmp r.release t.release p q i) Equal) Equal) Equal) Equal)
+    ∙ stage_equal (release_cmp r.release t.release)
+    ∙ sym (λ i. ordering_then (nat_cmp (p.epoch i) (q.epoch i)) (ordering_then (release_cmp r.release t.release) Equal))
+
 pub packed-order : (c d : Cut) → HasPackedCut c → HasPackedCut d → nat_cmp (packed_word c) (packed_word d) ≡ cut_cmp c d
 packed-order (before v) (before w) p q = between_versions v w p q
 packed-order (before v) end p q = is_less _ _ (version-below v p)
 packed-order end (before w) p q = is_greater _ _ (version-below w q)
 packed-order end end p q = refl
+packed-order (before v) (past r) p q = before_past v r p q
+packed-order (past r) (before v) p q = past_before r v p q
+packed-order (past r) (past t) p q = between_pasts r t p q
+packed-order (past r) end p q = is_less _ _ (past-below r.release p)
+packed-order end (past r) p q = is_greater _ _ (past-below r.release q)
 packed-order (after v) d p q = absurd p
-packed-order (past r) d p q = absurd p
 packed-order (before v) (after w) p q = absurd q
-packed-order (before v) (past w) p q = absurd q
+packed-order (past r) (after w) p q = absurd q
 packed-order end (after w) p q = absurd q
-packed-order end (past w) p q = absurd q

@@ -1,11 +1,12 @@
 -- A packed cut: a cut as one number of sixteen bytes, for cuts whose numbers are small. The order of the numbers is the order of the
 -- cuts, and the cut is read back from its number (`PackedCutsKeepOrder`).
-use Rattle.std.specs.Prelude.{◌≡◌, ◌+◌, ◌-◌, ◌*◌, ◌/◌, ◌%◌, ◌^◌, ◌<◌, ◌≤◌, ◌==◌, ℕ, List, [], ◌∷◌, Option, Some, None, IfSome, get_or, length, if◌then◌else◌}
+use Rattle.std.specs.Prelude.{◌≡◌, ◌++◌, ◌+◌, ◌-◌, ◌*◌, ◌/◌, ◌%◌, ◌^◌, ◌<◌, ◌≤◌, ◌==◌, ℕ, Bool, true, false, List, [], ◌∷◌, Option, Some, None, IfSome, get_or, length, codes, take, if◌then◌else◌}
 use Rattle.std.specs.Ordering.{nat_cmp}
 use Rattle.pep_version.specs.Order.{pre_number, pre_number_of, short_release, stage}
 use Rattle.pep_version.specs.Version.{Version}
 use Rattle.pep_version.specs.declared.parts.Phase.{Phase}
 use Rattle.pep_version.specs.declared.parts.Phase.TheVariants.{Alpha, Beta, Rc}
+use Rattle.specifiers.specs.Clause.{prefix_of}
 use Rattle.pep_clause.specs.Cut.{Cut, IsCut, before, after, past, end, cut_cmp, final_version}
 
 -- ---- the number of a cut
@@ -53,11 +54,18 @@ end_word = 2 ^ 128 - 1
 abbrev pub word_before : Version → ℕ
 word_before v = suffixed_word (release_word v.release) (stage v) (pre_number v) (post_digit v.post) (dev_digit v.dev)
 
--- no cut after a version has one, and none past a release
+-- past a release is above where any version stands within it
+abbrev pub past_stage : ℕ
+past_stage = 5
+
+abbrev pub word_past : List ℕ → ℕ
+word_past r = suffixed_word (release_word r) past_stage 0 0 last_digit
+
+-- no cut after a version has one
 abbrev pub packed_word : Cut → ℕ
 packed_word (before v) = word_before v
 packed_word (after v) = end_word
-packed_word (past r) = end_word
+packed_word (past r) = word_past r.release
 packed_word end = end_word
 
 -- ---- which cuts have one
@@ -93,7 +101,7 @@ release_alone r = final_version (record { epoch = 0; release = r })
 abbrev pub HasPackedCut : Cut → Type 0
 HasPackedCut (before v) = IsShortVersion v
 HasPackedCut (after v) = ⊥
-HasPackedCut (past r) = ⊥
+HasPackedCut (past r) = IsShortRelease r.epoch r.release
 HasPackedCut end = Unit {0}
 
 -- ---- the cut of a number
@@ -136,8 +144,25 @@ version_at w = record {
   label = [];
 }
 
+-- whether the word is that of a cut past a release
+abbrev pub is_past : ℕ → Bool
+is_past w = stage_at w == past_stage
+
+abbrev pub cut_at_version : Bool → Version → Cut
+cut_at_version true v = past (prefix_of v)
+cut_at_version false v = before v
+
 abbrev pub cut_at : ℕ → Cut
-cut_at w = if w == end_word then end else before (version_at w)
+cut_at w = if w == end_word then end else cut_at_version (is_past w) (version_at w)
+
+-- the word in front of the version in the text of a packed cut
+abbrev pub front_text : Bool → List ℕ
+front_text true = codes "past "
+front_text false = codes "before "
+
+-- a key with a byte 0x60 in place of the four bytes behind its release, where it is that of a release alone
+abbrev pub past_bytes : List ℕ → List ℕ
+past_bytes key = take (length key - 4) key ++ (0x60 ∷ [])
 
 -- the packed cut right behind another: that of the next number
 abbrev pub right_behind : Cut → Cut

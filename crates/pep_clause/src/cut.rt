@@ -192,7 +192,11 @@ impl Cut {
         ensures place { IfOk result (λ c. c ≡ past_release version.now) }
         ensures spelled { IfOk result (λ c. IsCut c) }
     {
-        let Ok(key) = Key::of_release(alloc, version.epoch(), version.release(), None) else {
+        let (epoch, release) = (version.epoch(), version.release());
+        if let Some(cut) = PackedCut::past(epoch, release) {
+            return Ok(Cut::small(cut));
+        }
+        let Ok(key) = Key::of_release(alloc, epoch, release, None) else {
             return Err(AllocError);
         };
         let mut bytes = key.into_bytes();

@@ -26,8 +26,8 @@ ghost use Rattle.std.specs.Cmp.{
   partial_order_from_total,
 };
 ghost use Rattle.std.specs.Ordering.{as_partial_cmp, eq_by_cmp};
-ghost use Rattle.pep_version.specs.Order.{with_suffixes};
-ghost use Rattle.pep_clause.specs.Cut.{IsCut, cut_cmp, cut_text, end, least};
+ghost use Rattle.pep_version.specs.Order.{short_release, with_suffixes};
+ghost use Rattle.pep_clause.specs.Cut.{IsCut, cut_cmp, cut_text, end, least, past};
 ghost use Rattle.pep_clause.specs.CutBytes.{cut_bytes};
 ghost use Rattle.pep_clause.specs.Way.Joined.{earlier, later};
 ghost use Rattle.pep_clause.specs.Laws.{cut_total};
@@ -45,8 +45,8 @@ ghost use Rattle.pep_clause.specs.PackedCut.{
 ghost use Rattle.texts.specs.Lists.{is_empty};
 ghost use Rattle.texts.specs.TextOut.{Extends};
 
-use crate::packed_cut::parts::{key_bytes_at, put_version_at};
-use crate::packed_cut::word::{four, suffixed, word_of};
+use crate::packed_cut::parts::{front_text, is_past, key_bytes_at, past_bytes_at, put_version_at};
+use crate::packed_cut::word::{four, past, suffixed, word_of};
 use pep_version::{Phase, Version};
 use std::cmp::Ordering;
 use std::marker::Model;
@@ -62,10 +62,10 @@ const HALF: u128 = 1 << 64;
 // The bytes of the end.
 const END: [u8; 9] = [0xff; 9];
 
-/// A cut as one number of sixteen bytes, which most cuts have: the end of all versions, and those before a version
-/// of epoch 0 without a label, whose release is written with at most four numbers, each of at most 25 bits, whose
-/// pre-release number is below 128, and whose post- and developmental release numbers are below 127. Clauses see the
-/// cut. All of it is public for the crates above alone.
+/// A cut as one number of sixteen bytes, which most cuts have: the end of all versions, those past a release of epoch 0
+/// that is written with at most four numbers, each of at most 25 bits, and those before a version without a label that
+/// has such a release, whose pre-release number is below 128, and whose post- and developmental release numbers are
+/// below 127. Clauses see the cut. All of it is public for the crates above alone.
 ///
 /// The number has four times 25 bits for the release and four times 7 for what stands behind it; the end has all
 /// bits. So numbers stand as the cuts do (PEP 440, "Summary of permitted suffixes and relative ordering").
@@ -220,6 +220,24 @@ impl PackedCut {
         PackedCut::before_release(release, None, Some(0))
     }
 
+    /// The packed cut past everything of a release, or `None` where its epoch isn't 0, or its numbers are too large or
+    /// too many.
+    pub(crate) fn past(epoch: u64, release: &[u64]) -> Option<PackedCut>
+        requires { 0 < length release.now }
+        ensures cut { IfSome result (λ p. p ≡ past (record {
+          epoch = epoch;
+          release = short_release release.now;
+        })) }
+        ensures spelled { IfSome result (λ p. IsCut p) }
+        ensures exactly { IsSome result ↔ IsShortRelease epoch release.now }
+    {
+        if epoch > 0 {
+            return None;
+        }
+        let word = word_of(four(release)?)?;
+        Some(PackedCut::of_word(past(word)))
+    }
+
     /// Whether the packed cut is right behind another: its number is the next.
     pub fn is_right_behind(self, other: PackedCut) -> bool
         ensures exactly { IsTrue result
@@ -245,6 +263,9 @@ impl PackedCut {
         if word == u128::MAX {
             return &END;
         }
+        if is_past(word) {
+            return past_bytes_at(room, word);
+        }
         key_bytes_at(room, word)
     }
 
@@ -258,7 +279,7 @@ impl PackedCut {
         if word == u128::MAX {
             return text.put_str("end");
         }
-        text.put_str("before ")?;
+        text.put_str(front_text(word))?;
         put_version_at(text, word)
     }
 

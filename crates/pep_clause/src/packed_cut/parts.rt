@@ -7,7 +7,10 @@ ghost use Rattle.pep_version.specs.Order.{short_release};
 ghost use Rattle.pep_clause.specs.PackedCut.{
   dev_at,
   digit_unit,
+  front_text,
+  is_past,
   numbers_at,
+  past_bytes,
   post_at,
   pre_at,
   release_word_at,
@@ -16,7 +19,7 @@ ghost use Rattle.pep_clause.specs.PackedCut.{
 ghost use Rattle.texts.specs.TextOut.{Extends};
 
 use crate::packed_cut::CUT_ROOM;
-use crate::packed_cut::word::{DIGIT, NUMBER};
+use crate::packed_cut::word::{DIGIT, NUMBER, PAST};
 use pep_version::{Phase, public_key_bytes, put_release, put_suffixes};
 use texts::TextOut;
 
@@ -115,6 +118,21 @@ fn suffixes_at(word: u128) -> Suffixes
     }
 }
 
+/// Whether the word is that of a cut past a release.
+pub(crate) fn is_past(word: u128) -> bool
+    ensures { result ≡ is_past word }
+{
+    let unit = DIGIT as u128;
+    digit(word / unit / unit / unit) == PAST
+}
+
+/// The word in front of the version in the text of a cut.
+pub(crate) fn front_text(word: u128) -> &'static str
+    ensures { result.now ≡ front_text (is_past word) }
+{
+    if is_past(word) { "past " } else { "before " }
+}
+
 /// The bytes of the key of the version with the release and the suffixes of the word, written into the room.
 pub(crate) fn key_bytes_at<'a>(room: &'a mut [u8; CUT_ROOM], word: u128) -> &'a [u8]
     ensures { result.now ≡ key_bytes (version_at word) }
@@ -126,6 +144,22 @@ pub(crate) fn key_bytes_at<'a>(room: &'a mut [u8; CUT_ROOM], word: u128) -> &'a 
         Some(bytes) => bytes,
         None => unreachable!(),
     }
+}
+
+/// The same without what stands behind the release of the key, which is that of a release alone, and then 0x60, above
+/// each byte that a key has there.
+// Such bytes are wanted beside the bytes of other cuts alone.
+#[cold]
+#[inline(never)]
+pub(crate) fn past_bytes_at<'a>(room: &'a mut [u8; CUT_ROOM], word: u128) -> &'a [u8]
+    ensures { result.now ≡ past_bytes (key_bytes (version_at word)) }
+{
+    let mut own = [0; CUT_ROOM];
+    let key = key_bytes_at(&mut own, word);
+    let end = key.len() - 4;
+    room[..end].copy_from_slice(&key[..end]);
+    room[end] = 0x60;
+    &room[..end + 1]
 }
 
 /// Writes the normal text of the version with the release and the suffixes of the word.

@@ -1,7 +1,7 @@
 // How the texts of most packed cuts are read: a cut is guessed, and is right where the text that it has is the one that
 // is read.
 
-ghost use Rattle.std.specs.Prelude.{◌≡◌, ◌++◌, IfSome, IsTrue, OnErr, OnOk};
+ghost use Rattle.std.specs.Prelude.{◌≡◌, ◌++◌, ◌<◌, length, IfSome, IsTrue, OnErr, OnOk};
 ghost use Rattle.pep_clause.specs.Cut.{cut_text};
 ghost use Rattle.texts.specs.TextOut.{Extends};
 
@@ -44,9 +44,22 @@ impl TextOut for ShortText {
     }
 }
 
+// What the cut would be before a version whose text ends so, or past it.
+fn ending(release: &[u64], is_past: bool, rest: &[u8]) -> Option<PackedCut>
+    requires { 0 < length release.now }
+{
+    match rest {
+        [] if is_past => PackedCut::past(0, release),
+        [] => PackedCut::before_release(release, None, None),
+        b".dev0" => PackedCut::before_release(release, None, Some(0)),
+        b".post0.dev0" => PackedCut::before_release(release, Some(0), Some(0)),
+        _ => None,
+    }
+}
+
 // What the cut would be whose text goes on so behind its word, if its version is a release, or the first developmental
-// release of one.
-fn guessed(text: &[u8]) -> Option<PackedCut> {
+// release of one or of its first post-release.
+fn guessed(text: &[u8], is_past: bool) -> Option<PackedCut> {
     let mut numbers = [0; 4];
     let mut count = 0;
     let mut left = text;
@@ -57,12 +70,9 @@ fn guessed(text: &[u8]) -> Option<PackedCut> {
         }
         numbers[count] = number;
         count += 1;
-        let release = &numbers[..count];
         match rest {
-            [] => return PackedCut::before_release(release, None, None),
-            b".dev0" => return PackedCut::before_release(release, None, Some(0)),
-            [b'.', others @ ..] => left = others,
-            _ => return None,
+            [b'.', b'0'..=b'9', ..] => left = &rest[1..],
+            _ => return ending(&numbers[..count], is_past, rest),
         }
     }
 }
@@ -82,12 +92,18 @@ impl PackedCut {
         &own.bytes[..own.len] == text.as_bytes()
     }
 
-    /// The packed cut whose text this is, if it stands before a release, or before the first developmental release of
-    /// one, as most do. `None` says nothing of the text.
+    /// The packed cut whose text this is, if it is the end, or stands past a release, before a release, or before the
+    /// first developmental release of one or of its first post-release, as most do. `None` says nothing of the text.
     pub(crate) fn read(text: &str) -> Option<PackedCut>
         ensures { IfSome result (λ cut. cut_text cut ≡ text.now) }
     {
-        let cut = guessed(text.strip_prefix("before ")?.as_bytes())?;
+        let cut = if let Some(version) = text.strip_prefix("before ") {
+            guessed(version.as_bytes(), false)?
+        } else if let Some(version) = text.strip_prefix("past ") {
+            guessed(version.as_bytes(), true)?
+        } else {
+            PackedCut::end()
+        };
         if cut.has_text(text) { Some(cut) } else { None }
     }
 }

@@ -9,6 +9,7 @@ ghost use Rattle.pep_clause.specs.PackedCut.{
   digit_unit,
   four,
   last_digit,
+  past_stage,
   post_digit,
   release_word,
   suffixed_word,
@@ -21,6 +22,9 @@ pub(crate) const NUMBER: u64 = 1 << 25;
 
 // A digit has at most 7 bits.
 pub(crate) const DIGIT: u64 = 1 << 7;
+
+// Past a release is above where any version stands within it.
+pub(crate) const PAST: u64 = 5;
 
 /// Four numbers of a release, those that it doesn't have being 0, where it has no more.
 pub(crate) fn four(release: &[u64]) -> Option<[u64; 4]>
@@ -122,4 +126,14 @@ pub(crate) fn suffixed(
     let unit = DIGIT as u128;
     let front = (release * unit + stage(pre, post, dev) as u128) * unit + number as u128;
     Some((front * unit + post_part as u128) * unit + dev_part as u128)
+}
+
+/// The word past a release.
+pub(crate) fn past(release: u128) -> u128
+    requires { release < 2 ^ 100 }
+    ensures { result ≡ suffixed_word release past_stage 0 0 last_digit }
+{
+    let unit = DIGIT as u128;
+    let front = (release * unit + PAST as u128) * unit * unit * unit;
+    front + (unit - 1)
 }

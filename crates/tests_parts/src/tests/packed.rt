@@ -219,7 +219,7 @@ fn shown_cut(alloc: Global, cut: &Cut) -> Result<String, ClauseFault> {
 }
 
 // Cuts, and their texts where they are packed.
-const PACKED: [(&str, &str); 6] = [
+const PACKED: [(&str, &str); 8] = [
     ("before 0.dev0", "before 0.dev0"),
     (
         "before 1.2.3.4rc5.post6.dev7",
@@ -227,7 +227,9 @@ const PACKED: [(&str, &str); 6] = [
     ),
     ("end", "end"),
     ("before 1!2", "not packed"),
-    ("past 1.7", "not packed"),
+    ("past 1.7", "past 1.7"),
+    ("past 1.2.3.33554431", "past 1.2.3.33554431"),
+    ("past 1!7", "not packed"),
     ("after 1+x", "not packed"),
 ];
 

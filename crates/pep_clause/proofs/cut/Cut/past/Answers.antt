@@ -19,7 +19,7 @@ short v = record { epoch = v.epoch; release = short_release v.release }
 is_final : (c : In_ok-push) → c.in-Ok.key ≡ final_version (short c.args.version.now)
 is_final c =
     c.in-Ok.ensures.place
-    ∙ (λ i. final_version (record { epoch = c.epoch.ensures i; release = short_release (c.release.ensures.numbers i) }))
+    ∙ (λ i. final_version (record { epoch = c.epoch-epoch.ensures i; release = short_release (c.release-release.ensures.numbers i) }))
 
 is_cut : (c : In_ok-push) → IsCut (past (short c.args.version.now))
 is_cut c = (subst IsVersion (is_final c) c.in-Ok.ensures.version, short-twice c.args.version.now.release)
