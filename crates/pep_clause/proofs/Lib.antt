@@ -31,3 +31,4 @@ pub mod CutsRead
 pub mod PackedOrder
 pub mod PackedRead
 mod Witnesses
+mod WrittenReleases

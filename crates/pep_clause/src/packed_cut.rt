@@ -46,6 +46,7 @@ ghost use Rattle.texts.specs.Lists.{is_empty};
 ghost use Rattle.texts.specs.TextOut.{Extends};
 
 use crate::packed_cut::parts::{front_text, is_past, key_bytes_at, past_bytes_at, put_version_at};
+pub(crate) use crate::packed_cut::reading::is_short;
 use crate::packed_cut::word::{four, past, suffixed, word_of};
 use pep_version::{Phase, Version};
 use std::cmp::Ordering;

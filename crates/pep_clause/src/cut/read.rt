@@ -1,7 +1,7 @@
 // How a cut is read.
 
 ghost use Rattle.std.specs.Prelude.{◌≡◌, ◌++◌, ◌↔◌, IfErr, IfOk, IfSome, IsTrue, Some, true};
-ghost use Rattle.pep_version.specs.Order.{place_of, short_release};
+ghost use Rattle.pep_version.specs.Order.{place_of};
 ghost use Rattle.pep_version.specs.Text.{normal_text};
 ghost use Rattle.pep_version.specs.Version.{IsVersion, Version};
 ghost use Rattle.pep_version.specs.Final.{is_final};
@@ -9,20 +9,10 @@ ghost use Rattle.pep_clause.specs.Cut.{Cut, IsCut, cut_text};
 ghost use Rattle.pep_clause.specs.OperatorTable.{past_release};
 
 use crate::cut::Cut;
-use crate::packed_cut::PackedCut;
+use crate::packed_cut::{PackedCut, is_short};
 use pep_version::{Version, VersionFault};
 use specifiers::ClauseFault;
 use std::alloc::{AllocError, Global};
-
-// Whether the release has no zero at its end beyond its first number.
-fn is_short(release: &[u64]) -> bool
-    ensures { IsTrue result ↔ (short_release release.now ≡ release.now) }
-{
-    match release {
-        [_, .., last] => *last != 0,
-        _ => true,
-    }
-}
 
 // The version, if it is at its own place and this is its normal text: a cut's text has no other.
 fn spelled_version(
