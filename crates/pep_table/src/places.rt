@@ -107,14 +107,25 @@ impl Places {
     }
 
     /// The same of a name that may come often: it is remembered.
+    #[inline(always)]
     pub(crate) fn place(&mut self, alloc: Global, name: Name) -> Result<usize, AllocError>
         ensures taken { IfOk result (TakesPlace self.old name self.new) }
         ensures count { AddsAtMostOne self.old self.new }
         ensures places { ArePlaces self.new }
     {
-        if let Some(place) = self.known_place(&name) {
-            return Ok(place);
+        match self.known_place(&name) {
+            Some(place) => Ok(place),
+            None => self.place_anew(alloc, name),
         }
+    }
+
+    // The same of a name that is not remembered. A call of its own, so that one that is needn't be moved.
+    #[inline(never)]
+    fn place_anew(&mut self, alloc: Global, name: Name) -> Result<usize, AllocError>
+        ensures taken { IfOk result (TakesPlace self.old name self.new) }
+        ensures count { AddsAtMostOne self.old self.new }
+        ensures places { ArePlaces self.new }
+    {
         let copy = short_copy(alloc, &name)?;
         let place = self.mapped_place(name)?;
         if let Some(name) = copy {
