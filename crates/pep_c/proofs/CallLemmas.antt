@@ -1,10 +1,11 @@
 -- What goes out of a call, by what is said of the function that it calls.
 use Rattle.std.proofs.Common.{◌≡◌, ◌⊎◌, ℕ, List, Result, Ok, Err, IfOk, IfErr, inl, inr, subst}
-use Rattle.std.proofs.Common.{Global, String, codes, refl, string_bytes, sym, ℤ, of_z, to_z, w32}
+use Rattle.std.proofs.Common.{Global, IsErrAnd, String, codes, refl, string_bytes, sym, ℤ, of_z, to_z, w32}
 use Rattle.std.specs.Fmt.{digits}
 use Rattle.faults.specs.FaultLine.{fault_line}
 use Rattle.faults.specs.NoMemory.{no_memory}
 use Rattle.faults.specs.declared.fault.Fault.{Fault}
+use Rattle.pep_require.proofs.Exits.{further, handed_on}
 use Rattle.std.specs.declared.cmp.Ordering.{Ordering}
 use Rattle.std.specs.declared.cmp.Ordering.TheVariants as ordering
 use Rattle.demands.specs.declared.verdict.Answer.{Answer}
@@ -40,6 +41,12 @@ pub told_so : (refuses others : Fault → Type 0) (size : ℕ) (old new : List �
     TellsRefusal others size old new
 told_so refuses others size old new f (fault, inl memory, out) = (fault, inl memory, out)
 told_so refuses others size old new f (fault, inr h, out) = (fault, inr (f fault h), out)
+
+-- what is true of a fault that a `?` hands on, in other words
+pub handed : {A B : Type 0} (refuses : Fault → Type 0) (r : Result A Fault) {fault : Fault} →
+    IsErrAnd r (λ e. e ≡ fault) → (B → refuses fault) → (fault ≡ no_memory) ⊎ B →
+    IfErr r (λ e. (e ≡ no_memory) ⊎ refuses e)
+handed refuses r {fault} same f h = handed_on (λ e. (e ≡ no_memory) ⊎ refuses e) r fault same (further f h)
 
 -- ---- numbers that are kept in 32 bits
 

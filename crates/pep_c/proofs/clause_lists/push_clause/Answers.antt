@@ -1,6 +1,6 @@
 use Rattle.std.proofs.Common.{[], ◌∷◌, append-nil, sym, ◌∙◌}
-use Rattle.pep_require.proofs.Exits.{further, handed_on}
 use Rattle.pep_c.specs.ClauseLists.{a_blank, a_clause, no_piece}
+use Rattle.pep_c.proofs.CallLemmas.{handed}
 use Rattle.pep_c.proofs.clause_lists.push_clause.Goals as goal
 
 pub returns-then-is_space-clause-pushed : goal.returns-then-is_space-clause-pushed
@@ -9,9 +9,8 @@ returns-then-is_space-clause-pushed c =
 
 pub returns-in_err-clause-clause-refused : goal.returns-in_err-clause-clause-refused
 returns-in_err-clause-clause-refused c =
-    let exit = c.from_residual in
-    handed_on _ exit.result _ exit.ensures.1
-    (further (λ why. (sym c.is_space.ensures ∙ c.if-is_space.false, why)) c.in_err-clause.ensures.refused)
+    handed _ _ c.from_residual.ensures.1 (λ why. (sym c.is_space.ensures ∙ c.if-is_space.false, why))
+    c.in_err-clause.ensures.refused
 
 pub returns-clause-pushed : goal.returns-clause-pushed
 returns-clause-pushed c =

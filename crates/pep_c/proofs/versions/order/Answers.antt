@@ -1,20 +1,16 @@
 use Rattle.std.proofs.Common.{◌∙◌, ap}
-use Rattle.pep_require.proofs.Exits.{further, handed_on}
 use Rattle.pep_version.specs.Order.{version_cmp}
 use Rattle.pep_c.specs.Versions.{by_first, by_second, order_number}
-use Rattle.pep_c.proofs.CallLemmas.{kept_order}
+use Rattle.pep_c.proofs.CallLemmas.{handed, kept_order}
 use Rattle.pep_c.proofs.versions.order.Goals as goal
 
 pub returns-in_err-first-clause-refused : goal.returns-in_err-first-clause-refused
-returns-in_err-first-clause-refused c =
-    let exit = c.from_residual in
-    handed_on _ exit.result _ exit.ensures.1 (further by_first c.in_err-first.ensures.refused)
+returns-in_err-first-clause-refused c = handed _ _ c.from_residual.ensures.1 by_first c.in_err-first.ensures.refused
 
 pub returns-in_err-second-clause-refused : goal.returns-in_err-second-clause-refused
 returns-in_err-second-clause-refused c =
-    let exit = c.from_residual-in_err-second in
-    handed_on _ exit.result _ exit.ensures.1
-    (further (by_second _ c.in_ok-first.ensures.version) c.in_err-second.ensures.refused)
+    handed _ _ c.from_residual-in_err-second.ensures.1 (by_second _ c.in_ok-first.ensures.version)
+    c.in_err-second.ensures.refused
 
 pub returns-clause-order : goal.returns-clause-order
 returns-clause-order c = record {
