@@ -65,7 +65,9 @@ pub(crate) fn swept_ranges(
     ensures no_fewer { turns.old.passed ≤ turns.new.passed }
 {
     // Between two ranges in common one of the lists goes on to its next.
-    let most = ranges.len().saturating_add(other_ranges.len().saturating_sub(1));
+    let most = ranges
+        .len()
+        .saturating_add(other_ranges.len().saturating_sub(1));
     let mut done = Vec::with_capacity(alloc, most)?;
     let (mut left, mut right) = (ranges, other_ranges);
     'sweep: loop {
@@ -108,7 +110,9 @@ pub(crate) fn moved_ranges(
     requires other_ranges { IsNormal other_ranges.items }
     ensures { IfOk result (λ done. done.items ≡ joined ranges.items other_ranges.items) }
 {
-    let most = ranges.len().saturating_add(other_ranges.len().saturating_sub(1));
+    let most = ranges
+        .len()
+        .saturating_add(other_ranges.len().saturating_sub(1));
     let mut done = Vec::with_capacity(alloc, most)?;
     let (mut left, mut right) = (ranges.into_iter(), other_ranges.into_iter());
     let Some(mut range) = left.next() else {

@@ -116,9 +116,10 @@ first_part left piece back cut = by back cut
         (more : List (List ℕ)) × (slice_split (λ b. b == 44) left ≡ piece ∷ more)
     by [] cut = ([], last_part left piece (cut.whole ∙ append-nil piece) cut.clean)
     by (b ∷ following) cut =
-        let comma : b ≡ 44 = let e = cut.stops in grind (arith, nat_tests, e) in
-        (slice_split (λ b. b == 44) following,
-            comma_parts left piece (b ∷ following) following cut (ap (λ n. n ∷ following) comma))
+        let comma : b ≡ 44 = let e = cut.stops in grind (arith, nat_tests, e) in (
+          slice_split (λ b. b == 44) following,
+          comma_parts left piece (b ∷ following) following cut (ap (λ n. n ∷ following) comma),
+        )
 
 pub none_named_within : (x rest left piece back : List ℕ) (done : List (List ℕ)) →
     rest ≡ without_leading_blanks x → (length rest == 0) ≡ false → NamesSoFar x done left →
