@@ -60,21 +60,8 @@ fn keep_clause(alloc: Global, clause: &Clause, demands: &mut LineDemands) -> Res
     }
 }
 
-// Keeps what the clause demands that is in front of the text, and gives what stands behind it.
-fn take_whole<'a>(
-    alloc: Global,
-    text: &'a str,
-    demands: &mut LineDemands,
-) -> Result<&'a str, RequireFault>
-    ensures taken { IfOk result (λ rest. TakesFront text.now rest.now demands.old demands.new) }
-    ensures refused { IfErr result (λ e. (e ≡ RequireFault.NoMemory) ⊎ RefusesBound text.now e) }
-{
-    let (clause, rest) = Clause::at_front(alloc, text)?;
-    keep_clause(alloc, &clause, demands)?;
-    Ok(rest)
-}
-
-// The same of a clause that has no packed cuts, or may be none.
+// Keeps what the clause in front of the text demands, which has no packed cuts or may be none, and gives what stands
+// behind it.
 fn take_unplaced<'a>(
     alloc: Global,
     text: &'a str,
@@ -84,7 +71,9 @@ fn take_unplaced<'a>(
     ensures refused { IfErr result (λ e. (e ≡ RequireFault.NoMemory) ⊎ RefusesBound text.now e) }
 {
     let Some((run, rest)) = text_at(text) else {
-        return take_whole(alloc, text, demands);
+        let (clause, rest) = Clause::at_front(alloc, text)?;
+        keep_clause(alloc, &clause, demands)?;
+        return Ok(rest);
     };
     demands.put_text(run)?;
     Ok(rest)
@@ -131,7 +120,7 @@ impl ClauseMemory {
                 keep(demand, demands)?;
                 Ok(rest)
             }
-            None => take_whole(alloc, text, demands),
+            None => take_unplaced(alloc, text, demands),
         }
     }
 }
