@@ -199,7 +199,11 @@ impl<'a> Part<'a> {
 
 // What was taken before, and the text on a line, if the line isn't skipped.
 #[inline(always)]
-fn take_line<T: Taker>(taker: &mut T, taken: T::Taken, line: Part<'_>) -> Result<T::Taken, LineFault>
+fn take_line<T: Taker>(
+    taker: &mut T,
+    taken: T::Taken,
+    line: Part<'_>,
+) -> Result<T::Taken, LineFault>
     ensures same { taker.new ≡ taker.old }
     ensures ok { IfOk result (TakesLine (T.takes taker.old) (part_bytes line.entry) taken) }
     ensures refused { IfErr result (RefusesLineBytes (T.refuses taker.old) (part_bytes line.entry)) }

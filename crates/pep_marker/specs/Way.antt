@@ -1,5 +1,6 @@
 -- Definitions that say how the code goes. No promise rests on them.
 pub mod Chains
+pub mod Compared
 pub mod ComparedView
 pub mod HeaderLines
 pub mod MarkerTokens

@@ -25,7 +25,7 @@ ghost use Rattle.pep_marker.specs.Way.Token.{operand_of, token_of};
 ghost use Rattle.pep_marker.specs.View.{operator_parts};
 
 use crate::fault::MarkerFault;
-use crate::making::{Link, Making};
+use crate::making::{Comparison, Link, Making};
 use crate::marker::Operator;
 use crate::token::{Side, Token, tokens_of};
 use std::alloc::Global;
@@ -97,7 +97,14 @@ fn comparison<'t, 'a, M: Making>(
         return Err(MarkerFault::TooDeep);
     }
     Ok(Front {
-        part: making.compared(alloc, left, operator, right)?,
+        part: making.compared(
+            alloc,
+            Comparison {
+                left,
+                operator,
+                right,
+            },
+        )?,
         comparisons: 1,
         rest,
     })

@@ -19,7 +19,7 @@ ghost use Rattle.pep_marker.specs.View.{marker_parts, operand_parts, operator_pa
 use crate::compared_text::ComparedText;
 use crate::environment::{Environment, Variable};
 use crate::fault::MarkerFault;
-use crate::making::{Link, Making};
+use crate::making::{Comparison, Link, Making};
 use crate::marker::{Marker, Operand, Operator, Tree};
 use crate::token::Side;
 use crate::value::{Value, clause_of};
@@ -59,7 +59,15 @@ fn tree_truth(alloc: Global, environment: &Environment, tree: &Tree) -> Result<T
 {
     match tree {
         Tree::Comparison(left, operator, right) => {
-            environment.compared(alloc, left.side(), *operator, right.side())
+            let (left, right) = (left.side(), right.side());
+            environment.compared(
+                alloc,
+                Comparison {
+                    left,
+                    operator: *operator,
+                    right,
+                },
+            )
         }
         Tree::And(left, right) => {
             let left = tree_truth(alloc, environment, left)?;
@@ -95,19 +103,13 @@ impl Making for Environment {
     // Not part of the frame of a function that calls itself: of those of `tree_truth` there are as
     // many as comparisons in a chain.
     #[inline(never)]
-    fn compared(
-        &self,
-        alloc: Global,
-        left: Side<'_>,
-        operator: Operator,
-        right: Side<'_>,
-    ) -> Result<Truth, MarkerFault> {
-        let left_text = ComparedText::of(self, left);
-        let right_text = ComparedText::of(self, right);
-        if is_extra(left) || is_extra(right) {
-            return normal_truth(alloc, operator, left_text, right_text);
+    fn compared(&self, alloc: Global, it: Comparison<'_>) -> Result<Truth, MarkerFault> {
+        let left = ComparedText::of(self, it.left);
+        let right = ComparedText::of(self, it.right);
+        if is_extra(it.left) || is_extra(it.right) {
+            return normal_truth(alloc, it.operator, left, right);
         }
-        compared(alloc, operator, left_text, right_text)
+        compared(alloc, it.operator, left, right)
     }
 
     fn joined(

@@ -1,10 +1,8 @@
 // What is made of a marker while its tokens are read.
 
 ghost use Rattle.std.specs.Prelude.{◌≡◌, IfErr, IfOk};
-ghost use Rattle.pep_marker.specs.Marker as syntax;
 ghost use Rattle.pep_marker.specs.Way.Chains.{Joins};
-ghost use Rattle.pep_marker.specs.Way.Token.{operand_of};
-ghost use Rattle.pep_marker.specs.View.{operator_parts};
+ghost use Rattle.pep_marker.specs.Way.Compared.{compared_parts};
 
 use crate::fault::MarkerFault;
 use crate::marker::Operator;
@@ -16,6 +14,14 @@ use std::alloc::Global;
 pub(crate) enum Link {
     And,
     Or,
+}
+
+// A comparison as it is written.
+#[derive(Clone, Copy)]
+pub(crate) struct Comparison<'a> {
+    pub(crate) left: Side<'a>,
+    pub(crate) operator: Operator,
+    pub(crate) right: Side<'a>,
 }
 
 // Makes of a marker what it is read for: its tree, or its truth in an environment. The only fault is
@@ -30,15 +36,8 @@ pub(crate) trait Making {
     ghost means: { Self → Self.Part → MarkerParts → Type 0 };
 
     // What is made of a comparison.
-    fn compared(
-        &self,
-        alloc: Global,
-        left: Side<'_>,
-        operator: Operator,
-        right: Side<'_>,
-    ) -> Result<Self::Part, MarkerFault>
-        ensures made { IfOk result (λ p. means self.now p (syntax.compare (operand_of left.entry)
-            (operator_parts operator) (operand_of right.entry))) }
+    fn compared(&self, alloc: Global, it: Comparison<'_>) -> Result<Self::Part, MarkerFault>
+        ensures made { IfOk result (λ p. means self.now p (compared_parts it.entry)) }
         ensures faults { IfErr result (λ e. e ≡ MarkerFault.NoMemory) };
 
     // What is made of two markers under a link, of what is made of each.

@@ -29,7 +29,8 @@ pub record PrefixEndsShort (p : Prefix) : Type 0 where
   pub few : length p.release ≤ 4
   pub numbers : AreShortNumbers (raised_last p.release)
 
--- where the versions begin and end that an operator and a release speak of: past a release is no packed cut
+-- where the versions begin and end that an operator and a release speak of, as far as ranges of them are made here:
+-- none of `>`
 abbrev pub BeginsShort : Begin → List ℕ → Type 0
 BeginsShort begin.Least r = Unit {0}
 BeginsShort begin.Version r = IsShortVersion (release_alone r)

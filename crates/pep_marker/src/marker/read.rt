@@ -6,8 +6,8 @@ ghost use Rattle.pep_marker.specs.View.{operand_parts, tree_parts};
 
 use crate::chains::made_of;
 use crate::fault::MarkerFault;
-use crate::making::{Link, Making};
-use crate::marker::{Marker, Operand, Operator, Tree};
+use crate::making::{Comparison, Link, Making};
+use crate::marker::{Marker, Operand, Tree};
 use crate::token::Side;
 use std::alloc::{AllocError, Global};
 
@@ -41,16 +41,10 @@ impl Making for Trees {
 
     ghost means = { λ _ t m. tree_parts t ≡ m };
 
-    fn compared(
-        &self,
-        alloc: Global,
-        left: Side<'_>,
-        operator: Operator,
-        right: Side<'_>,
-    ) -> Result<Tree, MarkerFault> {
-        let left = operand(alloc, left)?;
-        let right = operand(alloc, right)?;
-        Ok(Tree::Comparison(left, operator, right))
+    fn compared(&self, alloc: Global, it: Comparison<'_>) -> Result<Tree, MarkerFault> {
+        let left = operand(alloc, it.left)?;
+        let right = operand(alloc, it.right)?;
+        Ok(Tree::Comparison(left, it.operator, right))
     }
 
     fn joined(
