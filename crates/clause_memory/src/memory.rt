@@ -10,7 +10,7 @@ use std::alloc::{AllocError, Global};
 use std::marker::Model;
 use text_memory::{OfText, TextMemory};
 
-// How many bytes a text may have that is remembered: so a slot has 64 bytes in all.
+// How many bytes a text may have that is remembered: so a slot has 64 bytes, beside its sum of four.
 const LONGEST: usize = 21;
 // How many texts are remembered at most, in 1 MiB of slots.
 const MOST: usize = 16_384;
@@ -25,7 +25,7 @@ pub(crate) struct Remembered {
     text: [u8; LONGEST],
 }
 
-// The bytes with zeros behind them, if they aren't too many.
+// The bytes and something behind them, if they aren't too many.
 fn kept_bytes(text: &[u8]) -> Option<[u8; LONGEST]>
     ensures { IfSome result (λ kept. take (length text.now) kept ≡ text.now) }
 {

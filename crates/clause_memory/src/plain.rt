@@ -79,7 +79,7 @@ fn operand_at(text: &[u8]) -> Operand<'_>
     }
 }
 
-// What the clause of this operator and release demands, where it has packed cuts.
+// What the clause of this operator and release demands, where its packed cuts are told at once.
 fn release_demand(operator: Op, release: &[u64], starred: bool) -> Option<PackedSet>
     ensures { IfSome result (MakesDemand operator release.now starred) }
 {
@@ -119,8 +119,9 @@ fn left_behind<'a>(text: &'a str, last: &[u8]) -> Option<&'a str>
 }
 
 /// What the clause demands that stands in front of the text, where its version is a release (PEP 440, "Final
-/// releases"), perhaps with `.*` behind it, and what stands behind it. No demand where the clause has no packed cuts,
-/// or may be none, so that its line goes the whole way; `None` where nothing is told of the text.
+/// releases"), perhaps with `.*` behind it, and what stands behind it. No demand where the clause's packed
+/// cuts, if it has some, are not told at once, as with `>`, or where it may be none: its line goes the whole way.
+/// `None` where nothing is told of the text.
 pub(crate) fn plain_demand(text: &str) -> Option<(Option<PackedSet>, &str)>
     ensures demand { IfSome result (λ found. IfSome found.0 (λ demand.
         DemandsFront text.now (ranges_in demand) found.1.now)) }

@@ -60,8 +60,7 @@ fn keep_clause(alloc: Global, clause: &Clause, demands: &mut LineDemands) -> Res
     }
 }
 
-// Keeps what the clause in front of the text demands, which has no packed cuts or may be none, and gives what stands
-// behind it.
+// Keeps what the clause in front of the text demands, of which no packed cuts were told, and gives what is behind it.
 fn take_unplaced<'a>(
     alloc: Global,
     text: &'a str,

@@ -1,4 +1,4 @@
-//! The one reader of a list's lines: what their texts are taken for is a taker's affair.
+//! The reader of a list's lines for all takers: what their texts are taken for is a taker's affair.
 
 ghost use Rattle.std.specs.Prelude.{
   ◌≡◌,
@@ -135,7 +135,7 @@ fn cut_text(text: &str, at: usize) -> (&str, &str)
     (front, behind)
 }
 
-// Bytes of a list: a text, where the piece in which they stand is known to be one, so that its encoding is checked once.
+// Bytes of a list: a text, where the piece in which they stand is one, so that its encoding is checked once.
 #[derive(Clone, Copy)]
 enum Part<'a> {
     Text(&'a str),

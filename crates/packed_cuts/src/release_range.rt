@@ -54,8 +54,8 @@ fn makes_clause(operator: Op, release: &[u64]) -> bool
 
 impl PackedRange {
     /// What the clause of this operator and this release of epoch 0, with nothing behind it, admits, or with `!=`
-    /// leaves out, between two packed cuts (PEP 440, "Version specifiers"). `None` for `>`, which begins past the
-    /// release; where the release is written with more than four numbers, or one is too large for a packed cut (see
+    /// leaves out, between two packed cuts (PEP 440, "Version specifiers"). `None` for `>`, of which no range is
+    /// made here; where the release is written with more than four numbers, or one is too large for a packed cut (see
     /// [`PackedCut`]), with [`End::Prefix`] also the last but one raised by one; for an empty release; and where they
     /// make no clause, with `===` or with fewer numbers than the operator wants (see [`Op::least_numbers`]).
     pub fn of_release(operator: Op, release: &[u64]) -> Option<PackedRange>

@@ -50,8 +50,8 @@ fn make_room(places: &Places, demands: &mut Vec<PackageDemands>) -> Result<(), A
     Ok(())
 }
 
-// The number of the name, by which what is demanded of it is kept: nothing, where the name is new. A name that may come
-// often is remembered.
+// The number of the name, by which what is demanded of it is kept: nothing, where the name is new. A short name that
+// may come often is remembered.
 #[inline(always)]
 fn place_of(
     alloc: Global,

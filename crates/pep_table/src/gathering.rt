@@ -59,7 +59,7 @@ impl Gathering {
     pub fn new(alloc: Global) -> Gathering
         ensures { result ≡ [] }
     {
-        // Memory is asked for when a name comes.
+        // Memory is asked for when something is demanded.
         let _ = alloc;
         Gathering { gathered: None }
     }
@@ -151,8 +151,8 @@ impl Gathering {
         })
     }
 
-    /// What is demanded so far and of one package by a line, whose sets are moved: it may be anything until it is
-    /// cleared. The only fault is `NoMemory`, 42.
+    /// What is demanded so far, and of one package by a line, whose sets are moved: the line may be anything until it
+    /// is cleared. The only fault is `NoMemory`, 42.
     pub fn take_line(
         self,
         alloc: Global,

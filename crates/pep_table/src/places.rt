@@ -16,7 +16,7 @@ use std::collections::{BTreeMap, btree_map};
 use std::marker::Model;
 use text_memory::{OfText, TextMemory};
 
-// How many names are remembered at most, in 1 MiB of slots.
+// How many names are remembered at most.
 const MOST: usize = 16_384;
 // How many bytes a name has at most that is remembered: a copy of it asks for no memory.
 const LONGEST: usize = 24;
@@ -106,7 +106,7 @@ impl Places {
         Ok(*entry.or_insert(next))
     }
 
-    /// The same of a name that may come often: it is remembered.
+    /// The same of a name that may come often: it is remembered, if it is short.
     #[inline(always)]
     pub(crate) fn place(&mut self, alloc: Global, name: Name) -> Result<usize, AllocError>
         ensures taken { IfOk result (TakesPlace self.old name self.new) }
@@ -119,7 +119,7 @@ impl Places {
         }
     }
 
-    // The same of a name that is not remembered. A call of its own, so that one that is needn't be moved.
+    // The same of a name that is not remembered. It is a call of its own: a remembered name isn't moved then.
     #[inline(never)]
     fn place_anew(&mut self, alloc: Global, name: Name) -> Result<usize, AllocError>
         ensures taken { IfOk result (TakesPlace self.old name self.new) }

@@ -1,5 +1,5 @@
 -- Which clauses whose version is a release alone have bounds of two packed cuts, by how the release is written: one of more than four
--- numbers, or with a number that is too large, is not looked at further, where its cut has a packed one too. Nothing else rests on that.
+-- numbers, or with a number that is too large, is not looked at further, nor is one behind `>`, where its cut has a packed one too. Nothing else rests on that.
 -- And which packed cuts are told (`HoldsRelease`, `HoldsPrefix`).
 use Rattle.std.specs.Prelude.{◌≡◌, ◌+◌, ◌<◌, ◌≤◌, ℕ, List, [], ◌∷◌, Some, None, Ok, IsOk, length}
 use Rattle.pep_version.specs.Order.{with_suffixes}

@@ -57,9 +57,9 @@ fn bounds_line(alloc: Global, text: &str) -> Result<String, ClauseFault> {
     }
 }
 
-// Clauses, and the cuts between which they admit versions, if they admit any. No packed cut is past a release, after a
-// label, in another epoch, written with five numbers, of a number over 25 bits or of a digit over 7.
-const BOUNDS: [(&str, &str); 46] = [
+// Clauses, and the cuts between which they admit versions, if they admit any. No packed cut is after a label, in
+// another epoch, written with five numbers, of a number over 25 bits or of a digit over 7.
+const BOUNDS: [(&str, &str); 49] = [
     (">=1.2.3", "before 1.2.3 to end"),
     (">=1.0", "before 1 to end"),
     ("<2", "before 0.dev0 to before 2.dev0"),
@@ -104,7 +104,10 @@ const BOUNDS: [(&str, &str); 46] = [
     (">=1!1.0", "none"),
     ("==1!1.*", "none"),
     ("==1.0+x", "none"),
-    (">1.0", "none"),
+    (">1.0", "past 1 to end"),
+    (">33554432", "none"),
+    (">1!1.0", "none"),
+    (">1.2.3.4.0", "none"),
     ("!=1.0", "not before 1 to before 1.post0.dev0"),
     ("!=1.0.*", "not before 1.dev0 to before 1.1.dev0"),
     ("!=1.0+x", "none"),
