@@ -107,25 +107,14 @@ impl Places {
     }
 
     /// The same of a name that may come often: it is remembered, if it is short.
-    #[inline(always)]
     pub(crate) fn place(&mut self, alloc: Global, name: Name) -> Result<usize, AllocError>
         ensures taken { IfOk result (TakesPlace self.old name self.new) }
         ensures count { AddsAtMostOne self.old self.new }
         ensures places { ArePlaces self.new }
     {
-        match self.known_place(&name) {
-            Some(place) => Ok(place),
-            None => self.place_anew(alloc, name),
+        if let Some(place) = self.known_place(&name) {
+            return Ok(place);
         }
-    }
-
-    // The same of a name that is not remembered. It is a call of its own: a remembered name isn't moved then.
-    #[inline(never)]
-    fn place_anew(&mut self, alloc: Global, name: Name) -> Result<usize, AllocError>
-        ensures taken { IfOk result (TakesPlace self.old name self.new) }
-        ensures count { AddsAtMostOne self.old self.new }
-        ensures places { ArePlaces self.new }
-    {
         let copy = short_copy(alloc, &name)?;
         let place = self.mapped_place(name)?;
         if let Some(name) = copy {
