@@ -38,8 +38,17 @@ class Judged(NamedTuple):
 
     def merged(self, pieces: Sequence[Piece]) -> Table:
         """Returns the table of inputs."""
-        lists, projects, tables = ([data for kind, data in pieces if kind == wanted] for wanted in (LIST, PROJECT, TABLE))
-        return merge(lists=lists, projects=projects, tables=tables, environment=self.environment, group=self.group, extras=self.extras)
+        of_kind: dict[int, list[bytes]] = {LIST: [], PROJECT: [], TABLE: []}
+        for kind, data in pieces:
+            of_kind[kind].append(data)
+        return merge(
+            lists=of_kind[LIST],
+            projects=of_kind[PROJECT],
+            tables=of_kind[TABLE],
+            environment=self.environment,
+            group=self.group,
+            extras=self.extras,
+        )
 
 
 def _read(it: Input) -> Piece:

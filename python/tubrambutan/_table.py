@@ -20,8 +20,8 @@ from ._texts import encoded, many_in, path_in, text_in
 from ._version import Version, text_of
 
 AnyVersion = TypeVar("AnyVersion", bound=Union[Version, str])
-# How many lines the header of a printed table has.
-_HEADER = 13
+# The last line of the header of a printed table begins so, behind the end of the line before it.
+_LAST_OF_HEADER = "\nenv extra="
 _OF_NAME = re.compile(r"(\S+) (open|none|conflict)")
 _ENTRY = re.compile(r"[^ \n].*\n(?: .*\n)*")
 # How many packages a table of HTML shows, and how many demands of each.
@@ -32,7 +32,8 @@ _FINAL, _NOTHING_ASKED, _PRE_RELEASE = 1, 2, 3
 
 def lines_of(text: str) -> str:
     """Returns a printed table without its header."""
-    return text.split("\n", _HEADER)[_HEADER]
+    end = text.index("\n", text.index(_LAST_OF_HEADER) + 1)
+    return text[end + 1 :]
 
 
 def _asked(name: str) -> str:

@@ -29,7 +29,7 @@ use Rattle.pep_marker.specs.Header.{header_value, here, named_line}
 use Rattle.pep_marker.specs.Way.HeaderLines.{named_lines}
 use Rattle.pep_marker.specs.Name.{begins_with_separator, normalized}
 use Rattle.pep_marker.proofs.NormalNames.{normalized-twice}
-use Rattle.pep_marker.proofs.VariableLemmas.{at_place}
+use Rattle.pep_marker.proofs.VariableLemmas.{at_place, by_places}
 
 -- ---- the lines of a header have no line feed
 
@@ -132,16 +132,6 @@ own_lines : (e : EnvironmentParts) (vs : List Variable) →
     named_lines vs (map (header_value e) vs) ≡ map (header_line e) vs
 own_lines e [] = refl
 own_lines e (v ∷ vs) = ap (λ ls. header_line e v ∷ ls) (own_lines e vs)
-
--- no line stands in front that a header may have of the first of them
-pub finds_bad : (e : EnvironmentParts) (v : Variable) (vs : List Variable) (text : List ℕ) →
-    ((x rest : List ℕ) → IsHeaderValue v x → ¬ (text ≡ line (named_line v x) ++ rest)) →
-    (xs : List (List ℕ)) (rest : List ℕ) → AllZip IsHeaderValue (v ∷ vs) xs →
-    ¬ (text ≡ written (named_lines (v ∷ vs) xs) ++ rest)
-finds_bad e v vs text none [] rest all same = all
-finds_bad e v vs text none (x ∷ xs) rest all same =
-    none x (written (named_lines vs xs) ++ rest) all.0
-    (same ∙ append_assoc (line (named_line v x)) (written (named_lines vs xs)) rest)
 
 module _ (e : EnvironmentParts) (is : IsEnvironment e) (v : Variable) (vs : List Variable)
     (text mid value : List ℕ) (fits : IsHeaderValue v value)
@@ -249,24 +239,26 @@ value_at xs all v = at_same IsHeaderValue variables xs all (place v) v (at_place
 of_values-is : (xs : List (List ℕ)) → AllZip IsHeaderValue variables xs → IsEnvironment (of_values xs)
 of_values-is xs all v = plain_value v (value_of (of_values xs) v) (value_at xs all v)
 
+value_length : (R : Variable → List ℕ → Type 0) (vs : List Variable) (xs : List (List ℕ)) → AllZip R vs xs →
+    length xs ≡ length vs
+value_length R [] [] all = refl
+value_length R [] (x ∷ xs) all = absurd all
+value_length R (v ∷ vs) [] all = absurd all
+value_length R (v ∷ vs) (x ∷ xs) all = ap suc (value_length R vs xs all.1)
+
+-- a header has these texts as they are
+as_given : (xs : List (List ℕ)) → AllZip IsHeaderValue variables xs → (v : Variable) →
+    value_of (of_values xs) v ≡ header_value (of_values xs) v
+as_given xs all Extra = sym (value_at xs all Extra).1
+as_given xs all _ = refl
+
 of_values-lines : (xs : List (List ℕ)) → AllZip IsHeaderValue variables xs →
     map (header_line (of_values xs)) variables ≡ named_lines variables xs
-of_values-lines (a ∷ b ∷ c ∷ d ∷ e ∷ f ∷ g ∷ h ∷ i ∷ j ∷ k ∷ l ∷ []) all =
-    let normal : normalized l ≡ l = (value_at (a ∷ b ∷ c ∷ d ∷ e ∷ f ∷ g ∷ h ∷ i ∷ j ∷ k ∷ l ∷ []) all Extra).1 in
-    rw normal refl
-of_values-lines [] all = absurd all
-of_values-lines (a ∷ []) all = absurd all.1
-of_values-lines (a ∷ b ∷ []) all = absurd all.1.1
-of_values-lines (a ∷ b ∷ c ∷ []) all = absurd all.1.1.1
-of_values-lines (a ∷ b ∷ c ∷ d ∷ []) all = absurd all.1.1.1.1
-of_values-lines (a ∷ b ∷ c ∷ d ∷ e ∷ []) all = absurd all.1.1.1.1.1
-of_values-lines (a ∷ b ∷ c ∷ d ∷ e ∷ f ∷ []) all = absurd all.1.1.1.1.1.1
-of_values-lines (a ∷ b ∷ c ∷ d ∷ e ∷ f ∷ g ∷ []) all = absurd all.1.1.1.1.1.1.1
-of_values-lines (a ∷ b ∷ c ∷ d ∷ e ∷ f ∷ g ∷ h ∷ []) all = absurd all.1.1.1.1.1.1.1.1
-of_values-lines (a ∷ b ∷ c ∷ d ∷ e ∷ f ∷ g ∷ h ∷ i ∷ []) all = absurd all.1.1.1.1.1.1.1.1.1
-of_values-lines (a ∷ b ∷ c ∷ d ∷ e ∷ f ∷ g ∷ h ∷ i ∷ j ∷ []) all = absurd all.1.1.1.1.1.1.1.1.1.1
-of_values-lines (a ∷ b ∷ c ∷ d ∷ e ∷ f ∷ g ∷ h ∷ i ∷ j ∷ k ∷ []) all = absurd all.1.1.1.1.1.1.1.1.1.1.1
-of_values-lines (a ∷ b ∷ c ∷ d ∷ e ∷ f ∷ g ∷ h ∷ i ∷ j ∷ k ∷ l ∷ m ∷ xs) all = absurd all.1.1.1.1.1.1.1.1.1.1.1.1
+of_values-lines xs all =
+    let each : xs ≡ map (header_value (of_values xs)) variables =
+    by_places xs [] (value_length IsHeaderValue variables xs all)
+    ∙ (λ i. map (λ v. as_given xs all v i) variables) in
+    sym (ap (named_lines variables) each ∙ own_lines (of_values xs) variables)
 
 -- ---- the header
 

@@ -11,8 +11,7 @@ use Rattle.texts.proofs.CutLists.{all_append}
 use Rattle.texts.proofs.RunLemmas.{prefix_len-span}
 use Rattle.pep_marker.specs.Way.PutLetters.{PutsLetters}
 use Rattle.std.proofs.Common.{◌≤◌, ◌+◌, suc, drop, map}
-use Rattle.std.proofs.Math.Seq.{take-suc}
-use Rattle.std.proofs.lemmas.List.{length-drop, length-take, map-append, take-append-drop}
+use Rattle.std.proofs.lemmas.List.{length-drop, length-take, take-append-drop}
 use Rattle.texts.proofs.RunLemmas.{all-run}
 use Rattle.pep_marker.specs.Name.{begins_with_separator, is_name, name_of, normalized}
 use Rattle.pep_marker.proofs.NormalNames.{after, after-normalized, is_nonempty, last_at, last_of, no_separator, normalized-run}
@@ -113,29 +112,6 @@ write_nothing text left rest written in_run b w here h going =
     (named_separator b h) (λ x. rw h refl) (λ e. absurd (cc e)))
 
 -- ---- letters and digits written in a row
-
-pub no_letters : (text old new : List ℕ) → new ≡ old → PutsLetters text old new 0
-no_letters text old new same = record { letters = refl; written = same ∙ sym (append-nil old) }
-
-pub one_letter : (text old new last : List ℕ) (n form : ℕ) → PutsLetters text old new n → n < length text →
-    is_letter_or_digit (get_or text n 0) ≡ true → form ≡ to_ascii_lowercase (get_or text n 0) →
-    last ≡ new ++ form ∷ [] → PutsLetters text old last (n + 1)
-one_letter text old new last n form p within letter lower is = record {
-  letters = ap (list_all is_letter_or_digit) more
-      ∙ all_append is_letter_or_digit (take n text) (b ∷ []) p.letters (and_from _ _ letter refl);
-  written = is
-      ∙ ap (λ c. new ++ c ∷ []) lower
-      ∙ ap (λ t. t ++ to_ascii_lowercase b ∷ []) p.written
-      ∙ append_assoc old (map to_ascii_lowercase (take n text)) (to_ascii_lowercase b ∷ [])
-      ∙ ap (λ t. old ++ t) (sym (map-append to_ascii_lowercase (take n text) (b ∷ [])))
-      ∙ ap (λ t. old ++ map to_ascii_lowercase t) (sym more);
-}
-  where
-    b : ℕ
-    b = get_or text n 0
-
-    more : take (n + 1) text ≡ take n text ++ b ∷ []
-    more = let next : n + 1 ≡ suc n = omega arith in ap (λ k. take k text) next ∙ take-suc text n 0 within
 
 letters_more : (text rest written run : List ℕ) (in_run : Bool) → IsWritten text (run ++ rest) written in_run →
     list_all is_letter_or_digit run ≡ true → 0 < length run →

@@ -1,7 +1,7 @@
 -- Lemmas on the slots from which an environment is made.
 use Rattle.std.proofs.Common.{◌≡◌, ◌≢◌, ℕ, ◌+◌, ◌<◌, Bool, true, false, List, [], ◌∷◌, ◌++◌}
 use Rattle.std.proofs.Common.{take, drop, length, get_or, set, refl, sym, ap, subst, ◌∙◌}
-use Rattle.std.proofs.Common.{drop-cons, add-one, ◌≤◌, arith}
+use Rattle.std.proofs.Common.{drop-cons, add-one, ◌≤◌}
 use Rattle.std.specs.Prelude.{Option, Some, None, find, bytes_eq, is_none, not, IsTrue, unwrap_or}
 use Rattle.std.specs.Prelude.{map, ◌&&◌}
 use Rattle.std.specs.Prelude.{if◌then◌else◌, nat_eq}
@@ -11,8 +11,7 @@ use Rattle.std.specs.Option.{option_map, option_or, is_some, IfSome}
 use Rattle.std.proofs.lemmas.Bool.{false_from_ne_true}
 use Rattle.std.proofs.lemmas.Bool.Decides.{Decides-eqb, not_from_Decides}
 use Rattle.std.proofs.lemmas.List.{drop_all, take_all, get_or-set_same, get_or-set_other}
-use Rattle.std.proofs.lemmas.List.{ext_get_or, length-map, map-append}
-use Rattle.std.proofs.lemmas.List.FromFn.{get_or-map-range_with_len}
+use Rattle.std.proofs.lemmas.List.{length-map, map-append}
 use Rattle.std.proofs.Math.ListN.{get_or-map}
 use Rattle.std.proofs.lemmas.List.Folds.{find-append}
 use Rattle.std.proofs.Math.Seq.{take-suc}
@@ -29,7 +28,7 @@ use Rattle.pep_marker.specs.Environment.{fault_after, is_given, is_value, missin
 use Rattle.pep_marker.specs.Environment.{is_required, pair_fault, place, variable_name}
 use Rattle.pep_marker.specs.Environment.{variable_of, variables}
 use Rattle.pep_marker.specs.Pairs.{pair_texts}
-use Rattle.pep_marker.proofs.VariableLemmas.{of_own_name, one_place, variable_of-name}
+use Rattle.pep_marker.proofs.VariableLemmas.{by_places, of_own_name, one_place, variable_of-name}
 use Rattle.pep_marker.specs.Way.Slots.{HoldsPairs, HoldsValues, Slots, slot, slot_fault, slot_texts}
 use Rattle.pep_marker.specs.Way.Slots.{variable_fault}
 
@@ -234,19 +233,12 @@ IsEnvironment-slots slots texts values is v =
     by None h = refl
     by (Some text) h = h
 
--- what stands at the place of each variable is a whole list of twelve
-by_places : {A : Type 0} (xs : List A) (d : A) → length xs ≡ 12 →
-    xs ≡ map (λ v. get_or xs (place v) d) variables
-by_places xs d twelve =
-    ext_get_or d xs (map (λ v. get_or xs (place v) d) variables) twelve
-    (λ i within. sym (get_or-map-range_with_len (λ n. get_or xs n d) 0 12 i i d (omega arith) (omega arith)))
-
-pub environment_of-slots : (slots : Slots) (pairs : List Pair) → length slots ≡ 12 →
+pub environment_of-slots : (slots : Slots) (pairs : List Pair) → length slots ≡ length variables →
     HoldsPairs slots pairs → slot_texts slots ≡ map (given pairs) variables
-environment_of-slots slots pairs twelve holds =
+environment_of-slots slots pairs all holds =
     let each : (v : Variable) → get_or (slot_texts slots) (place v) [] ≡ given pairs v =
     λ v. text_at slots v ∙ ap (λ o. unwrap_or o []) (holds v) in
-    by_places (slot_texts slots) [] (length-map slots _ ∙ twelve)
+    by_places (slot_texts slots) [] (length-map slots _ ∙ all)
     ∙ (λ i. map (λ v. each v i) variables)
 
 -- ---- the first that is missing

@@ -1,9 +1,11 @@
 -- Lemmas on the variables of markers, their places and their names.
 use Rattle.std.proofs.Common.{◌≡◌, ℕ, Bool, true, false, List, [], ◌∷◌}
-use Rattle.std.proofs.Common.{refl, sym, ap, ◌∙◌}
+use Rattle.std.proofs.Common.{arith, length, get_or, refl, sym, ap, ◌∙◌}
 use Rattle.std.specs.Prelude.{Some, find, bytes_eq}
 use Rattle.std.specs.Prelude.{map, slice_get}
 use Rattle.std.specs.Option.{option_map}
+use Rattle.std.proofs.lemmas.List.{ext_get_or}
+use Rattle.std.proofs.lemmas.List.FromFn.{get_or-map-range_with_len}
 use Rattle.std.proofs.lemmas.Option.{none-some, same_Some, slice_get-map}
 use Rattle.std.proofs.lemmas.Slice.Eq.{bytes_eq-Decides}
 use Rattle.pep_marker.specs.declared.environment.Variable.{Variable}
@@ -16,6 +18,14 @@ use Rattle.pep_marker.specs.Environment.{variable_of, variables}
 pub at_place : (v : Variable) → slice_get variables (place v) ≡ Some v
 at_place Extra = refl
 at_place _ = refl
+
+-- what stands at the place of each variable is the whole list
+pub by_places : {A : Type 0} (xs : List A) (d : A) → length xs ≡ length variables →
+    xs ≡ map (λ v. get_or xs (place v) d) variables
+by_places xs d all =
+    ext_get_or d xs (map (λ v. get_or xs (place v) d) variables) all
+    (λ i within. sym (get_or-map-range_with_len (λ n. get_or xs n d) 0 (length variables) i i d
+    (let n = length variables in omega (arith, all, within)) (omega arith)))
 
 pub one_place : (v w : Variable) → place v ≡ place w → v ≡ w
 one_place v w e =

@@ -1,7 +1,7 @@
 //! Variables of environment markers, and the texts that an environment gives them (PEP 508,
 //! "Environment Markers").
 
-ghost use Rattle.std.specs.Prelude.{◌≡◌, ◌⊎◌, ◌<◌, IfErr, IfOk, None, Some};
+ghost use Rattle.std.specs.Prelude.{◌≡◌, ◌⊎◌, ◌<◌, IfErr, IfOk, None, Some, length};
 ghost use Rattle.std.specs.Option.{option_map};
 ghost use Rattle.pep_marker.specs.Environment.{
   IsEnvironment,
@@ -13,6 +13,7 @@ ghost use Rattle.pep_marker.specs.Environment.{
   value_of,
   variable_name,
   variable_of,
+  variables,
 };
 ghost use Rattle.pep_marker.specs.Pairs.{pair_texts};
 ghost use Rattle.pep_marker.specs.Way.Slots.{HoldsValues, slot_texts};
@@ -41,8 +42,11 @@ pub enum Variable {
     Extra,
 }
 
+// How many variables there are.
+pub(crate) const VARIABLES: usize = 12;
+
 // Each variable with its name, at its place in the order of `Variable`.
-pub(crate) static NAMED: [(Variable, &str); 12] = [
+pub(crate) static NAMED: [(Variable, &str); VARIABLES] = [
     (Variable::OsName, "os_name"),
     (Variable::SysPlatform, "sys_platform"),
     (Variable::PlatformMachine, "platform_machine"),
@@ -88,7 +92,7 @@ impl Variable {
     // The place of the variable in the order of `Variable`.
     pub(crate) fn place(self) -> usize
         ensures place { result ≡ place self }
-        ensures within { result < 12 }
+        ensures within { result < length variables }
     {
         self as usize
     }
@@ -112,13 +116,13 @@ pub struct Environment {
 
 impl Model for Environment {
     ghost use Rattle.std.specs.Prelude.{◌≡◌, length};
-    ghost use Rattle.pep_marker.specs.Environment.{EnvironmentParts, IsEnvironment};
+    ghost use Rattle.pep_marker.specs.Environment.{EnvironmentParts, IsEnvironment, variables};
 
     ghost Value = { EnvironmentParts };
 
     ghost view = { λ e. record { texts = e.values.items } };
 
-    ghost invariant = { λ e. (length e.values.items ≡ 12)
+    ghost invariant = { λ e. (length e.values.items ≡ length variables)
         × IsEnvironment (record { texts = e.values.items }) };
 }
 
@@ -136,7 +140,7 @@ impl Environment {
         ensures faults { IfErr result (λ e. (pairs_fault (pair_texts pairs.now) ≡ Some e)
             ⊎ (e ≡ MarkerFault.NoMemory)) }
     {
-        let mut slots = [None; 12];
+        let mut slots = [None; VARIABLES];
         for (name, text) in pairs {
             let variable = free_variable(&slots, name, text)?;
             slots[variable.place()] = Some(*text);

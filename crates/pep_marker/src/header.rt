@@ -3,7 +3,7 @@
 ghost use Rattle.std.specs.Prelude.{◌≡◌, ◌++◌, ◌≤◌, ◌↔◌, IfErr, IfOk, IsTrue, MatchOption, OnOk, ℕ};
 ghost use Rattle.std.specs.Prelude.{List, codes, length, map, string_bytes, true};
 ghost use Rattle.texts.specs.Lines.{line, written};
-ghost use Rattle.pep_marker.specs.Environment.{IsEnvironment, is_value};
+ghost use Rattle.pep_marker.specs.Environment.{IsEnvironment, is_value, variables};
 ghost use Rattle.pep_marker.specs.Header.{FindsHeader, header, header_line, header_value, named_line};
 ghost use Rattle.pep_marker.specs.Way.HeaderLines.{FindsLines, IsHeaderValue, IsWithin, found_behind};
 
@@ -81,7 +81,7 @@ fn value_in<'a>(
 
 // What is found where a line stands in front of it, which is the one that is due or another.
 fn found_behind<'a>(is_due: bool, found: HeaderIn<'a>) -> HeaderIn<'a>
-    requires { IsWithin 12 found }
+    requires { IsWithin (length variables) found }
     ensures { result ≡ found_behind is_due found.entry }
 {
     match found {
@@ -170,7 +170,7 @@ impl Environment {
         named: &[(Variable, &str)],
         text: &'a str,
     ) -> Result<HeaderIn<'a>, MarkerFault>
-        requires { length named.now ≤ 12 }
+        requires { length named.now ≤ length variables }
         ensures found { IfOk result (FindsLines self.now (map (λ r. r.0) named.now) text.now) }
         ensures within { IfOk result (IsWithin (length named.now)) }
         ensures faults { IfErr result (λ e. e ≡ MarkerFault.NoMemory) }

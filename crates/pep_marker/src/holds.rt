@@ -100,8 +100,8 @@ impl Making for Environment {
 
     ghost means = { λ e t m. Evaluates e m t };
 
-    // Not part of the frame of a function that calls itself: of those of `tree_truth` there are as
-    // many as comparisons in a chain.
+    // Not inlined: `tree_truth` calls itself for each comparison of a chain, and all its frames would
+    // hold what is wanted here.
     #[inline(never)]
     fn compared(&self, alloc: Global, it: Comparison<'_>) -> Result<Truth, MarkerFault> {
         let left = ComparedText::of(self, it.left);

@@ -4,11 +4,11 @@ ghost use Rattle.std.specs.Prelude.{◌≡◌, ◌&&◌, None, Some, IfErr, IfOk
 ghost use Rattle.pep_marker.specs.Environment.{is_required, is_value, variable_of, variables};
 ghost use Rattle.pep_marker.specs.Way.Slots.{slot, slot_fault};
 
-use crate::environment::{NAMED, Variable};
+use crate::environment::{NAMED, VARIABLES, Variable};
 use crate::fault::MarkerFault;
 
 // What a variable is given stands at its place in the order of `Variable`.
-pub(crate) type Slots<'a> = [Option<&'a str>; 12];
+pub(crate) type Slots<'a> = [Option<&'a str>; VARIABLES];
 
 // Whether a text may be the value of a variable: it holds no control character of ASCII.
 pub(crate) fn is_value(text: &[u8]) -> bool

@@ -1,4 +1,4 @@
-// The tokens of a marker (PEP 508, "Grammar"), as slices of its text.
+// The tokens of a marker (PEP 508, "Grammar").
 
 ghost use Rattle.std.specs.Prelude.{◌≡◌, ◌≤◌, IfOk, IfErr, IsTrue, List, None, drop, false, length};
 ghost use Rattle.std.specs.Prelude.{map, option_map, IfSome, MatchOption};

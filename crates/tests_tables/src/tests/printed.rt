@@ -7,7 +7,7 @@ use pep_require::Requirement;
 use pep_table::{Join, Table, TableFault};
 use std::alloc::{AllocError, Global};
 use std::process::Abort;
-use tests_kit::{MACHINE_HEADER, Numbers, push_numbered, repeated};
+use tests_kit::{MACHINE, MACHINE_HEADER, Numbers, push_numbered, repeated};
 
 // A table with all kinds of lines and verdicts.
 const LINES: [&str; 11] = [
@@ -43,7 +43,8 @@ fn bad_line_behind_header(alloc: Global, text: &str) -> Result<usize, TableFault
     Ok(line.checked_sub(HEADER_LINES).unwrap_or(line))
 }
 
-const HEADER_LINES: usize = 13;
+// The form, the variables of the machine, and `extra`.
+const HEADER_LINES: usize = MACHINE.len() + 2;
 
 // The lines of what the table with this text has of a name.
 fn part(alloc: Global, text: &str, name: &str) -> Result<String, TableFault> {

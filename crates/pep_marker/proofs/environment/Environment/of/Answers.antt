@@ -37,11 +37,11 @@ loop-name-preserved c =
     let p = get_or pairs i no_pair in
     let right = c.in_ok-variable.ensures in
     let within : c.place.result < length slots =
-    omega (arith, c.loop-name.invariant.twelve, c.place.ensures.within) in
+    omega (arith, c.loop-name.invariant.all, c.place.ensures.within) in
     let at = c.place.ensures.place in
     let none = slot_fault-none slots (pair_text p) v right.variable right.free right.value in
     record {
-      twelve = search rules;
+      all = search rules;
       holds = rw (at, take-pair pairs i no_pair c.loop-name-test.true)
           (HoldsPairs-put slots taken (pair_text p) p.1 v c.loop-name.invariant.holds right.variable
           right.free (rw at at within) refl);
@@ -83,5 +83,5 @@ returns-clause-value c =
     (take_all c.loop-name.name-index pairs c.loop-name-test.false) c.loop-name.invariant.holds in
     let of : List (List ℕ) → EnvironmentParts = λ texts. record { texts = texts } in
     IfOk-weaker c.of_slots.result _ _ (λ e h. ap of (h
-    ∙ environment_of-slots c.loop-name.slots (pair_texts pairs) c.loop-name.invariant.twelve all))
+    ∙ environment_of-slots c.loop-name.slots (pair_texts pairs) c.loop-name.invariant.all all))
     c.of_slots.ensures.texts

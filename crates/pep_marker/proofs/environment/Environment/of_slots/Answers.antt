@@ -1,5 +1,6 @@
 use Rattle.std.proofs.Common.{◌≡◌, ◌∙◌, ap, length}
 use Rattle.std.proofs.lemmas.List.{length-map, take_all}
+use Rattle.pep_marker.specs.Environment.{variables}
 use Rattle.pep_marker.specs.Way.Slots.{slot_texts}
 use Rattle.pep_marker.proofs.SlotLemmas.{IsEnvironment-slots}
 use Rattle.pep_marker.proofs.environment.Environment.of_slots.Goals as goal
@@ -11,6 +12,6 @@ invariant_of-result c =
     let same : texts ≡ slot_texts slots =
     c.loop-slot.invariant
     ∙ ap slot_texts (take_all c.loop-slot.slot-index slots (rw c.told-slots c.loop-slot-test.false)) in
-    let counted : length texts ≡ 12 =
+    let counted : length texts ≡ length variables =
     ap length same ∙ length-map slots _ ∙ c.told-slots in
     (counted, IsEnvironment-slots slots _ c.requires same)
