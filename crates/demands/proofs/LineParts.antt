@@ -1,19 +1,21 @@
--- What a line demands, with one part more.
-use Rattle.std.proofs.Common.{◌≡◌, ℕ, List, [], ◌∷◌, ◌++◌, None, append-nil, refl, sym, ap, subst, ◌∙◌}
-use Rattle.std.specs.Prelude.{All, IsTrue}
+-- What a line or a requirement demands, with one part more.
+use Rattle.std.proofs.Common.{◌≡◌, ◌⊎◌, ℕ, List, [], ◌∷◌, ◌++◌, None, append-nil, inl, inr, refl, sym, ap, subst, ◌∙◌}
+use Rattle.std.specs.Prelude.{All, Contains, IsTrue}
 use Rattle.std.proofs.lemmas.List.Elements.{All-nil, All-push}
 use Rattle.specifiers.specs.Clause.{Clause, demanded, demanded_text, is_demanded_text}
 use Rattle.specifiers.specs.Valid.{IsValidClause}
 use Rattle.pep_clause.specs.VersionSet.{IsNormal, Range, all_versions}
 use Rattle.pep_marker.specs.Name.{IsNormalName}
-use Rattle.pep_require.specs.Requirement.{RequirementParts, UrlParts, bounds}
-use Rattle.pep_require.specs.Way.Sink.{more_clauses, with_clauses, with_target}
-use Rattle.demands.specs.Gathering.{MeetsClauses, target_clauses, target_urls, texts_of}
-use Rattle.demands.specs.Join.{IsIntersection, IsUnion}
+use Rattle.pep_clause.proofs.LeastCut.{IsNormal-all_versions}
+use Rattle.pep_require.specs.Requirement.{RequirementParts, TargetParts, UrlParts, bounds, direct}
+use Rattle.pep_require.specs.Way.Sink.{Adds, AddsTarget, more_clauses, targeted, with_clauses, with_named, with_target}
+use Rattle.pep_require.proofs.Ascending.{IsIn-from_Contains}
+use Rattle.demands.specs.Gathering.{MeetsClauses, TakesEntry, bare_entry, target_clauses, target_urls, texts_of}
+use Rattle.demands.specs.Join.{IsIntersection, IsUnion, JoinsEntries}
 use Rattle.demands.specs.Way.LineDemands.{AddsClause, AddsExtra, AddsUrl, DemandsEntry, DemandsRanges}
 use Rattle.demands.specs.Table.{EntryParts, is_url_text}
-use Rattle.demands.proofs.KeptSets.{union_more}
-use Rattle.demands.proofs.TakenClauses.{meets_more, meets_one, meets_text, text_of_none, texts_append, texts_more}
+use Rattle.demands.proofs.KeptSets.{union_more, union_none}
+use Rattle.demands.proofs.TakenClauses.{meets_joined, meets_more, meets_none, meets_one, meets_text, text_of_none, texts_append, texts_more}
 
 -- the URLs of clauses are none, whatever they are
 no_urls : (r : RequirementParts) (cs : List Clause) (old new : List (List ℕ)) → r.target ≡ bounds cs → new ≡ old →
@@ -120,4 +122,68 @@ url_added text old new valid e x t v u named r same h = record {
     versions = subst (λ l. MeetsClauses all_versions [] l) (sym v)
         (subst (λ s. MeetsClauses all_versions (target_clauses s) old.versions) same h.demands.versions);
   };
+}
+
+-- ---- a whole requirement
+
+-- where it has no extra and no target
+nothing_demanded : (r : RequirementParts) → r.extras ≡ [] → r.target ≡ bounds [] → DemandsEntry r bare_entry
+nothing_demanded r e t = record {
+  extras = subst (All IsNormalName) (sym e) (All-nil IsNormalName);
+  urls = subst (λ s. All (λ u. IsTrue (is_url_text u)) (target_urls s)) (sym t) (All-nil (λ u. IsTrue (is_url_text u)));
+  clauses = subst (λ s. All IsValidClause (target_clauses s)) (sym t) (All-nil IsValidClause);
+  demands = record {
+    extras = subst (λ l. IsUnion [] l []) (sym e) (union_none [] tt);
+    urls = subst (λ s. IsUnion [] (target_urls s) []) (sym t) (union_none [] tt);
+    texts = subst (λ s. IsUnion [] (texts_of (target_clauses s)) []) (sym t) (union_none [] tt);
+    versions = subst (λ s. MeetsClauses all_versions (target_clauses s) all_versions) (sym t)
+        (meets_none all_versions IsNormal-all_versions);
+  };
+}
+
+-- its extras, and then its target
+pub all_demanded : (r : RequirementParts) (nothing some all : EntryParts) → nothing ≡ bare_entry →
+    Adds (λ q. DemandsEntry q nothing) (λ q. DemandsEntry q some) (with_named r.extras) →
+    AddsTarget (λ q. DemandsEntry q some) (λ q. DemandsEntry q all) r.target → DemandsEntry r all
+all_demanded r nothing some all bare extras target = by r.target refl (target named refl (extras begun first))
+  where
+    begun : RequirementParts
+    begun = record { name = r.name; extras = []; target = bounds []; marker = r.marker }
+
+    named : RequirementParts
+    named = with_named r.extras begun
+
+    first : DemandsEntry begun nothing
+    first = subst (DemandsEntry begun) (sym bare) (nothing_demanded begun refl refl)
+
+    by : (t : TargetParts) → r.target ≡ t → DemandsEntry (targeted t named) all → DemandsEntry r all
+    by (bounds cs) e h = subst (λ t. DemandsEntry (with_target t named) all) (sym e) h
+    by (direct u) e h = subst (λ t. DemandsEntry (with_target t named) all) (sym e) h
+
+-- joined with what the texts alone make
+union_through : (xs ys zs us : List (List ℕ)) → IsUnion [] ys zs → IsUnion xs zs us → IsUnion xs ys us
+union_through xs ys zs us h g = record {
+  ascending = g.ascending;
+  members = λ x. (λ m. one x ((g.members x).0 m), λ m. (g.members x).1 (other x m));
+}
+  where
+    alone : (x : List ℕ) → Contains [] x ⊎ Contains ys x → Contains ys x
+    alone x (inl m) = absurd (IsIn-from_Contains [] x m)
+    alone x (inr m) = m
+
+    one : (x : List ℕ) → Contains xs x ⊎ Contains zs x → Contains xs x ⊎ Contains ys x
+    one x (inl m) = inl m
+    one x (inr m) = inr (alone x ((h.members x).0 m))
+
+    other : (x : List ℕ) → Contains xs x ⊎ Contains ys x → Contains xs x ⊎ Contains zs x
+    other x (inl m) = inl m
+    other x (inr m) = inr ((h.members x).1 (inr m))
+
+-- what is joined with what the requirement demands has taken it
+pub joined_taken : (a b e : EntryParts) (r : RequirementParts) → DemandsEntry r e → JoinsEntries a e b → TakesEntry a r b
+joined_taken a b e r d j = record {
+  extras = union_through a.extras r.extras e.extras b.extras d.demands.extras j.extras;
+  urls = union_through a.urls (target_urls r.target) e.urls b.urls d.demands.urls j.urls;
+  texts = union_through a.texts (texts_of (target_clauses r.target)) e.texts b.texts d.demands.texts j.texts;
+  versions = meets_joined a.versions e.versions b.versions (target_clauses r.target) d.demands.versions j.versions;
 }

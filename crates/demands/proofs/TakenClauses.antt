@@ -5,10 +5,11 @@ use Rattle.std.proofs.Math.Bool.{and_assoc}
 use Rattle.std.proofs.lemmas.List.Elements.{All-cons, All-nil, filter_map-append}
 use Rattle.std.proofs.lemmas.List.Folds.{list_all-append}
 use Rattle.std.specs.List.{All, AllByRecursion, list_all}
-use Rattle.std.specs.Borrow.{Bor}
-use Rattle.std.specs.Prelude.{IsTrue, false, is_some, option_map}
+use Rattle.std.specs.Prelude.{IsTrue}
 use Rattle.texts.proofs.Connectives.{and-true, and_given, and_given_second}
 use Rattle.specifiers.specs.Clause.{Clause, demanded_text, is_demanded_text, demanded}
+use Rattle.specifiers.specs.Clause.{at_least, at_most, compatible, excluding, excluding_prefix, greater_than}
+use Rattle.specifiers.specs.Clause.{less_than, matching, matching_prefix}
 use Rattle.pep_clause.specs.OperatorTable.{set_of}
 use Rattle.specifiers.specs.Valid.{IsValidClause}
 use Rattle.pep_clause.specs.VersionSet.{IsNormal, Range, all_versions, is_point}
@@ -90,12 +91,6 @@ meets_more a b d done more c h g e =
 
 -- ---- texts
 
--- a clause that answers no text
-pub no_text : (o : Option (Bor (List ℕ))) (c : Clause) → option_map (λ t. t.now) o ≡ demanded_text c →
-    is_some o ≡ false → demanded_text c ≡ None
-no_text None c e none = sym e
-no_text (Some t) c e none = cc none
-
 pub text_of_none : (c : Clause) → demanded_text c ≡ None → texts_of (c ∷ []) ≡ []
 text_of_none c e = rw e refl
 
@@ -109,6 +104,19 @@ pub texts_more : (xs us vs : List (List ℕ)) (done more : List Clause) (c : Cla
 texts_more xs us vs done more c h g e =
     subst (λ l. IsUnion xs l vs) (sym (texts_append done more c e))
     (union_more xs (texts_of done) (texts_of (c ∷ [])) us vs h g)
+
+-- a clause that demands this text
+pub demanded_is : (c : Clause) (t : List ℕ) → demanded_text c ≡ Some t → c ≡ demanded t
+demanded_is (demanded u) t e = let same : u ≡ t = cc e in ap demanded same
+demanded_is (compatible v) t e = cc e
+demanded_is (matching v) t e = cc e
+demanded_is (matching_prefix p) t e = cc e
+demanded_is (excluding v) t e = cc e
+demanded_is (excluding_prefix p) t e = cc e
+demanded_is (at_most v) t e = cc e
+demanded_is (at_least v) t e = cc e
+demanded_is (less_than v) t e = cc e
+demanded_is (greater_than v) t e = cc e
 
 -- the texts that clauses demand are such texts
 valid_one : (c : Clause) (t : List ℕ) → IsValidClause c → demanded_text c ≡ Some t →
@@ -133,9 +141,3 @@ valid_texts (c ∷ cs) h = by (demanded_text c) refl (valid_texts cs h.1)
 pub always : {A E Q : Type 0} (r : Result A E) → Q → OnOk r Q
 always (Ok a) h = h
 always (Err e) h = tt
-
--- nothing more is demanded of one kind
-pub nothing_more : (xs ys us : List (List ℕ)) → IsUnion us [] us → us ≡ xs → ys ≡ [] →
-    IsUnion xs ys us
-nothing_more xs ys us h same none =
-    subst (λ a. IsUnion a ys us) same (subst (λ l. IsUnion us l us) (sym none) h)

@@ -3,9 +3,6 @@
 ghost use Rattle.std.specs.Prelude.{
   ◌≡◌,
   ◌++◌,
-  ◌∷◌,
-  [],
-  All,
   IfOk,
   IsTrue,
   List,
@@ -14,13 +11,10 @@ ghost use Rattle.std.specs.Prelude.{
   map,
   option_map,
 };
-ghost use Rattle.specifiers.specs.Valid.{IsValidClause};
 ghost use Rattle.pep_clause.specs.Cut.{IsCut, end, least};
-ghost use Rattle.pep_clause.specs.OperatorTable.{outside, range, set_of};
+ghost use Rattle.pep_clause.specs.OperatorTable.{outside, range};
 ghost use Rattle.pep_clause.specs.Way.Joined.{joined};
 ghost use Rattle.pep_clause.specs.VersionSet.{IsNormal, Range, all_versions};
-ghost use Rattle.pep_require.specs.View.{target_parts};
-ghost use Rattle.demands.specs.Gathering.{MeetsClauses, target_clauses};
 ghost use Rattle.demands.specs.Join.{IsIntersection};
 ghost use Rattle.demands.specs.Way.KeptVersions.{AreNormalParts, beside_versions};
 ghost use Rattle.demands.specs.Way.LineSets.{left_by};
@@ -29,8 +23,7 @@ ghost use Rattle.demands.specs.Way.PartialJoins.{joined_sets};
 use crate::line_demands::LineDemands;
 use crate::partial_joins::{joined_of, joined_with, narrow};
 use packed_cuts::{LeftOut, PackedRange, PackedSet};
-use pep_clause::{Clause, Cut, PackedCut, VersionSet};
-use pep_require::Target;
+use pep_clause::{Cut, PackedCut, VersionSet};
 use std::alloc::{AllocError, Global};
 use std::marker::Model;
 
@@ -42,8 +35,8 @@ struct Beside {
     sets: Vec<VersionSet>,
 }
 
-/// The versions between two packed cuts, which move inwards clause by clause, that are kept beside them too: what `!=`
-/// leaves over, and the sets of clauses without packed cuts and of tables. Clauses see the ranges of all this.
+/// The versions between two packed cuts, which move inwards line by line. Beside them stands what `!=` leaves over, and
+/// the sets of clauses without packed cuts and of tables. Clauses see the ranges of the versions that are in all this.
 #[derive(Drop)]
 pub(crate) struct KeptVersions {
     low: PackedCut,
@@ -183,7 +176,7 @@ impl KeptVersions {
     {
         self.in_order();
         while let Some(versions) = sets.pop() {
-            self.meet(alloc, versions)?;
+            self.meet_beside(alloc, versions)?;
         }
         Ok(())
     }
@@ -222,43 +215,6 @@ impl KeptVersions {
         };
         self.beside = Some(beside);
         Ok(())
-    }
-
-    // Keeps the versions that the clause admits. A clause that demands a text admits all of them here.
-    fn meet_clause(&mut self, alloc: Global, clause: &Clause) -> Result<(), AllocError>
-        ensures ok { OnOk result (MeetsClauses self.old (clause.now ∷ []) self.new) }
-        ensures valid { IsValidClause clause.now }
-    {
-        // Its clause tells that the clause is valid.
-        let _ = clause.op();
-        let admitted = VersionSet::of(alloc, clause).map_err(|_| AllocError)?;
-        self.meet(alloc, admitted)
-    }
-
-    // Keeps the versions that all clauses admit.
-    fn meet_clauses(&mut self, alloc: Global, clauses: &[Clause]) -> Result<(), AllocError>
-        ensures ok { OnOk result (MeetsClauses self.old clauses.now self.new) }
-        ensures valid { OnOk result (All IsValidClause clauses.now) }
-    {
-        self.in_order();
-        for clause in clauses {
-            self.meet_clause(alloc, clause)?;
-        }
-        Ok(())
-    }
-
-    /// Keeps the versions that the target admits.
-    pub(crate) fn meet_target(&mut self, alloc: Global, target: &Target) -> Result<(), AllocError>
-        ensures ok { OnOk result (MeetsClauses self.old
-            (target_clauses (target_parts target.now)) self.new) }
-        ensures valid { OnOk result
-            (All IsValidClause (target_clauses (target_parts target.now))) }
-    {
-        self.in_order();
-        match target {
-            Target::Bounds(clauses) => self.meet_clauses(alloc, clauses.as_slice()),
-            Target::Direct(_) => Ok(()),
-        }
     }
 
     /// The set of the versions. Where there are packed cuts alone, nothing is allocated.

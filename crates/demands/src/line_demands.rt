@@ -1,24 +1,27 @@
 //! What one line demands of its package.
 
-ghost use Rattle.std.specs.Prelude.{◌≡◌, [], IsTrue, OnOk};
+ghost use Rattle.std.specs.Prelude.{◌≡◌, [], IfOk, IsTrue, OnOk};
 ghost use Rattle.specifiers.specs.Clause.{Clause, demanded, is_demanded_text};
 ghost use Rattle.pep_clause.specs.Cut.{end, least};
 ghost use Rattle.pep_clause.specs.OperatorTable.{outside, range};
 ghost use Rattle.pep_clause.specs.VersionSet.{IsNormal};
 ghost use Rattle.pep_require.specs.Requirement.{UrlParts};
+ghost use Rattle.pep_require.specs.View.{requirement_parts, target_parts};
+ghost use Rattle.pep_require.specs.Way.Sink.{Adds, AddsClauses, AddsTarget, with_named};
 ghost use Rattle.demands.specs.Gathering.{bare_entry};
-ghost use Rattle.demands.specs.Way.LineDemands.{AddsClause, AddsExtra, AddsUrl, DemandsRanges};
+ghost use Rattle.demands.specs.Way.LineDemands.{AddsClause, AddsExtra, AddsUrl, DemandsEntry, DemandsRanges};
 ghost use Rattle.demands.specs.Table.{IsValidEntry, is_url_text};
 
 use crate::others::Others;
 use packed_cuts::{PackedRange, PackedSet};
-use pep_clause::{PackedCut, VersionSet};
+use pep_clause::{Clause, PackedCut, VersionSet};
 use pep_marker::Name;
+use pep_require::{Requirement, Target};
 use std::alloc::{AllocError, Global};
 use std::marker::Model;
 
-/// What the parts of one line so far demand of its package. It serves again for the next line, so that most lines
-/// allocate nothing. Clauses see the entry of it.
+/// What the parts of one line so far demand of its package: extras, and clauses or a URL. It serves again for the next
+/// line, so that most lines allocate nothing. Contracts see the entry of it.
 ///
 /// A call that is refused leaves something that may stand in a table, and may have taken the part or not. So the line
 /// is cleared before it is used again.
@@ -145,6 +148,64 @@ impl LineDemands {
         let _ = versions.ranges();
         self.sets.push(versions)?;
         Ok(())
+    }
+
+    /// A clause is demanded: the versions that it admits, or the text of `===`.
+    pub fn put_clause(&mut self, alloc: Global, clause: &Clause) -> Result<(), AllocError>
+        ensures { OnOk result (AddsClause clause.now self.old self.new) }
+    {
+        // Its clause tells that the clause is valid.
+        let _ = clause.op();
+        if let Some(text) = clause.exact_text() {
+            return self.put_text(text);
+        }
+        match VersionSet::of(alloc, clause) {
+            Ok(versions) => self.admit(versions),
+            Err(_) => Err(AllocError),
+        }
+    }
+
+    // .. and several clauses.
+    fn put_clauses(&mut self, alloc: Global, clauses: &[Clause]) -> Result<(), AllocError>
+        ensures { OnOk result (AddsClauses (λ r. DemandsEntry r self.old) (λ r. DemandsEntry r self.new)
+            clauses.now) }
+    {
+        for clause in clauses {
+            self.put_clause(alloc, clause)?;
+        }
+        Ok(())
+    }
+
+    // The clauses or the URL of a requirement are demanded.
+    fn put_target(&mut self, alloc: Global, target: &Target) -> Result<(), AllocError>
+        ensures { OnOk result (AddsTarget (λ r. DemandsEntry r self.old) (λ r. DemandsEntry r self.new)
+            (target_parts target.now)) }
+    {
+        match target {
+            Target::Bounds(clauses) => self.put_clauses(alloc, clauses.as_slice()),
+            Target::Direct(url) => self.put_url(url.text()),
+        }
+    }
+
+    // Each of the extras is demanded.
+    fn put_extras(&mut self, names: &[Name]) -> Result<(), AllocError>
+        ensures { OnOk result (Adds (λ r. DemandsEntry r self.old) (λ r. DemandsEntry r self.new)
+            (with_named names.now)) }
+    {
+        for name in names {
+            self.put_extra(name)?;
+        }
+        Ok(())
+    }
+
+    /// What a requirement demands, whatever its name and its marker.
+    pub fn of(alloc: Global, requirement: &Requirement) -> Result<LineDemands, AllocError>
+        ensures { IfOk result (λ d. DemandsEntry (requirement_parts requirement.now) d) }
+    {
+        let mut demands = LineDemands::new(alloc);
+        demands.put_extras(requirement.extras())?;
+        demands.put_target(alloc, requirement.target())?;
+        Ok(demands)
     }
 
     /// An extra is demanded (PEP 508, "Extras").

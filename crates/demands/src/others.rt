@@ -1,26 +1,18 @@
-// What requirements demand of a package besides its versions.
+// What is demanded of a package besides its versions.
 
-ghost use Rattle.std.specs.Prelude.{◌≡◌, ◌∷◌, [], All, IfOk, IsTrue, OnErr, OnOk, false};
+ghost use Rattle.std.specs.Prelude.{◌≡◌, ◌∷◌, [], IfOk, IsTrue, OnErr, OnOk};
 ghost use Rattle.pep_require.specs.Requirement.{IsAscending};
-ghost use Rattle.pep_require.specs.View.{requirement_parts, target_parts};
-ghost use Rattle.demands.specs.Gathering.{bare_entry, target_clauses, target_urls, texts_of};
+ghost use Rattle.demands.specs.Gathering.{bare_entry};
 ghost use Rattle.demands.specs.Join.{IsUnion};
 ghost use Rattle.demands.specs.Way.Judged.{TellsTexts};
-ghost use Rattle.demands.specs.Way.Others.{
-  JoinsOthers,
-  TakesOthers,
-  DemandsNothingElse,
-  entry_with,
-  no_others,
-};
-ghost use Rattle.demands.specs.Table.{IsValidEntry, is_url_text};
+ghost use Rattle.demands.specs.Way.Others.{JoinsOthers, entry_with, no_others};
+ghost use Rattle.demands.specs.Table.{IsValidEntry};
 
 use crate::collected::Collected;
 use crate::entry::Entry;
 use crate::sorted::Sorted;
 use crate::verdict::TextDemand;
-use pep_clause::{Clause, VersionSet};
-use pep_require::{Requirement, Target, UrlText};
+use pep_clause::VersionSet;
 use std::alloc::{AllocError, Global};
 use std::marker::Model;
 use texts::Arena;
@@ -44,61 +36,6 @@ impl Model for Others {
       urls = o.urls;
       texts = o.texts;
     } };
-}
-
-// Takes the text that a clause demands, where it demands one.
-fn take_text(texts: &mut Collected, clause: &Clause) -> Result<(), AllocError>
-    ensures texts { OnOk result (IsUnion texts.old (texts_of (clause.now ∷ [])) texts.new) }
-{
-    texts.in_order();
-    match clause.exact_text() {
-        Some(text) => texts.put(text),
-        None => Ok(()),
-    }
-}
-
-// Takes the texts that clauses demand.
-fn take_texts(texts: &mut Collected, clauses: &[Clause]) -> Result<(), AllocError>
-    ensures texts { OnOk result (IsUnion texts.old (texts_of clauses.now) texts.new) }
-{
-    texts.in_order();
-    for clause in clauses {
-        take_text(texts, clause)?;
-    }
-    Ok(())
-}
-
-// Takes the text of a URL.
-fn take_url(urls: &mut Collected, url: &UrlText) -> Result<(), AllocError>
-    ensures urls { OnOk result (IsUnion urls.old (url.now.text ∷ []) urls.new) }
-    ensures valid { IsTrue (is_url_text url.now.text) }
-{
-    urls.put(url.text())
-}
-
-// Whether one of the clauses demands a text.
-fn demands_text(clauses: &[Clause]) -> bool
-    ensures { result ≡ false → texts_of clauses.now ≡ [] }
-{
-    for clause in clauses {
-        if clause.exact_text().is_some() {
-            return true;
-        }
-    }
-    false
-}
-
-/// Whether the requirement may demand more than versions.
-pub(crate) fn demands_others(requirement: &Requirement) -> bool
-    ensures { result ≡ false → DemandsNothingElse (requirement_parts requirement.now) }
-{
-    if !requirement.extras().is_empty() {
-        return true;
-    }
-    match requirement.target() {
-        Target::Bounds(clauses) => demands_text(clauses.as_slice()),
-        Target::Direct(_) => true,
-    }
 }
 
 impl Others {
@@ -185,33 +122,6 @@ impl Others {
         self.extras.in_order();
         self.urls.in_order();
         self.texts.in_order();
-    }
-
-    // Takes the URL or the texts that a target demands.
-    fn take_target(&mut self, target: &Target) -> Result<(), AllocError>
-        ensures extras { OnOk result (self.new.extras ≡ self.old.extras) }
-        ensures urls { OnOk result (IsUnion self.old.urls (target_urls (target_parts target.now))
-            self.new.urls) }
-        ensures texts { OnOk result (IsUnion self.old.texts
-            (texts_of (target_clauses (target_parts target.now))) self.new.texts) }
-        ensures valid { OnOk result (All (λ u. IsTrue (is_url_text u))
-            (target_urls (target_parts target.now))) }
-    {
-        self.urls.in_order();
-        self.texts.in_order();
-        match target {
-            Target::Bounds(clauses) => take_texts(&mut self.texts, clauses.as_slice()),
-            Target::Direct(url) => take_url(&mut self.urls, url),
-        }
-    }
-
-    /// Takes what a requirement demands.
-    pub(crate) fn take(&mut self, requirement: &Requirement) -> Result<(), AllocError>
-        ensures taken { OnOk result (TakesOthers self.old (requirement_parts requirement.now)
-            self.new) }
-    {
-        self.extras.put_all(requirement.extras())?;
-        self.take_target(requirement.target())
     }
 
     /// Takes what an entry demands.

@@ -4,7 +4,7 @@ ghost use Rattle.std.specs.Prelude.{◌≡◌, [], IfErr, IfOk, IsOk, OnOk, leng
 ghost use Rattle.pep_require.specs.View.{requirement_parts};
 ghost use Rattle.demands.specs.Gathering.{HasValidParts, TakesEntry, bare_entry};
 ghost use Rattle.demands.specs.Join.{JoinsEntries};
-ghost use Rattle.demands.specs.Way.Others.{JoinsOthers, TakesOthers, kept_others};
+ghost use Rattle.demands.specs.Way.Others.{JoinsOthers, kept_others};
 ghost use Rattle.demands.specs.Way.Judged.{TellsTexts};
 ghost use Rattle.demands.specs.Way.Finished.{other_parts, ranges_entry};
 ghost use Rattle.demands.specs.Table.{EntryDemands, IsValidEntry};
@@ -14,7 +14,7 @@ use crate::entry::Entry;
 use crate::fault::TableFault;
 use crate::kept_versions::KeptVersions;
 use crate::line_demands::LineDemands;
-use crate::others::{OtherTexts, Others, demands_others};
+use crate::others::{OtherTexts, Others};
 use crate::sorted::Sorted;
 use crate::verdict::{TextDemand, Verdict, verdict_of};
 use pep_clause::VersionSet;
@@ -38,25 +38,6 @@ impl Model for PackageDemands {
     ghost Value = { EntryParts };
 
     ghost view = { λ g. entry_with (kept_others (option_map (λ b. b.value) g.others)) g.versions };
-}
-
-// Takes what a requirement demands besides versions.
-fn take_others(
-    alloc: Global,
-    others: &mut Option<Box<Others>>,
-    requirement: &Requirement,
-) -> Result<(), AllocError>
-    ensures { OnOk result (TakesOthers (kept_others (option_map (λ b. b.value) others.old))
-        (requirement_parts requirement.now) (kept_others (option_map (λ b. b.value) others.new))) }
-{
-    let mut kept = match others.take() {
-        Some(kept) => kept,
-        None if demands_others(requirement) => Box::new(alloc, Others::new(alloc))?,
-        None => return Ok(()),
-    };
-    kept.take(requirement)?;
-    *others = Some(kept);
-    Ok(())
 }
 
 // Takes what an entry demands besides versions.
@@ -162,9 +143,8 @@ impl PackageDemands {
     {
         // Its clause tells that the name is in its normalized form.
         let _ = requirement.name().text();
-        take_others(alloc, &mut self.others, requirement)?;
-        self.versions.meet_target(alloc, requirement.target())?;
-        Ok(())
+        let mut line = LineDemands::of(alloc, requirement)?;
+        self.take_line(alloc, &mut line)
     }
 
     /// Takes what an entry demands, whose ranges are moved. The only fault is `NoMemory`, 42; what

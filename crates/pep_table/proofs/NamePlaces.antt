@@ -136,9 +136,6 @@ module _ (old new : PlaceParts) (n : List ℕ) (i : ℕ) (taken : TakesPlace old
           ap (λ o. length new + unwrap_or (option_map (λ _. 1) o) 0) (sym absent) ∙ count in
           record { least = omega arith; most = omega arith }
 
-pub adds_none : (ps : PlaceParts) → AddsAtMostOne ps ps
-adds_none ps = record { least = omega arith; most = omega arith }
-
 -- ---- numbers that are taken one by one
 
 others_apart : (all rest : PlaceParts) (p : List ℕ × ℕ) → ArePlaces all → place_at all p.0 ≡ Some p.1 →

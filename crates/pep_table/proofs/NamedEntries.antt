@@ -10,13 +10,13 @@ use Rattle.std.proofs.lemmas.List.Elements.{All-cons, All-contains, All-contains
 use Rattle.std.proofs.lemmas.Map.Text.{is_eq-slice_cmp}
 use Rattle.std.proofs.lemmas.Slice.Eq.{bytes_eq-Decides}
 use Rattle.pep_marker.specs.Name.{IsNormalName, name_cmp}
-use Rattle.pep_require.specs.Requirement.{IsAscending, RequirementParts}
+use Rattle.pep_require.specs.Requirement.{IsAscending}
 use Rattle.pep_require.proofs.Ascending.{Contains-from_IsIn, IsIn-from_Contains, rest_ascends}
 use Rattle.demands.specs.EntryLaws.{IsJoin-JoinsEntries}
-use Rattle.demands.specs.Gathering.{HasValidParts, TakesEntry, TakesRequirement, bare_entry}
+use Rattle.demands.specs.Gathering.{bare_entry}
 use Rattle.demands.specs.Join.{JoinsAt, JoinsEntries, JoinsTables}
 use Rattle.pep_table.specs.NamedEntry.{entry_alone}
-use Rattle.pep_table.specs.OneText.{entry_first, entry_other, entry_there, eq_false, eq_true}
+use Rattle.pep_table.specs.OneText.{entry_first, entry_other, entry_there}
 use Rattle.pep_table.specs.OneText.{first_apart, name_there, valid_at}
 use Rattle.demands.specs.JoinLaws.{IsJoin-IsUnion}
 use Rattle.demands.specs.Table.{EntryParts, IsValidEntry, IsValidTable, TableParts, entry_at}
@@ -123,22 +123,6 @@ alone_other n None name other = refl
 alone_other n (Some e) name other = entry_other (n, e) [] name (λ same. other (sym same))
 
 -- ---- what a change is
-
-pub changed_takes : (old new : TableParts) (r : RequirementParts) (w : EntryParts) →
-    HasValidParts r → IsValidTable new → ((q : List ℕ) → entry_at new q ≡ changed old r.name w q) →
-    TakesEntry (unwrap_or (entry_at old r.name) bare_entry) r w → TakesRequirement old r new
-changed_takes old new r w parts valid is takes = record {
-  parts = parts;
-  valid = valid;
-  others = λ q other. is q ∙ at_other q (eq_false r.name q (λ e. other (sym e)));
-  own = (w, is r.name ∙ at_own (eq_true r.name r.name refl), takes);
-}
-  where
-    at_other : (q : List ℕ) → bytes_eq r.name q ≡ false → changed old r.name w q ≡ entry_at old q
-    at_other q e = rw e refl
-
-    at_own : bytes_eq r.name r.name ≡ true → changed old r.name w r.name ≡ Some w
-    at_own e = rw e refl
 
 bare_joined : (e w : EntryParts) → IsValidEntry e → IsValidEntry w → JoinsEntries bare_entry e w →
     w ≡ e

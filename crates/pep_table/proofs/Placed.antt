@@ -13,16 +13,16 @@ use Rattle.std.proofs.lemmas.List.{map-id}
 use Rattle.std.proofs.lemmas.Map.Made.{keys_of-map_values, lookup-map_values}
 use Rattle.std.proofs.lemmas.Slice.Eq.{bytes_eq-Decides}
 use Rattle.pep_marker.specs.Name.{IsNormalName, name_cmp}
-use Rattle.pep_require.specs.Requirement.{IsAscending, RequirementParts}
-use Rattle.demands.specs.Gathering.{HasValidParts, TakesEntry, TakesRequirement, bare_entry}
+use Rattle.pep_require.specs.Requirement.{IsAscending}
+use Rattle.demands.specs.Gathering.{bare_entry}
 use Rattle.demands.specs.Join.{JoinsEntries, JoinsTables}
 use Rattle.demands.specs.Table.{EntryParts, IsValidEntry, IsValidTable, TableParts, entry_at, names}
 use Rattle.demands.proofs.KeptSets.{ascending_map}
-use Rattle.demands.proofs.ValidEntries.{bare_valid, joined_valid, taken_valid}
+use Rattle.demands.proofs.ValidEntries.{bare_valid, joined_valid}
 use Rattle.pep_table.specs.OneText.{eq_true, valid_at}
 use Rattle.pep_table.specs.Way.Gathered.{AddsAtMostOne, AreApart, ArePlaces, HasRoom, OpensPlace, PlaceParts, TakesPlace, demands_at}
 use Rattle.pep_table.specs.Way.Gathered.{place_at, table_of}
-use Rattle.pep_table.proofs.NamedEntries.{changed, changed_joins, changed_takes, changed_valid, entry_at-map}
+use Rattle.pep_table.proofs.NamedEntries.{changed, changed_joins, changed_valid, entry_at-map}
 
 -- ---- the table
 
@@ -123,13 +123,6 @@ place_opened old new given ds n r room more same are count taken =
     (λ i takes. subst (λ (t : TableParts). OpensPlace t n new ds i) same
     (opened old new ds n i room more are count takes)) taken
 
-pub room_kept : (old new : PlaceParts) (ds : List EntryParts) → HasRoom old ds → length old < length ds →
-    AddsAtMostOne old new → HasRoom new ds
-room_kept old new ds room more count = record {
-  enough = let most = count.most in omega arith;
-  bare = λ i above. let least = count.least in room.bare i (omega arith);
-}
-
 pub room_written : (ps : PlaceParts) (ds : List EntryParts) (n : List ℕ) (i : ℕ) (w : EntryParts) → HasRoom ps ds →
     ArePlaces ps → place_at ps n ≡ Some i → HasRoom ps (set ds i w)
 room_written ps ds n i w room are own = record {
@@ -179,24 +172,6 @@ placed_joins old ps ds n i e w x d t same v normal ev are opened_t found joined 
     let valid = changed_valid old (table_of ps (set ds i w)) n w v normal wv (names_ascend ps (set ds i w) are.ordered)
     is in
     changed_joins old (table_of ps (set ds i w)) n e w valid ev wv is own
-
-pub placed_takes : (old : TableParts) (ps : PlaceParts) (ds : List EntryParts) (n : List ℕ) (i : ℕ)
-    (r : RequirementParts) (w x d : EntryParts) (t : TableParts) → t ≡ old → n ≡ r.name → IsValidTable old →
-    HasValidParts r → ArePlaces ps → OpensPlace t n ps ds i → x ≡ get_or ds i d → TakesEntry x r w →
-    TakesRequirement old r (table_of ps (set ds i w))
-placed_takes old ps ds n i r w x d t one same v h are opened_t found taken =
-    let opens = subst (λ (s : TableParts). OpensPlace s n ps ds i) one opened_t in
-    let takes = subst (λ a. TakesEntry a r w) (sym (read ds i x d opens.within found)) taken in
-    let is : (q : List ℕ) → entry_at (table_of ps (set ds i w)) q ≡ changed old r.name w q =
-    λ q. changes old ps ds n i w are opens q ∙ (λ k. changed old (same k) w q) in
-    let own : TakesEntry (unwrap_or (entry_at old r.name) bare_entry) r w =
-    subst (λ m. TakesEntry (unwrap_or (entry_at old m) bare_entry) r w) same
-    (subst (λ a. TakesEntry a r w) opens.kept takes) in
-    let wv = taken_valid (unwrap_or (entry_at old r.name) bare_entry) w r
-    (found_valid old r.name (entry_at old r.name) v refl) h own in
-    let valid = changed_valid old (table_of ps (set ds i w)) r.name w v h.name wv
-    (names_ascend ps (set ds i w) are.ordered) is in
-    changed_takes old (table_of ps (set ds i w)) r w h valid is own
 
 -- ---- what is taken name by name
 

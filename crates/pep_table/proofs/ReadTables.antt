@@ -1,11 +1,11 @@
 -- The entries of a table's text, read one by one.
 use Rattle.std.proofs.Common.{◌≡◌, ◌⊎◌, ℕ, true, List, [], ◌∷◌, ◌++◌, codes, inl, inr}
-use Rattle.std.proofs.Common.{refl, sym, ap, subst, ◌∙◌, append_assoc, append-nil, arith, length, map, ◌<◌, ◌≤◌, ◌+◌}
+use Rattle.std.proofs.Common.{refl, sym, ap, subst, ◌∙◌, append_assoc, append-nil, arith, length, map}
 use Rattle.std.proofs.Common.{Option, Some, None}
 use Rattle.std.specs.Prelude.{All}
 use Rattle.std.specs.List.{list_all}
 use Rattle.std.proofs.lemmas.Bool.Decides.{nat_tests}
-use Rattle.std.proofs.lemmas.List.{length-append, map-append}
+use Rattle.std.proofs.lemmas.List.{map-append}
 use Rattle.std.proofs.lemmas.List.Elements.{All-head, All-nil, All-push, All-tail}
 use Rattle.texts.proofs.Connectives.{and_first}
 use Rattle.pep_marker.specs.Name.{IsNormalName}
@@ -21,7 +21,7 @@ use Rattle.demands.specs.declared.verdict.Verdict.{Verdict}
 use Rattle.pep_table.specs.Way.EntryReading.{BeginsSpace, FollowsAlike, HasHead, HasNext, HasNoHead}
 use Rattle.pep_table.specs.Way.EntryReading.{HasNoNext, found_with, wanted_entry}
 use Rattle.pep_table.specs.Way.EntryReading.{HasNoParts, HasOtherVerdict, HasParts, IsEntryAt, head_line}
-use Rattle.pep_table.specs.Way.EntryReading.{parts_then, ranges_then, texts_then, urls_then}
+use Rattle.pep_table.specs.Way.EntryReading.{parts_then}
 use Rattle.demands.specs.Table.{EntryDemands, EntryParts, IsValidEntry, IsValidTable, TableParts}
 use Rattle.demands.specs.Table.{names}
 use Rattle.pep_table.specs.TableText.{AreNoLines, AreTableLines, Shows, entry_text, kind_lines}
@@ -160,37 +160,6 @@ table_outside (p ∷ t) x h (verdict, behind, shows, more, e) begins =
     plain_first name back (All-head IsNormalName name (names t) h)
     (subst BeginsSpace (e ∙ whole name verdict p.1 behind
     ∙ name_first name verdict (parts_then p.1 behind)) begins)
-
--- ---- an entry has some bytes
-
-some_bytes : (name : List ℕ) (verdict : Verdict) (e : EntryParts) (rest : List ℕ) →
-    length rest < length (entry_text name verdict e ++ rest)
-some_bytes name verdict e rest =
-    let all = ap length (whole name verdict e rest) in
-    let parts = parts_of e rest in
-    let more : length (line (head_line name verdict) ++ parts_then e rest)
-    ≡ length (line (head_line name verdict)) + length (parts_then e rest) =
-    length-append (line (head_line name verdict)) (parts_then e rest) in
-    let feed : length (line (head_line name verdict)) ≡ length (head_line name verdict) + 1 =
-    length-append (head_line name verdict) (10 ∷ []) in
-    omega (arith, all, parts, more, feed)
-  where
-    behind : (x y : List ℕ) → length y ≤ length (x ++ y)
-    behind x y = let sum = length-append x y in omega (arith, sum)
-
-    parts_of : (e : EntryParts) (rest : List ℕ) → length rest ≤ length (parts_then e rest)
-    parts_of e rest =
-        let one = behind (kind_lines (codes "range") (map range_text e.versions)) rest in
-        let two = behind (kind_lines (codes "text") e.texts) (ranges_then e rest) in
-        let three = behind (kind_lines (codes "url") e.urls) (texts_then e rest) in
-        let four = behind (kind_lines (codes "extra") e.extras) (urls_then e rest) in
-        omega (arith, one, two, three, four)
-
-pub shorter : (before : List (List ℕ)) (x name : List ℕ) (e : EntryParts) (rest : List ℕ) →
-    HasNext before x name e rest → length rest < length x
-shorter before x name e rest found =
-    let text = found.next.text in
-    subst (λ z. length rest < length z) (sym text.2) (some_bytes name text.0 e rest)
 
 -- ---- the loop
 

@@ -30,7 +30,7 @@ use Rattle.pep_table.proofs.SameDemands.{same_demands, table_from_entries, with_
 use Rattle.demands.specs.Demand.{AdmitsBesideTexts, ApplyingDemands, Demand, Demands}
 use Rattle.demands.specs.Demand.{RequirementDemands, TargetDemands, Together, presence, extra}
 use Rattle.demands.specs.Demand.{url, clause, ranges}
-use Rattle.demands.specs.Gathering.{MeetsClauses, TakesApplying, TakesEntry, TakesIf}
+use Rattle.demands.specs.Gathering.{MeetsClauses, TakesApplying, TakesEntry}
 use Rattle.demands.specs.Gathering.{TakesRequirement, bare_entry, target_clauses, target_urls}
 use Rattle.demands.specs.Gathering.{texts_of}
 use Rattle.demands.specs.Table.{AdmitsPoint, EntryParts, HasExactPoints, IsEntry, IsTable}
@@ -462,10 +462,3 @@ pub all_taken : (e : EnvironmentParts) (s : TableParts) (rs : List RequirementPa
 all_taken e s [] m qs t h g = subst (λ (u : TableParts). TakesApplying e u qs t) (sym h) g
 all_taken e s (r ∷ rs) m qs t h g =
     (h.0, h.1, h.2, h.3, all_taken e h.0 rs m qs t h.4 g)
-
--- some, and then one
-pub one_taken : (e : EnvironmentParts) (s : TableParts) (rs : List RequirementParts)
-    (t : TableParts) (r : RequirementParts) (b : Bool) (u : TableParts) → TakesApplying e s rs t →
-    MarkerSays e r.marker (Some b) → TakesIf b t r u → TakesApplying e s (rs ++ r ∷ []) u
-one_taken e s rs t r b u h says takes =
-    all_taken e s rs t (r ∷ []) u h (u, b, says, takes, refl)

@@ -53,9 +53,6 @@ pub halts_so : (P Q : List ℕ → Type 0) → ((rest : List ℕ) → P rest →
 halts_so P Q f NoMemory h = tt
 halts_so P Q f (At rest) h = f rest.now h
 
-pub out_of_memory : (P : List ℕ → Type 0) (halt : Halt) → halt ≡ NoMemory → HaltsAt P halt
-out_of_memory P halt e = subst (HaltsAt P) (sym e) tt
-
 -- behind indented lines and what reading stops behind in the rest of them
 pub further_in : (x front rest : List ℕ) → x ≡ front ++ rest → AreIndented front → (left : List ℕ) →
     IsBehind AreIndented rest left → IsBehind AreIndented x left

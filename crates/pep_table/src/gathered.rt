@@ -2,8 +2,6 @@
 
 ghost use Rattle.std.specs.Prelude.{◌≡◌, ◌<◌, ◌∷◌, [], IfOk, OnOk, length};
 ghost use Rattle.std.specs.Iterator.{YieldsFirst, item_count};
-ghost use Rattle.pep_require.specs.View.{requirement_parts};
-ghost use Rattle.demands.specs.Gathering.{TakesRequirement};
 ghost use Rattle.demands.specs.Join.{JoinsTables};
 ghost use Rattle.demands.specs.Table.{IsValidTable};
 ghost use Rattle.pep_table.specs.Way.Gathered.{ArePlaces, HasRoom, OpensPlace, table_of};
@@ -11,7 +9,6 @@ ghost use Rattle.pep_table.specs.Way.Gathered.{ArePlaces, HasRoom, OpensPlace, t
 use crate::places::Places;
 use demands::{Entry, LineDemands, PackageDemands};
 use pep_marker::Name;
-use pep_require::Requirement;
 use std::alloc::{AllocError, Global};
 use std::collections::btree_map;
 use std::marker::Model;
@@ -90,26 +87,6 @@ impl Gathered {
         ensures { result ≡ length self.now }
     {
         self.places.len()
-    }
-
-    /// Takes what a requirement demands, whatever its marker.
-    pub(crate) fn take(
-        &mut self,
-        alloc: Global,
-        requirement: &Requirement,
-    ) -> Result<(), AllocError>
-        requires { IsValidTable self.old }
-        ensures { OnOk result (TakesRequirement self.old (requirement_parts requirement.now)
-            self.new) }
-    {
-        let Ok(name) = requirement.name().copied(alloc) else {
-            return Err(AllocError);
-        };
-        let place = place_of(alloc, &mut self.places, &mut self.demands, name, true)?;
-        let Ok(()) = self.demands[place].take(alloc, requirement) else {
-            return Err(AllocError);
-        };
-        Ok(())
     }
 
     /// Takes what an entry demands of the package with this name.

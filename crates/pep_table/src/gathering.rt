@@ -14,7 +14,7 @@ use crate::gathered::{Gathered, GatheredEntries};
 use crate::printout::{Printout, Row, Rows};
 use crate::table::Table;
 use crate::text::header_of;
-use demands::{Entry, Kept, LineDemands, PackageDemands, TableFault};
+use demands::{LineDemands, PackageDemands, TableFault};
 use pep_marker::{Environment, MarkerFault, Name};
 use pep_require::Requirement;
 use std::alloc::{AllocError, Global};
@@ -103,11 +103,11 @@ impl Gathering {
             TakesRequirement self (requirement_parts requirement.now) new) }
         ensures faults { IfErr result (λ e. e ≡ TableFault.NoMemory) }
     {
-        let mut gathered = self.opened(alloc)?;
-        gathered.take(alloc, requirement)?;
-        Ok(Gathering {
-            gathered: Some(gathered),
-        })
+        let Ok(name) = requirement.name().copied(alloc) else {
+            return Err(TableFault::NoMemory);
+        };
+        let mut line = LineDemands::of(alloc, requirement)?;
+        self.take_line(alloc, name, &mut line)
     }
 
     /// What is demanded so far and, if it applies in the environment, by the requirement. A marker

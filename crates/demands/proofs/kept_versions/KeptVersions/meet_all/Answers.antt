@@ -12,11 +12,11 @@ loop-versions-preserved c =
     let s = c.in-Some.versions in
     let left = c.pop.new.self.items in
     let before = c.loop-versions.invariant.1 in (
-      c.in_ok-meet.ensures.normal,
+      c.in_ok-meet_beside.ensures.normal,
       (s ∷ before.0, before.1 ∙ ap (λ l. l ++ before.0) c.in-Some.ensures.items ∙ append_assoc left (s ∷ []) before.0),
       λ d h. c.loop-versions.invariant.2 d
-          (meets_last_set c.loop-versions.self c.meet.new.self d s left c.loop-versions.sets.items
-          c.in_ok-meet.ensures h c.in-Some.ensures.items),
+          (meets_last_set c.loop-versions.self c.meet_beside.new.self d s left c.loop-versions.sets.items
+          c.in_ok-meet_beside.ensures h c.in-Some.ensures.items),
     )
 
 pub returns-clause-ok : goal.returns-clause-ok
