@@ -1,5 +1,5 @@
 -- Clauses that are found in a text, and what they demand.
-use Rattle.std.proofs.Common.{◌≡◌, ℕ, ◌==◌, Bool, true, false, length, List, [], ◌++◌, Option, Some, None, refl, sym}
+use Rattle.std.proofs.Common.{◌≡◌, ℕ, ◌==◌, Bool, true, false, length, List, ◌++◌, Option, Some, None, refl, sym}
 use Rattle.std.proofs.Common.{subst, ◌∙◌, append-nil}
 use Rattle.std.specs.Prelude.{IfSome, IsSome}
 use Rattle.specifiers.specs.Clause.{Clause, demanded_text}
@@ -13,28 +13,22 @@ use Rattle.pep_require.specs.Reads.{IsBound}
 use Rattle.pep_require.proofs.BoundPieces.{bound_read, bound_whole, found_piece}
 use Rattle.demands.specs.Way.LineDemands.{DemandsRanges}
 use Rattle.packed_cuts.specs.Way.PackedSet.{ranges_in}
-use Rattle.clause_memory.specs.Way.PackedClause.{KnowsDemand, ReadsDemand}
+use Rattle.clause_memory.specs.Way.PackedClause.{KnowsDemand}
 use Rattle.packed_cuts.specs.declared.packed_set.PackedSet.{PackedSet}
 
 -- a clause that all of a text is
-pub whole_clause : (x rest : List ℕ) (c : Clause) (ranges : List Range) → ClauseFrom x c rest → rest ≡ [] →
-    DemandsRanges c ranges → ReadsDemand x ranges
-whole_clause x rest c ranges found nothing demands =
+pub whole_read : (x rest : List ℕ) (c : Clause) → ClauseFrom x c rest → {b : Bool} → b ≡ (length rest == 0) → b ≡ true →
+    IsBound x c
+whole_read x rest c found tests empty =
     let piece = found_piece x c rest found in
     let same : piece ≡ x =
-    sym (append-nil piece) ∙ (λ i. piece ++ sym nothing i) ∙ sym (bound_whole x c rest found) in
-    record {
-      clause = c;
-      read = subst (λ t. IsBound t c) same (bound_read x c rest found);
-      demands = demands;
-    }
+    sym (append-nil piece) ∙ (λ i. piece ++ sym (nothing_in rest (sym tests ∙ empty)) i) ∙ sym (bound_whole x c rest found) in
+    subst (λ t. IsBound t c) same (bound_read x c rest found)
 
-pub demanded_here : (x rest : List ℕ) (c : Clause) (found : Option PackedSet) → ClauseFrom x c rest → {b : Bool} →
-    b ≡ (length rest == 0) → b ≡ true → IfSome found (λ d. DemandsRanges c (ranges_in d)) →
-    KnowsDemand x found
-demanded_here x rest c None here tests empty h = tt
-demanded_here x rest c (Some d) here tests empty h =
-    whole_clause x rest c (ranges_in d) here (nothing_in rest (sym tests ∙ empty)) h
+pub demanded_here : (x : List ℕ) (c : Clause) (found : Option PackedSet) → IsBound x c →
+    IfSome found (λ d. DemandsRanges c (ranges_in d)) → KnowsDemand x found
+demanded_here x c None read h = tt
+demanded_here x c (Some d) read h = record { clause = c; read = read; demands = h }
 
 pub nothing_there : {A : Type 0} (found : Option A) → ¬ IsSome found → found ≡ None
 nothing_there None h = refl

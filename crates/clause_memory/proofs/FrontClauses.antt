@@ -1,13 +1,11 @@
 -- The clause in front of a text, and where it ends.
 use Rattle.std.proofs.Common.{◌≡◌, ℕ, ◌<◌, false, List, [], ◌∷◌, ◌++◌, refl, sym, subst, ap, ◌∙◌}
-use Rattle.std.proofs.Common.{◌-◌, append_assoc, arith, length, length-append, take, drop, Some}
+use Rattle.std.proofs.Common.{◌-◌, append_assoc, arith, length, length-append, take, drop}
 use Rattle.std.proofs.Math.Seq.{drop-append_seam}
 use Rattle.std.specs.List.{prefix_len}
 use Rattle.std.proofs.lemmas.Bool.Decides.{nat_tests}
 use Rattle.std.proofs.lemmas.List.{take-append-drop}
-use Rattle.specifiers.specs.Clause.{Clause, demanded, demanded_text}
-use Rattle.specifiers.specs.Clause.{at_least, at_most, compatible, excluding, excluding_prefix, greater_than}
-use Rattle.specifiers.specs.Clause.{less_than, matching, matching_prefix}
+use Rattle.specifiers.specs.Clause.{Clause}
 use Rattle.pep_clause.specs.VersionSet.{Range}
 use Rattle.texts.specs.Bytes.{is_blank_byte, is_clause_byte}
 use Rattle.texts.specs.Runs.{begins, without_leading_blanks}
@@ -50,15 +48,18 @@ front_bound left piece rest c whole stops is =
     subst (λ t. ClauseFrom left c t) bare
     (subst (λ t. ClauseFrom t c (without_leading_blanks rest)) whole (bound_found piece rest c is off))
 
+pub cut_whole : (left piece rest : List ℕ) (n : ℕ) → piece ≡ take n left → rest ≡ drop n left → piece ++ rest ≡ left
+cut_whole left piece rest n front back = (λ i. front i ++ back i) ∙ take-append-drop n left
+
+pub cut_ends : (left rest : List ℕ) (n : ℕ) → n ≡ prefix_len goes_on left → rest ≡ drop n left →
+    begins goes_on rest ≡ false
+cut_ends left rest n count back = ap (begins goes_on) (back ∙ (λ i. drop (count i) left)) ∙ begins-rest goes_on left
+
 -- a text that is cut where a clause ends
-pub demand_here : (left piece rest : List ℕ) (n : ℕ) (ranges : List Range) → n ≡ prefix_len goes_on left →
-    piece ≡ take n left → rest ≡ drop n left → ReadsDemand piece ranges → DemandsFront left ranges rest
-demand_here left piece rest n ranges count front back d =
-    let whole : piece ++ rest ≡ left = (λ i. front i ++ back i) ∙ take-append-drop n left in
-    let stops : begins goes_on rest ≡ false =
-    ap (begins goes_on) (back ∙ (λ i. drop (count i) left)) ∙ begins-rest goes_on left in
-    let cut = front_bound left piece rest d.clause whole stops d.read in
-    record { clause = d.clause; found = cut; demands = d.demands }
+pub demand_here : (left piece rest : List ℕ) (ranges : List Range) → piece ++ rest ≡ left → begins goes_on rest ≡ false →
+    ReadsDemand piece ranges → DemandsFront left ranges rest
+demand_here left piece rest ranges whole stops d =
+    record { clause = d.clause; found = front_bound left piece rest d.clause whole stops d.read; demands = d.demands }
 
 -- what stands at the end of a text, cut off by its length
 pub left_is : (x front rest : List ℕ) → x ≡ front ++ rest → drop (length x - length rest) x ≡ rest
@@ -84,22 +85,3 @@ front_taken x rest old new ranges f adds = record {
   found = f.found;
   adds = adds f.clause f.demands;
 }
-
-pub text_taken : (x rest text : List ℕ) (old new : EntryParts) → ClauseFrom x (demanded text) rest →
-    AddsClause (demanded text) old new → TakesFront x rest old new
-text_taken x rest text old new found adds = record { clause = demanded text; found = found; adds = adds }
-
--- ---- the text of a clause
-
--- a clause that demands this text
-pub demanded_is : (c : Clause) (t : List ℕ) → demanded_text c ≡ Some t → c ≡ demanded t
-demanded_is (demanded u) t e = let same : u ≡ t = cc e in ap demanded same
-demanded_is (compatible v) t e = cc e
-demanded_is (matching v) t e = cc e
-demanded_is (matching_prefix p) t e = cc e
-demanded_is (excluding v) t e = cc e
-demanded_is (excluding_prefix p) t e = cc e
-demanded_is (at_most v) t e = cc e
-demanded_is (at_least v) t e = cc e
-demanded_is (less_than v) t e = cc e
-demanded_is (greater_than v) t e = cc e

@@ -1,9 +1,8 @@
 //! A memory of clauses by their texts.
 
-ghost use Rattle.std.specs.Prelude.{◌≡◌, IfOk, IfSome, Some, length, take};
+ghost use Rattle.std.specs.Prelude.{◌≡◌, IfSome, Some, length, take};
 ghost use Rattle.clause_memory.specs.Way.PackedClause.{IsRemembered, KnowsDemand, remembered_demand};
 
-use crate::packed_clause::demand_in;
 use packed_cuts::{PackedRange, PackedSet};
 use pep_clause::PackedCut;
 use std::alloc::{AllocError, Global};
@@ -117,28 +116,20 @@ impl ClauseMemory {
         }
     }
 
-    /// What the clause demands that the text is, white space round it apart. `None` where it is no clause, or one that
-    /// demands a text, or versions without packed cuts.
-    pub(crate) fn demand(
-        &mut self,
-        alloc: Global,
-        text: &str,
-    ) -> Result<Option<PackedSet>, AllocError>
-        ensures { IfOk result (KnowsDemand text.now) }
+    /// What is remembered of the clause that the text is, white space round it apart: what it demands, or `None` where
+    /// it demands versions without packed cuts.
+    pub(crate) fn known(&self, text: &str) -> Option<Option<PackedSet>>
+        ensures { IfSome result (KnowsDemand text.now) }
     {
         if text.len() > LONGEST {
-            return demand_in(alloc, text);
+            return None;
         }
-        if let Some(known) = self.memory.find(text.as_bytes()) {
-            return Ok(known.demand());
-        }
-        let found = demand_in(alloc, text)?;
-        self.remember(alloc, text, &found)?;
-        Ok(found)
+        let known = self.memory.find(text.as_bytes())?;
+        Some(known.demand())
     }
 
-    // Remembers the text.
-    fn remember(
+    /// Remembers what the clause demands that the text is, if the text is short.
+    pub(crate) fn remember(
         &mut self,
         alloc: Global,
         text: &str,

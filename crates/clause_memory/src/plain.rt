@@ -120,7 +120,7 @@ fn left_behind<'a>(text: &'a str, last: &[u8]) -> Option<&'a str>
 
 /// What the clause demands that stands in front of the text, where its version is a release (PEP 440, "Final
 /// releases"), perhaps with `.*` behind it, and what stands behind it. No demand where the clause's packed
-/// cuts, if it has some, are not told at once, as with `>`, or where it may be none: its line goes the whole way.
+/// cuts, if it has some, are not told at once, or where it may be none: its line goes the whole way.
 /// `None` where nothing is told of the text.
 pub(crate) fn plain_demand(text: &str) -> Option<(Option<PackedSet>, &str)>
     ensures demand { IfSome result (λ found. IfSome found.0 (λ demand.

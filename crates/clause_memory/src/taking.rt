@@ -1,7 +1,8 @@
 //! The clause in front of a text, as what it demands.
 
-ghost use Rattle.std.specs.Prelude.{◌≡◌, ◌⊎◌, ◌≤◌, IfErr, IfOk, OnOk, length};
+ghost use Rattle.std.specs.Prelude.{◌≡◌, ◌⊎◌, ◌≤◌, ◌++◌, IfErr, IfOk, IfSome, OnOk, false, length};
 ghost use Rattle.std.specs.List.{prefix_len};
+ghost use Rattle.texts.specs.Runs.{begins};
 ghost use Rattle.specifiers.specs.Clause.{Clause};
 ghost use Rattle.pep_require.specs.LineParts.{RefusesBound};
 ghost use Rattle.demands.specs.Way.LineDemands.{AddsClause, DemandsRanges};
@@ -9,11 +10,12 @@ ghost use Rattle.packed_cuts.specs.Way.PackedSet.{ranges_in};
 ghost use Rattle.clause_memory.specs.Way.Taken.{TakesFront, goes_on};
 
 use crate::memory::ClauseMemory;
+use crate::packed_clause::demand_of;
 use crate::plain::plain_demand;
 use crate::text::text_at;
 use demands::LineDemands;
 use packed_cuts::PackedSet;
-use pep_clause::{Clause, VersionSet};
+use pep_clause::Clause;
 use pep_require::RequireFault;
 use std::alloc::{AllocError, Global};
 
@@ -23,6 +25,14 @@ fn piece_run(text: &[u8]) -> usize
     ensures within { result ≤ length text.now }
 {
     text.iter().take_while(|b| goes_on(**b)).count()
+}
+
+// What stands before the byte that ends a clause, and from there on.
+fn cut_piece(text: &str) -> (&str, &str)
+    ensures whole { result.0.now ++ result.1.now ≡ text.now }
+    ensures ends { begins goes_on result.1.now ≡ false }
+{
+    text.split_at(piece_run(text.as_bytes()))
 }
 
 // Whether the byte may stand in a clause or beside it.
@@ -45,18 +55,19 @@ fn keep(demand: PackedSet, demands: &mut LineDemands) -> Result<(), AllocError>
     Ok(())
 }
 
-// Keeps what the clause demands, whatever it is.
-fn keep_clause(alloc: Global, clause: &Clause, demands: &mut LineDemands) -> Result<(), AllocError>
+// Keeps what the clause demands, where this was found of it.
+fn keep_found(
+    alloc: Global,
+    clause: &Clause,
+    found: Option<PackedSet>,
+    demands: &mut LineDemands,
+) -> Result<(), AllocError>
+    requires { IfSome found (λ demand. DemandsRanges clause.now (ranges_in demand)) }
     ensures { OnOk result (AddsClause clause.now demands.old demands.new) }
 {
-    // Its clause tells that the clause is valid.
-    let _ = clause.op();
-    if let Some(text) = clause.exact_text() {
-        return demands.put_text(text);
-    }
-    match VersionSet::of(alloc, clause) {
-        Ok(versions) => demands.admit(versions),
-        Err(_) => Err(AllocError),
+    match found {
+        Some(demand) => keep(demand, demands),
+        None => demands.put_clause(alloc, clause),
     }
 }
 
@@ -71,7 +82,7 @@ fn take_unplaced<'a>(
 {
     let Some((run, rest)) = text_at(text) else {
         let (clause, rest) = Clause::at_front(alloc, text)?;
-        keep_clause(alloc, &clause, demands)?;
+        demands.put_clause(alloc, &clause)?;
         return Ok(rest);
     };
     demands.put_text(run)?;
@@ -112,14 +123,37 @@ impl ClauseMemory {
         ensures taken { IfOk result (λ rest. TakesFront text.now rest.now demands.old demands.new) }
         ensures refused { IfErr result (λ e. (e ≡ RequireFault.NoMemory) ⊎ RefusesBound text.now e) }
     {
-        let (piece, rest) = text.split_at(piece_run(text.as_bytes()));
-        let found = self.demand(alloc, piece)?;
-        match found {
-            Some(demand) => {
+        let (piece, rest) = cut_piece(text);
+        match self.known(piece) {
+            Some(Some(demand)) => {
                 keep(demand, demands)?;
                 Ok(rest)
             }
-            None => take_unplaced(alloc, text, demands),
+            Some(None) => take_unplaced(alloc, text, demands),
+            None => self.take_new(alloc, text, demands),
+        }
+    }
+
+    // The same of one that isn't remembered, which is remembered then.
+    fn take_new<'a>(
+        &mut self,
+        alloc: Global,
+        text: &'a str,
+        demands: &mut LineDemands,
+    ) -> Result<&'a str, RequireFault>
+        ensures taken { IfOk result (λ rest. TakesFront text.now rest.now demands.old demands.new) }
+        ensures refused { IfErr result (λ e. (e ≡ RequireFault.NoMemory) ⊎ RefusesBound text.now e) }
+    {
+        let (piece, rest) = cut_piece(text);
+        match Clause::at_front(alloc, piece) {
+            Ok((clause, left)) if left.is_empty() => {
+                let found = demand_of(alloc, &clause)?;
+                self.remember(alloc, piece, &found)?;
+                keep_found(alloc, &clause, found, demands)?;
+                Ok(rest)
+            }
+            // The line is refused. How, the whole text tells.
+            _ => take_unplaced(alloc, text, demands),
         }
     }
 }

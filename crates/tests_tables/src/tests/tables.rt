@@ -118,7 +118,7 @@ fn both_lines(alloc: Global, table: &Table, lines: &[&str]) -> Result<String, Ta
 }
 
 // Requirement lines, and the lines of their table.
-const TEXTS: [(&[&str], &str); 23] = [
+const TEXTS: [(&[&str], &str); 24] = [
     (&[], ""),
     (
         &WHOLE,
@@ -171,6 +171,10 @@ const TEXTS: [(&[&str], &str); 23] = [
     (
         &["a===1.0", "a===1.00"],
         "a none\n  text 1.0\n  text 1.00\n  range before 0.dev0 to end\n",
+    ),
+    (
+        &["a===1,===2,===3,===4,===5,===6"],
+        "a none\n  text 1\n  text 2\n  text 3\n  text 4\n  text 5\n  text 6\n  range before 0.dev0 to end\n",
     ),
     (
         &["a===FOO"],
