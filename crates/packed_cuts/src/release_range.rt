@@ -26,7 +26,7 @@ fn packed_begin(begin: Begin, release: &[u64]) -> Option<PackedCut>
     match begin {
         Begin::Least => Some(PackedCut::least()),
         Begin::Version => PackedCut::before_release(release, None, None),
-        Begin::Greater => None,
+        Begin::Greater => PackedCut::past(0, release),
     }
 }
 
@@ -54,10 +54,10 @@ fn makes_clause(operator: Op, release: &[u64]) -> bool
 
 impl PackedRange {
     /// What the clause of this operator and this release of epoch 0, with nothing behind it, admits, or with `!=`
-    /// leaves out, between two packed cuts (PEP 440, "Version specifiers"). `None` for `>`, of which no range is
-    /// made here; where the release is written with more than four numbers, or one is too large for a packed cut (see
-    /// [`PackedCut`]), with [`End::Prefix`] also the last but one raised by one; for an empty release; and where they
-    /// make no clause, with `===` or with fewer numbers than the operator wants (see [`Op::least_numbers`]).
+    /// leaves out, between two packed cuts (PEP 440, "Version specifiers"). `None` where the release is written with
+    /// more than four numbers, or one is too large for a packed cut (see [`PackedCut`]), with [`End::Prefix`] also the
+    /// last but one raised by one; for an empty release; and where they make no clause, with `===` or with fewer
+    /// numbers than the operator wants (see [`Op::least_numbers`]).
     pub fn of_release(operator: Op, release: &[u64]) -> Option<PackedRange>
         ensures clause { IfSome result (HoldsRelease operator release.now) }
         ensures exactly { IsSome result

@@ -1,14 +1,12 @@
 -- Numbers that are read digit by digit.
-use Rattle.std.proofs.Common.{◌≡◌, ℕ, ◌==◌, ◌-◌, ◌*◌, ◌+◌, ◌<◌, true, false, List, [], ◌∷◌, ◌++◌, length}
+use Rattle.std.proofs.Common.{◌≡◌, ℕ, ◌-◌, ◌*◌, ◌+◌, ◌<◌, true, List, [], ◌∷◌, ◌++◌, length}
 use Rattle.std.proofs.Common.{refl, sym, ap, subst, ◌∙◌, arith, append_assoc, length-append}
-use Rattle.std.proofs.lemmas.Bool.Decides.{nat_tests}
 use Rattle.std.proofs.lemmas.Int.Digits.{digits_value_push}
 use Rattle.std.proofs.lemmas.List.Folds.{list_all-append}
 use Rattle.std.specs.Char.{is_ascii_digit}
 use Rattle.std.specs.List.{list_all}
 use Rattle.std.specs.Str.Parse.{digits_value}
 use Rattle.pep_version.specs.Spelling.{is_number}
-use Rattle.pep_version.specs.Version.{Fits}
 use Rattle.pep_version.proofs.NumberLemmas.{digit_is}
 use Rattle.pep_clause.specs.Way.Numbers.{NumberFrom}
 
@@ -19,9 +17,6 @@ pub record DigitsSoFar (x rest : List ℕ) (n : ℕ) : Type 0 where
   pub digits : list_all is_ascii_digit seen ≡ true
   pub value : n ≡ digits_value 10 seen
 
-pub no_digits : (x : List ℕ) → DigitsSoFar x x 0
-no_digits x = record { seen = []; whole = refl; digits = refl; value = refl }
-
 pub one_digit_more : (x rest others : List ℕ) (n m b : ℕ) → DigitsSoFar x rest n → rest ≡ b ∷ others →
     is_ascii_digit b ≡ true → m ≡ n * 10 + (b - 48) → DigitsSoFar x others m
 one_digit_more x rest others n m b so cut digit value = record {
@@ -29,24 +24,6 @@ one_digit_more x rest others n m b so cut digit value = record {
   whole = so.whole ∙ ap (λ t. so.seen ++ t) cut ∙ sym (append_assoc so.seen (b ∷ []) others);
   digits = rw (list_all-append is_ascii_digit so.seen (b ∷ []), so.digits, digit) refl;
   value = value ∙ (λ i. so.value i * 10 + sym (digit_is b digit) i) ∙ sym (digits_value_push 10 so.seen b);
-}
-
-same_apart : (k : ℕ) → (k == k) ≡ false → ⊥
-same_apart k h = let same : (k == k) ≡ true = grind (arith, nat_tests) in cc (same, h)
-
-some_digits : (x seen rest : List ℕ) → x ≡ seen ++ rest → (length rest == length x) ≡ false →
-    list_all is_ascii_digit seen ≡ true → is_number seen ≡ true
-some_digits x [] rest whole fewer h =
-    absurd (same_apart (length rest) (subst (λ t. (length rest == length t) ≡ false) whole fewer))
-some_digits x (b ∷ seen) rest whole fewer h = h
-
-pub number_there : (x rest : List ℕ) (n : ℕ) → DigitsSoFar x rest n → (length rest == length x) ≡ false → Fits n →
-    NumberFrom x n rest
-number_there x rest n so fewer fits = record {
-  digits = so.seen;
-  whole = so.whole;
-  spelled = (some_digits x so.seen rest so.whole fewer so.digits, so.value);
-  fits = fits;
 }
 
 -- less is left

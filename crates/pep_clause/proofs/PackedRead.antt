@@ -1,5 +1,5 @@
 -- A cut is read back from its number.
-use Rattle.std.proofs.Common.{◌≡◌, ◌<◌, ◌≤◌, ◌+◌, ◌*◌, ◌/◌, ◌^◌, ◌%◌, ◌==◌, ◌++◌, Bool, ℕ, zero, suc, true, false, codes, List, [], ◌∷◌, Option, Some, None, IfSome, get_or, length, refl, sym, ap, ◌∙◌, arith, subst}
+use Rattle.std.proofs.Common.{◌≡◌, ◌<◌, ◌≤◌, ◌+◌, ◌*◌, ◌/◌, ◌^◌, ◌%◌, ◌==◌, ℕ, zero, suc, true, false, List, [], ◌∷◌, Option, Some, None, IfSome, get_or, length, refl, sym, ap, ◌∙◌, arith, subst}
 use Rattle.std.proofs.lemmas.Cmp.{ranked}
 use Rattle.std.proofs.lemmas.Nat.{div-mul-add, mod-mul-add}
 use Rattle.std.specs.Ordering.{MatchOrdering, eq_by_cmp, is_eq, nat_cmp}
@@ -8,21 +8,17 @@ use Rattle.std.specs.declared.cmp.Ordering.{Ordering}
 use Rattle.std.specs.declared.cmp.Ordering.TheVariants.{Less, Equal, Greater}
 use Rattle.texts.specs.Lists.{is_empty}
 use Rattle.pep_version.specs.Laws.{positive, with_first}
-use Rattle.pep_version.proofs.PlaceLemmas.{short-twice, suffixed}
+use Rattle.pep_version.proofs.PlaceLemmas.{suffixed}
 use Rattle.pep_version.specs.Order.{place_of, pre_number, pre_number_of, short_release, stage, stage_of, with_suffixes, without_end_zeros}
 use Rattle.std.specs.List.{AllByRecursion}
 use Rattle.pep_version.specs.Version.{Fits, IsVersion, Version}
 use Rattle.pep_version.specs.declared.parts.Phase.{Phase}
 use Rattle.pep_version.specs.declared.parts.Phase.TheVariants.{Alpha, Beta, Rc}
-use Rattle.pep_version.specs.KeyBytes.{key_bytes}
-use Rattle.pep_version.specs.Text.{normal_text}
 use Rattle.specifiers.specs.Clause.{Prefix, prefix_of}
-use Rattle.pep_clause.proofs.CutsRead.{past-bytes}
-use Rattle.pep_clause.specs.Cut.{Cut, IsCut, before, after, past, end, cut_cmp, cut_text, final_version}
-use Rattle.pep_clause.specs.CutBytes.{cut_bytes}
+use Rattle.pep_clause.specs.Cut.{Cut, IsCut, before, after, past, end, cut_cmp, final_version}
 use Rattle.pep_clause.proofs.Rows.{IsCut-before_place}
 use Rattle.pep_clause.specs.OperatorTable.{before_place}
-use Rattle.pep_clause.specs.PackedCut.{AreShortNumbers, HasPackedCut, IsPackedCut, IsShortRelease, IsShortSuffix, IsShortVersion, PackedCutsKeepOrder, cut_at, dev_at, dev_digit, digit_unit, end_word, four, four_word, front_of, front_text, is_past, last_digit, number_unit, packed_word, past_bytes, past_stage, post_at, post_digit, pre_at, release_alone, release_at, release_word, release_word_at, stage_at, suffixed_word, version_at, word_before, word_past}
+use Rattle.pep_clause.specs.PackedCut.{AreShortNumbers, HasPackedCut, IsPackedCut, IsShortRelease, IsShortSuffix, IsShortVersion, PackedCutsKeepOrder, cut_at, dev_at, dev_digit, digit_unit, end_word, four, four_word, front_of, is_past, last_digit, number_unit, packed_word, past_stage, post_at, post_digit, pre_at, release_alone, release_at, release_word, release_word_at, stage_at, suffixed_word, version_at, word_before, word_past}
 use Rattle.pep_clause.proofs.PackedOrder.{AreDigits, packed-order, past-below, past-digits, stage_low, version-below, version-digits}
 
 -- ---- digits
@@ -245,54 +241,6 @@ release-version r q d some h = record {
     label = tt;
   };
 }
-
-short-alone : {m : ℕ} (r : List ℕ) → IsShortRelease m r → IsShortVersion (release_alone r)
-short-alone r h = record {
-  release = record { epoch = refl; few = h.few; numbers = h.numbers };
-  suffix = record { pre = omega arith; post = omega arith; dev = tt };
-  label = refl;
-}
-
--- past a release that is short
-pub packed-past : {m : ℕ} (r : List ℕ) → IsShortRelease m r → 0 < length r → IsPackedCut (word_past r)
-packed-past r h some =
-    let read = past-read r h some in
-    let short = short-alone r h in
-    let is = IsCut-before_place (release_alone r) (release-version r None None some short) in record {
-      short = subst HasPackedCut (sym read) (short-is_short r short.release);
-      spelled = subst IsCut (sym read) (is.0, short-twice r);
-      word = ap packed_word read ∙ (λ i. suffixed_word (short-word r i) past_stage 0 0 last_digit);
-    }
-
--- the version of the word of a cut past a release is the release alone
-pub past-version : (w : ℕ) → IsPackedCut w → (w == end_word) ≡ false → is_past w ≡ true
-    → version_at w ≡ final_version (prefix_of (version_at w))
-past-version w p no_end is =
-    let at : cut_at w ≡ past (prefix_of (version_at w)) = rw (no_end, is) refl in
-    let r = (version_at w).release in
-    let spelled = subst IsCut at p.spelled in
-    let short = subst HasPackedCut at p.short in
-    sym (ap version_at (sym (ap packed_word at) ∙ p.word)) ∙ final-read r short spelled.0.release
-    ∙ ap (λ x. final_version (record { epoch = 0; release = x })) spelled.1
-
--- the text of a packed cut that isn't the end
-pub packed-text : (w : ℕ) → IsPackedCut w → (w == end_word) ≡ false
-    → cut_text (cut_at w) ≡ front_text (is_past w) ++ normal_text (version_at w)
-packed-text w p no_end = by (is_past w) refl
-  where
-    by : (b : Bool) → is_past w ≡ b → cut_text (cut_at w) ≡ front_text b ++ normal_text (version_at w)
-    by false e = rw (no_end, e) refl
-    by true e =
-        rw (no_end, e) (ap (λ v. codes "past " ++ normal_text v) (sym (past-version w p no_end e)))
-
--- its bytes
-pub before-packed_bytes : (w : ℕ) → (w == end_word) ≡ false → is_past w ≡ false → key_bytes (version_at w) ≡ cut_bytes (cut_at w)
-before-packed_bytes w no_end e = rw (no_end, e) refl
-
-pub past-packed_bytes : (w : ℕ) → IsPackedCut w → (w == end_word) ≡ false → is_past w ≡ true
-    → past_bytes (key_bytes (version_at w)) ≡ cut_bytes (cut_at w)
-past-packed_bytes w p no_end e =
-    rw (no_end, e) (past-bytes (key_bytes (version_at w)) (prefix_of (version_at w)) (ap key_bytes (past-version w p no_end e)))
 
 -- ---- the law
 

@@ -2,7 +2,7 @@
 -- "Version exclusion", "Compatible release").
 use Rattle.std.proofs.Common.{◌≡◌, ℕ, zero, suc, ◌+◌, ◌-◌, ◌<◌, ◌&&◌, ◌==◌, Bool, true, false, not}
 use Rattle.std.proofs.Common.{List, [], ◌∷◌, length, take, Option, Some, None, nat_lt, refl, sym}
-use Rattle.std.proofs.Common.{ap, subst, ◌∙◌, arith, IfOk, Result}
+use Rattle.std.proofs.Common.{ap, ◌∙◌, arith}
 use Rattle.std.proofs.lemmas.List.{length-take-le}
 use Rattle.std.proofs.lemmas.Bool.Decides.{nat_tests}
 use Rattle.std.specs.List.{AllByRecursion}
@@ -21,7 +21,7 @@ use Rattle.pep_clause.proofs.UnderCut.{is_under-cut_cmp}
 use Rattle.pep_clause.specs.OperatorTable.{before_dev, before_place, before_prefix, last}
 use Rattle.pep_clause.specs.OperatorTable.{prefix_end, prefix_end_at, raised, raised_first, set_of}
 use Rattle.pep_clause.specs.OperatorTable.{with_dev}
-use Rattle.pep_clause.specs.VersionSet.{IsNormal, Range, is_in}
+use Rattle.pep_clause.specs.VersionSet.{IsNormal, is_in}
 use Rattle.pep_clause.proofs.NormalJoined.{IsNormal-range}
 use Rattle.pep_clause.proofs.PrefixPlace.{prefix-under}
 use Rattle.pep_clause.proofs.RangeRows.{IsNormal-outside, outside-row, range-row}
@@ -128,16 +128,6 @@ pub prefix_high-at : (v : Version) {e : ℕ} {r : List ℕ} {c : Cut} →
     c ≡ prefix_end (prefix_of v)
 prefix_high-at v is epoch release =
     is ∙ (λ i. prefix_end (record { epoch = epoch i; release = release i }))
-
--- .. and so are the ranges between them, or outside them
-pub prefix-at : {E : Type 0} (f : Cut → Cut → List Range) (r : Result (List Range) E) (v : Version)
-    {e : ℕ} {n : List ℕ} {low high : Cut} → low ≡ before_dev e n →
-    high ≡ prefix_end (record { epoch = e; release = n }) → e ≡ v.epoch → n ≡ v.release →
-    IfOk r (λ s. s ≡ f low high) →
-    IfOk r (λ s. s ≡ f (before_prefix (prefix_of v)) (prefix_end (prefix_of v)))
-prefix-at f r v low high epoch release h =
-    subst (λ (x : List Range). IfOk r (λ s. s ≡ x)) (λ i. f (prefix_low-at v low epoch release i)
-    (prefix_high-at v high epoch release i)) h
 
 pub before_prefix-below_end : (p : Prefix) → IsVersion (final_version p) →
     cut_cmp (before_prefix p) (prefix_end p) ≡ Less

@@ -1,5 +1,5 @@
 -- The versions of a range and of what is outside a range, and that both are normal lists.
-use Rattle.std.proofs.Common.{◌≡◌, ◌&&◌, ◌||◌, Bool, true, false, not, IfOk, List, Result, ◌++◌, refl, subst, sym, ◌∙◌}
+use Rattle.std.proofs.Common.{◌≡◌, ◌&&◌, ◌||◌, Bool, true, false, not, List, ◌++◌, refl, sym, ◌∙◌}
 use Rattle.std.specs.Ordering.{is_lt}
 use Rattle.std.specs.declared.cmp.Ordering.TheVariants.{Less}
 use Rattle.pep_version.specs.Version.{Version}
@@ -56,12 +56,3 @@ IsNormal-outside low high e f less =
     (above_by (is_lt (cut_cmp high end)) low high end less))
     (Spelled-append (range least low) (range high end)
     (Spelled-range least low IsNormal-all_versions.spelled.0 e) (Spelled-range high end f tt))
-
--- between cuts that are the same is the same range, and outside them too
-pub range-at : {E : Type 0} (r : Result (List Range) E) {a b low high : Cut} → a ≡ low → b ≡ high
-    → IfOk r (λ s. s ≡ range a b) → IfOk r (λ s. s ≡ range low high)
-range-at r e f h = subst (λ (x : List Range). IfOk r (λ s. s ≡ x)) (λ i. range (e i) (f i)) h
-
-pub outside-at : {E : Type 0} (r : Result (List Range) E) {a b low high : Cut} → a ≡ low → b ≡ high
-    → IfOk r (λ s. s ≡ outside a b) → IfOk r (λ s. s ≡ outside low high)
-outside-at r e f h = subst (λ (x : List Range). IfOk r (λ s. s ≡ x)) (λ i. outside (e i) (f i)) h

@@ -1,9 +1,7 @@
 -- What the ranges of a clause hold.
 use Rattle.std.proofs.Common.{◌≡◌, ◌==◌, ◌↔◌, Bool, false, length, List, [], ◌∷◌, None}
-use Rattle.std.proofs.Common.{IsSome, ◌&&◌, ◌||◌, not, refl, ◌∙◌, sym, is_ge}
+use Rattle.std.proofs.Common.{IsSome, ◌&&◌, ◌||◌, not, refl, ◌∙◌, sym}
 use Rattle.std.specs.Prelude.{IsTrue}
-use Rattle.std.specs.declared.cmp.Ordering.{Ordering}
-use Rattle.std.specs.declared.cmp.Ordering.TheVariants.{Less, Equal, Greater}
 use Rattle.pep_version.specs.Order.{place_of}
 use Rattle.texts.proofs.ListLemmas.{is_empty-length}
 use Rattle.pep_version.specs.Version.{IsVersion, Version}
@@ -24,12 +22,6 @@ use Rattle.pep_clause.proofs.PrefixRows.{compatible-normal, compatible-row, excl
 use Rattle.pep_clause.proofs.PrefixRows.{excluding_prefix-row, matching_prefix-normal}
 use Rattle.pep_clause.proofs.PrefixRows.{matching_prefix-row}
 use Rattle.pep_clause.proofs.Rows.{at_least-normal, at_least-row, is_under-place_of}
-
--- what is not at least another is below it
-pub below_told : (r : Ordering) → is_ge r ≡ false → r ≡ Less
-below_told Less e = refl
-below_told Equal e = cc e
-below_told Greater e = cc e
 
 -- the ranges of a clause without a demanded text hold what the clause admits
 pub is_in-set_of : (c : Clause) → IsValidClause c → (v : Version) → IsVersion v →

@@ -13,7 +13,7 @@ use Rattle.pep_version.specs.Order.{short_release, with_suffixes}
 use Rattle.pep_version.specs.Spelling.{is_number}
 use Rattle.pep_version.specs.Text.{dev_text, normal_text, post_text, release_text}
 use Rattle.pep_version.specs.Version.{Fits}
-use Rattle.pep_clause.specs.Cut.{Cut, cut_text, past}
+use Rattle.pep_clause.specs.Cut.{Cut, cut_text}
 use Rattle.pep_clause.specs.OperatorTable.{before_place}
 use Rattle.pep_clause.specs.PackedCut.{release_alone}
 use Rattle.pep_clause.specs.Way.Numbers.{HasTextWith, NumberFrom}
@@ -75,9 +75,6 @@ pub record NumbersSoFar (x left numbers : List ℕ) (count : ℕ) : Type 0 where
   pub room : length numbers ≡ 4
   pub whole : x ≡ dotted (take count numbers) ++ left
 
-pub no_numbers : (x numbers : List ℕ) → length numbers ≡ 4 → NumbersSoFar x x numbers 0
-no_numbers x numbers room = record { few = omega arith; room = room; whole = refl }
-
 one_taken : (numbers : List ℕ) (count n : ℕ) → count < length numbers → take (suc count) (slice_set numbers count n) ≡ take count numbers ++ n ∷ []
 one_taken [] count n h = absurd (omega (arith, h))
 one_taken (m ∷ ms) zero n h = refl
@@ -124,12 +121,3 @@ before-text r post dev rest (Some c) short is same =
     ap cut_text is
     ∙ ap (λ x. codes "before " ++ normal_text (with_suffixes (release_alone x) None post dev)) short
     ∙ ap (λ x. codes "before " ++ x) (suffixed-text r post dev ∙ ap (λ x. release_text r ++ x) (sym same))
-
--- past the release
-pub past-text : (r rest : List ℕ) (found : Option Cut) → short_release r ≡ r →
-    IfSome found (λ c. c ≡ past (record { epoch = 0; release = short_release r })) → rest ≡ [] → HasTextWith true r rest found
-past-text r rest None short is same = tt
-past-text r rest (Some c) short is same =
-    ap cut_text is
-    ∙ ap (λ x. codes "past " ++ normal_text (with_suffixes (release_alone x) None None None)) short
-    ∙ ap (λ x. codes "past " ++ x) (suffixed-text r None None ∙ ap (λ x. release_text r ++ x) (sym same))

@@ -223,7 +223,7 @@ impl PackedCut {
 
     /// The packed cut past everything of a release, or `None` where its epoch isn't 0, or its numbers are too large or
     /// too many.
-    pub(crate) fn past(epoch: u64, release: &[u64]) -> Option<PackedCut>
+    pub fn past(epoch: u64, release: &[u64]) -> Option<PackedCut>
         requires { 0 < length release.now }
         ensures cut { IfSome result (λ p. p ≡ past (record {
           epoch = epoch;

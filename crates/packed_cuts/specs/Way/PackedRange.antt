@@ -1,5 +1,5 @@
--- Which clauses whose version is a release alone have bounds of two packed cuts, by how the release is written: one of more than four
--- numbers, or with a number that is too large, is not looked at further, nor is one behind `>`, where its cut has a packed one too. Nothing else rests on that.
+-- Which clauses whose version is a release alone have bounds of two packed cuts, by how the release is written: one of
+-- more than four numbers, or with a number that is too large, is not looked at further. Nothing else rests on that.
 -- And which packed cuts are told (`HoldsRelease`, `HoldsPrefix`).
 use Rattle.std.specs.Prelude.{◌≡◌, ◌+◌, ◌<◌, ◌≤◌, ℕ, List, [], ◌∷◌, Some, None, Ok, IsOk, length}
 use Rattle.pep_version.specs.Order.{with_suffixes}
@@ -29,12 +29,11 @@ pub record PrefixEndsShort (p : Prefix) : Type 0 where
   pub few : length p.release ≤ 4
   pub numbers : AreShortNumbers (raised_last p.release)
 
--- where the versions begin and end that an operator and a release speak of, as far as ranges of them are made here:
--- none of `>`
+-- where the versions begin and end that an operator and a release speak of, as far as ranges of them are made here
 abbrev pub BeginsShort : Begin → List ℕ → Type 0
 BeginsShort begin.Least r = Unit {0}
 BeginsShort begin.Version r = IsShortVersion (release_alone r)
-BeginsShort begin.Greater r = ⊥
+BeginsShort begin.Greater r = IsShortRelease 0 r
 
 abbrev pub EndsShort : End → List ℕ → Type 0
 EndsShort ends.Version r = IsShortVersion (with_suffixes (release_alone r) None (Some 0) (Some 0))

@@ -148,7 +148,7 @@ pub(crate) fn key_bytes_at<'a>(room: &'a mut [u8; CUT_ROOM], word: u128) -> &'a 
 
 /// The same without what stands behind the release of the key, which is that of a release alone, and then 0x60, above
 /// each byte that a key has there.
-// Such bytes are wanted beside the bytes of other cuts alone.
+// A merge compares packed cuts by their words, so few callers want these bytes.
 #[cold]
 #[inline(never)]
 pub(crate) fn past_bytes_at<'a>(room: &'a mut [u8; CUT_ROOM], word: u128) -> &'a [u8]

@@ -26,7 +26,7 @@ pub(crate) const DIGIT: u64 = 1 << 7;
 // Past a release is above where any version stands within it.
 pub(crate) const PAST: u64 = 5;
 
-/// Four numbers of a release, those that it doesn't have being 0, where it has no more.
+/// The numbers of a release, with 0 for those that it lacks of four. `None` where it has more than four.
 pub(crate) fn four(release: &[u64]) -> Option<[u64; 4]>
     ensures numbers { IfSome result (λ n. n ≡ four release.now) }
     ensures exactly { IsSome result ↔ (length release.now ≤ 4) }
