@@ -217,10 +217,6 @@ ends_of z m (when x h) = refl
 
 -- ---- the extras, and what stands behind the name
 
-brackets_some : (inner rest : List ℕ) →
-    begins is_bracket ((91 ∷ inner) ++ rest) ≡ begins is_bracket (91 ∷ inner)
-brackets_some inner rest = refl
-
 -- the extras stand at the front of what follows the name, and the target behind them
 record After (v : List ℕ) (extras : List (List ℕ)) (z : List ℕ) : Type 0 where
   pub behind : List ℕ

@@ -100,10 +100,6 @@ not_target : (x : List ℕ) → is_end false x ≡ true → begins is_target_byt
 not_target [] e = refl
 not_target (b ∷ x) e = no_end_byte b e
 
-stripped_cons : (b : ℕ) (x : List ℕ) → is_blank_byte b ≡ false →
-    without_leading_blanks (b ∷ x) ≡ b ∷ x
-stripped_cons b x e = no_leading (b ∷ x) e
-
 find_nothing : (rest : List ℕ) → Ends rest →
     Found (without_leading_blanks rest) (bounds []) rest
 find_nothing rest e = record {
@@ -210,9 +206,6 @@ read_target (at_url {rest = rest} {u = u} space written blank h ends) e =
     find_url space written rest u blank h ends
 
 -- ---- at most one
-
-at_byte : (b : ℕ) → b ≡ 64 → is_target_byte b ≡ true
-at_byte b e = grind (arith, nat_tests)
 
 bare_is_target : (x : List ℕ) → begins is_bare_byte x ≡ true → begins is_target_byte x ≡ true
 bare_is_target [] e = e

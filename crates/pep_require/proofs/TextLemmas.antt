@@ -1,8 +1,7 @@
 -- Texts joined by `,`, as a loop writes them.
-use Rattle.std.proofs.Common.{◌≡◌, ℕ, ◌+◌, ◌<◌, List, [], ◌∷◌, ◌++◌, length, drop, map, get_or}
+use Rattle.std.proofs.Common.{◌≡◌, ℕ, List, [], ◌∷◌, ◌++◌, map}
 use Rattle.std.proofs.Common.{sym, ap, ◌∙◌, append_assoc, append-nil}
 use Rattle.std.specs.List.{join_with_byte}
-use Rattle.std.proofs.lemmas.List.{drop_more}
 use Rattle.specifiers.specs.Clause.{Clause, clause_text}
 use Rattle.pep_require.specs.RequirementText.{behind_commas, extras_text}
 
@@ -10,19 +9,6 @@ pub joined_by_commas : (x : List ℕ) (xs : List (List ℕ)) →
     join_with_byte 44 (x ∷ xs) ≡ x ++ behind_commas xs
 joined_by_commas x [] = sym (append-nil x)
 joined_by_commas x (y ∷ ys) = ap (λ t. x ++ 44 ∷ t) (joined_by_commas y ys)
-
--- one text more
-pub more_written : {A : Type 0} (f : A → List ℕ) (xs : List A) (i : ℕ) (d : A)
-    (old comma new whole : List ℕ) → i < length xs →
-    old ++ behind_commas (map f (drop i xs)) ≡ whole → comma ≡ old ++ 44 ∷ [] →
-    new ≡ comma ++ f (get_or xs i d) → new ++ behind_commas (map f (drop (i + 1) xs)) ≡ whole
-more_written f xs i d old comma new whole less e g h =
-    let rest = behind_commas (map f (drop (i + 1) xs)) in
-    let next = ap (λ l. behind_commas (map f l)) (drop_more xs i d less) in
-    ap (λ t. t ++ rest) (h ∙ ap (λ t. t ++ f (get_or xs i d)) g)
-    ∙ append_assoc (old ++ 44 ∷ []) (f (get_or xs i d)) rest
-    ∙ append_assoc old (44 ∷ []) (f (get_or xs i d) ++ rest)
-    ∙ ap (λ t. old ++ t) (sym next) ∙ e
 
 pub clauses_written : (cs : List Clause) (c : Clause) (ds : List Clause) (old one new : List ℕ) →
     cs ≡ c ∷ ds → one ≡ old ++ clause_text c → new ≡ one ++ behind_commas (map clause_text ds) →

@@ -74,13 +74,6 @@ pub says-refused : (o : Op) (w v : Version) (e : ClauseFault) → version_clause
     None ≡ says (version_clause o w) v
 says-refused o w v e made = ap (λ answer. says answer v) (sym made)
 
--- the version of a clause that isn't of `===`
-pub differs-exact : (o : Op) (v : Version) → IsValidClause (of_version o v) → o ≢ op.Exact
-differs-exact o v h e = exact_valid v (subst (λ o. IsValidClause (of_version o v)) e h)
-  where
-    exact_valid : (v : Version) → ¬ IsValidClause (of_version op.Exact v)
-    exact_valid v h = cc h
-
 -- every operator but `!=` admits what has the prefix
 pub admits-of_prefix : (o : Op) (p : Prefix) (v : Version) → ¬ (o ≡ op.NotEqual) →
     has_prefix p v ≡ admits (of_prefix o p) v

@@ -1,17 +1,15 @@
 -- An operator and a text have one answer at most, lack of memory apart.
 use Rattle.std.proofs.Common.{◌≡◌, ◌≢◌, ℕ, Bool, true, false, List, [], ◌∷◌, ◌++◌, ◌-◌, take}
 use Rattle.std.proofs.Common.{length, refl, sym, ap, ◌∙◌, Option, None, Result, Ok, Err}
-use Rattle.std.specs.Prelude.{MatchBool, codes, if◌then◌else◌, nat_eq, nat_lt}
+use Rattle.std.specs.Prelude.{MatchBool, codes, nat_eq}
 use Rattle.std.specs.List.{ends_with, list_all}
 use Rattle.pep_version.specs.Spelling.{Reads, SpellsAny, dotted_parts, is_number}
 use Rattle.texts.specs.Space.{trimmed}
 use Rattle.pep_version.specs.Version.{Version}
-use Rattle.texts.specs.Lists.{is_empty}
 use Rattle.pep_version.specs.declared.fault.VersionFault.{VersionFault}
 use Rattle.pep_version.specs.declared.fault.VersionFault.TheVariants as version_fault
-use Rattle.specifiers.specs.Clause.{Clause, ClauseOf, Prefix, TargetAnswers, PrefixAnswers}
-use Rattle.specifiers.specs.Clause.{compatible, demanded_text, prefix_clause, prefix_of, version_clause}
-use Rattle.pep_version.specs.Final.{is_final}
+use Rattle.specifiers.specs.Clause.{Clause, ClauseOf, TargetAnswers, PrefixAnswers}
+use Rattle.specifiers.specs.Clause.{demanded_text}
 use Rattle.specifiers.specs.Clause.{ReadsThen, VersionAnswers, demanded_of, ends_in_space}
 use Rattle.specifiers.specs.Clause.{prefix_answer, version_answer}
 use Rattle.specifiers.specs.declared.fault.ClauseFault.{ClauseFault}
@@ -141,53 +139,3 @@ no-clause-of-nothing o c h = nothing-read o c h
 abbrev text_in : Result Clause ClauseFault → Option (List ℕ)
 text_in (Ok c) = demanded_text c
 text_in (Err e) = None
-
-if-told : (t : Bool) (a : Result Clause ClauseFault) (e : ClauseFault) → text_in a ≡ None →
-    text_in (if t then a else Err e) ≡ None
-if-told true a e h = h
-if-told false a e h = refl
-
-version-told : (o : Op) (v : Version) → text_in (version_clause o v) ≡ None
-version-told op.Equal v = refl
-version-told op.NotEqual v = refl
-version-told op.Exact v = refl
-version-told op.Compatible v =
-    if-told (is_empty v.label) _ fault.LocalNotAllowed
-    (if-told (nat_lt 1 (length v.release)) (Ok (compatible v)) fault.OneNumber refl)
-version-told o v = if-told (is_empty v.label) _ fault.LocalNotAllowed refl
-
-star-told : (o : Op) (p : Prefix) → text_in (prefix_clause o p) ≡ None
-star-told op.Equal p = refl
-star-told op.NotEqual p = refl
-star-told o p = refl
-
-prefix-answer-told : (o : Op) (r : Result Version VersionFault) → text_in (prefix_answer o r) ≡ None
-prefix-answer-told o (Ok v) =
-    if-told (is_final v) (prefix_clause o (prefix_of v)) fault.StarNotAllowed
-    (star-told o (prefix_of v))
-prefix-answer-told o (Err e) = refl
-
-version-answer-told : (o : Op) (r : Result Version VersionFault) →
-    text_in (version_answer o r) ≡ None
-version-answer-told o (Ok v) = version-told o v
-version-answer-told o (Err e) = refl
-
-front-told : (o : Op) (front : List ℕ) (t : Bool) (a : Result Clause ClauseFault)
-    → MatchBool t (a ≡ Err fault.BadVersion) (ReadsThen front (prefix_answer o) a) →
-    text_in a ≡ None
-front-told o front true a h = ap text_in h
-front-told o front false a h = ap text_in h.2 ∙ prefix-answer-told o h.0
-
-answers-told : (o : Op) (text front : List ℕ) (t : Bool) (a : Result Clause ClauseFault)
-    → MatchBool t (PrefixAnswers o front a) (ReadsThen text (version_answer o) a) → text_in a ≡ None
-answers-told o text front true a h = front-told o front (ends_in_space front) a h
-answers-told o text front false a h = ap text_in h.2 ∙ version-answer-told o h.0
-
--- a clause with another operator than `===` demands no text
-pub clause_told : (o : Op) (text : List ℕ) (c : Clause) → o ≢ op.Exact → ClauseOf o text (Ok c) →
-    demanded_text c ≡ None
-clause_told o text c other h =
-    let answer : VersionAnswers o (trimmed text) (Ok c) =
-    told-version o (trimmed text) (Ok c) other (λ e. cc e) h in
-    answers-told o (trimmed text) (take (length (trimmed text) - 2) (trimmed text))
-    (ends_with nat_eq (trimmed text) (codes ".*")) (Ok c) answer

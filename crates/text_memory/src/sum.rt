@@ -5,7 +5,7 @@ use texts::head_of;
 // An odd number whose bits look random.
 const FACTOR: u64 = 0x9E37_79B9_7F4A_7C15;
 
-// The number with eight bytes more. Those of a short text are its upper ones, and count below too.
+// The number with eight bytes more. A short text fills the upper bytes alone, so they are mixed into the lower ones.
 fn mixed(sum: u64, bytes: u64) -> u64 {
     let sum = sum ^ bytes;
     let sum = (sum ^ (sum >> 32)).wrapping_mul(FACTOR);

@@ -199,10 +199,6 @@ texts_deduped bytes (p ∷ ps) u are =
 
 -- ---- a text that is looked for
 
-pub head_apart : (bytes text : List ℕ) (p : Piece) → IsPiece bytes p → p.head ≢ head_of text →
-    text_at bytes p ≢ text
-head_apart bytes text p h apart e = apart (h.head ∙ ap head_of e)
-
 pub not_among : (f : Piece → List ℕ) (ps : List Piece) (text : List ℕ) → All (λ p. f p ≢ text) ps →
     ¬ Contains (map f ps) text
 not_among f ps text h (i, below, at) =

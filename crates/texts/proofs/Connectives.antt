@@ -43,10 +43,6 @@ pub or_second : (p q : Bool) → p ≡ false → (p || q) ≡ true → q ≡ tru
 or_second true q e f = cc e
 or_second false q e f = f
 
--- one test and not the other
-pub and_not_from : (p q : Bool) → p ≡ true → q ≡ false → (p && not q) ≡ true
-and_not_from p q e f = rw (e, f) refl
-
 pub and_not_parts : (p q : Bool) → (p && not q) ≡ true → (p ≡ true) × (q ≡ false)
 and_not_parts true q h = (refl, not-true q h)
 and_not_parts false q h = cc h

@@ -1,7 +1,7 @@
 -- The first bytes of texts as numbers are in the order of the texts.
 use Rattle.std.proofs.Common.{◌≡◌, ◌≢◌, ℕ, zero, suc, ◌+◌, ◌*◌, ◌<◌, ◌≤◌, ◌-◌, ◌^◌, ◌++◌, ◌/◌, ◌%◌, inl, inr}
 use Rattle.std.proofs.Common.{Bool, true, false, cond, nat_lt, ltb-true}
-use Rattle.std.proofs.Common.{List, [], ◌∷◌, drop, get_or, length, refl, sym, ap, subst, ◌∙◌, arith, lit<}
+use Rattle.std.proofs.Common.{List, [], ◌∷◌, drop, get_or, refl, sym, ap, subst, ◌∙◌, arith, lit<}
 use Rattle.std.specs.Cmp.{nat_cmp_is}
 use Rattle.std.specs.Cmp.Lexicographic.{nat_list_cmp_total}
 use Rattle.std.specs.List.{AllByRecursion}
@@ -132,25 +132,6 @@ head_cmp x y h g apart =
     ]
 
 -- ---- equal numbers of texts that are long enough
-
--- the digits in front and what was there before are the same
-with_digits_same : (k m n : ℕ) (x y : List ℕ) → Small x → Small y → k ≤ length x → k ≤ length y →
-    with_digits k m x ≡ with_digits k n y → (m ≡ n) × (text_cmp (drop k x) (drop k y) ≡ text_cmp x y)
-with_digits_same zero m n x y h g p q e = (e, refl)
-with_digits_same (suc k) m n [] y h g p q e = absurd (omega (arith, p))
-with_digits_same (suc k) m n (a ∷ x) [] h g p q e = absurd (omega (arith, q))
-with_digits_same (suc k) m n (a ∷ x) (b ∷ y) h g p q e =
-    let rest = with_digits_same k (m * 256 + a) (n * 256 + b) x y h.1 g.1 (omega (arith, p)) (omega (arith, q)) e in
-    let same : a ≡ b = omega (arith, rest.0, h.0, g.0) in
-    (omega (arith, rest.0, h.0, g.0), rest.1 ∙ sym (same_front a b x y same))
-  where
-    same_front : (a b : ℕ) (x y : List ℕ) → a ≡ b → text_cmp (a ∷ x) (b ∷ y) ≡ text_cmp x y
-    same_front a b x y e = rw (sym (nat_cmp_is a b Equal e)) refl
-
--- texts that begin with the same eight bytes compare as what stands behind these
-pub behind_head : (x y : List ℕ) → Small x → Small y → 8 ≤ length x → 8 ≤ length y →
-    head_of x ≡ head_of y → text_cmp (drop 8 x) (drop 8 y) ≡ text_cmp x y
-behind_head x y h g p q e = (with_digits_same 8 0 0 x y h g p q e).1
 
 -- ---- the bytes of UTF-8
 

@@ -138,7 +138,7 @@ impl Clause {
     /// Behind `==` and `!=` stands a version, which may have a local version label, or a release
     /// with its epoch and `.*` ("Version matching", "Version exclusion"); behind the others a
     /// version without a label ("Inclusive ordered comparison", "Exclusive ordered comparison"),
-    /// with as many release numbers as the operator wants ([`Op::least_numbers`], "Compatible
+    /// with at least as many release numbers as the operator wants ([`Op::least_numbers`], "Compatible
     /// release"); behind `===` one or more letters, digits and bytes of `-_.*+!`, kept in lower
     /// case ("Arbitrary equality").
     ///
