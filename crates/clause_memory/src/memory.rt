@@ -90,8 +90,8 @@ impl OfText for Remembered {
     }
 }
 
-/// Remembers clauses by their texts, with what they demand, but for those whose version is a release, which are read as
-/// fast as they are found. Contracts see nothing of it: what is remembered saves time alone.
+/// Remembers clauses by their texts, with what they demand, but for those with `===` and most whose version is a release:
+/// these are read as fast as they are found. Contracts see nothing of it: what is remembered saves time alone.
 #[derive(Drop)]
 pub(crate) struct ClauseMemory {
     memory: TextMemory<Remembered>,
@@ -116,8 +116,8 @@ impl ClauseMemory {
         }
     }
 
-    /// What is remembered of the clause that the text is, white space round it apart: what it demands, or `None` where
-    /// it demands versions without packed cuts.
+    /// What is remembered of a text: the versions that it demands as a clause, white space round it apart, or an inner
+    /// `None` where these have no packed cuts. An outer `None` if the text isn't remembered.
     pub(crate) fn known(&self, text: &str) -> Option<Option<PackedSet>>
         ensures { IfSome result (KnowsDemand text.now) }
     {

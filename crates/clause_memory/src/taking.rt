@@ -15,7 +15,7 @@ use crate::plain::plain_demand;
 use crate::text::text_at;
 use demands::LineDemands;
 use packed_cuts::PackedSet;
-use pep_clause::Clause;
+use pep_clause::{Clause, ClauseFault};
 use pep_require::RequireFault;
 use std::alloc::{AllocError, Global};
 
@@ -134,7 +134,7 @@ impl ClauseMemory {
         }
     }
 
-    // The same of one that isn't remembered, which is remembered then.
+    // The same of one that isn't remembered. If it is short, it is remembered then.
     fn take_new<'a>(
         &mut self,
         alloc: Global,
@@ -152,6 +152,7 @@ impl ClauseMemory {
                 keep_found(alloc, &clause, found, demands)?;
                 Ok(rest)
             }
+            Err(ClauseFault::NoMemory) => Err(RequireFault::NoMemory),
             // The line is refused. How, the whole text tells.
             _ => take_unplaced(alloc, text, demands),
         }

@@ -1,7 +1,7 @@
 //! The lines in front of a table's text, which name the environment in which the table was made.
 
 ghost use Rattle.std.specs.Prelude.{◌≡◌, ◌++◌, ◌≤◌, ◌↔◌, IfErr, IfOk, IsTrue, MatchOption, OnOk, ℕ};
-ghost use Rattle.std.specs.Prelude.{List, codes, length, map, string_bytes, true};
+ghost use Rattle.std.specs.Prelude.{List, length, map, string_bytes, true};
 ghost use Rattle.texts.specs.Lines.{line, written};
 ghost use Rattle.pep_marker.specs.Environment.{IsEnvironment, is_value, variables};
 ghost use Rattle.pep_marker.specs.Header.{FindsHeader, header, header_line, header_value, named_line};

@@ -118,7 +118,7 @@ fn both_lines(alloc: Global, table: &Table, lines: &[&str]) -> Result<String, Ta
 }
 
 // Requirement lines, and the lines of their table.
-const TEXTS: [(&[&str], &str); 24] = [
+const TEXTS: [(&[&str], &str); 26] = [
     (&[], ""),
     (
         &WHOLE,
@@ -175,6 +175,14 @@ const TEXTS: [(&[&str], &str); 24] = [
     (
         &["a===1,===2,===3,===4,===5,===6"],
         "a none\n  text 1\n  text 2\n  text 3\n  text 4\n  text 5\n  text 6\n  range before 0.dev0 to end\n",
+    ),
+    (
+        &["a==1+x,!=2+x,!=3+x,!=4+x,!=5+x,!=6+x"],
+        "a open\n  range before 1+x to after 1+x\n",
+    ),
+    (
+        &["a[x] @ https://x.test/1"],
+        "a open\n  extra x\n  url https://x.test/1\n  range before 0.dev0 to end\n",
     ),
     (
         &["a===FOO"],
