@@ -50,7 +50,7 @@ use crate::table_file::table_in;
 use clause_memory::{DemandSink, LineSoFar};
 use documents::ProjectFile;
 use faults::{Cause, Fault, LineFault, Place};
-use pep_marker::{Environment, Name};
+use pep_marker::{Environment, MarkerFault, Name, WrittenName};
 use pep_require::{RequireFault, walk};
 use pep_table::Gathering;
 use std::alloc::Global;
@@ -95,7 +95,7 @@ impl Taker for DemandTaker<'_> {
         take_walked(
             self.alloc,
             gathering,
-            name,
+            &name,
             &mut self.room.line,
             self.wanted,
         )
@@ -103,40 +103,51 @@ impl Taker for DemandTaker<'_> {
 }
 
 // Whether what is demanded of the package with this name counts.
-fn is_wanted(wanted: Option<&Name>, name: &Name) -> bool
-    ensures { result ≡ wants (wanted_name wanted.entry) name.now }
+fn is_wanted(alloc: Global, wanted: Option<&Name>, name: &WrittenName) -> Result<bool, MarkerFault>
+    ensures { IfOk result (λ b. b ≡ wants (wanted_name wanted.entry) name.now) }
 {
     match wanted {
-        Some(wanted) => *name == *wanted,
-        None => true,
+        Some(wanted) => Ok(name.kept(alloc)? == *wanted),
+        None => Ok(true),
     }
 }
 
 // Whether a line with this name counts.
-fn counts(applies: bool, wanted: Option<&Name>, name: &Name) -> bool
-    ensures { result ≡ (applies && wants (wanted_name wanted.entry) name.now) }
+fn counts(
+    alloc: Global,
+    applies: bool,
+    wanted: Option<&Name>,
+    name: &WrittenName,
+) -> Result<bool, MarkerFault>
+    ensures { IfOk result (λ b. b ≡ (applies && wants (wanted_name wanted.entry) name.now)) }
 {
-    applies && is_wanted(wanted, name)
+    if !applies {
+        return Ok(false);
+    }
+    is_wanted(alloc, wanted, name)
 }
 
 // What is demanded so far and by a line that is walked, and begins with this name.
 fn take_walked(
     alloc: Global,
     gathering: Gathering,
-    name: Name,
+    name: &WrittenName,
     line: &mut LineSoFar,
     wanted: Option<&Name>,
 ) -> Result<Gathering, LineFault>
     ensures ok { IfOk result (λ new. (e : EnvironmentParts) (text : List ℕ)
-        → IsWalked text name (HoldsLine e line.old)
+        → IsWalked text name.now (HoldsLine e line.old)
         → GathersText e (wanted_name wanted.entry) text gathering new) }
     ensures refused { IfErr result (λ fault. (e : EnvironmentParts) (text : List ℕ)
-        → IsWalked text name (HoldsLine e line.old) → RefusesTextIn e text fault) }
+        → IsWalked text name.now (HoldsLine e line.old) → RefusesTextIn e text fault) }
 {
     let Some(applies) = line.applies else {
         return Err(LineFault::Undefined);
     };
-    if !counts(applies, wanted, &name) {
+    let Ok(counts) = counts(alloc, applies, wanted, name) else {
+        return Err(LineFault::Requirement(RequireFault::NoMemory));
+    };
+    if !counts {
         return Ok(gathering);
     }
     match gathering.take_line(alloc, name, &mut line.demands) {

@@ -19,6 +19,7 @@ mod normal_front;
 mod slots;
 mod token;
 mod value;
+mod written_name;
 
 pub use crate::environment::{Environment, Variable};
 pub use crate::fault::MarkerFault;
@@ -26,3 +27,4 @@ pub use crate::header::HeaderIn;
 pub use crate::judged::JudgedMarkers;
 pub use crate::marker::{Marker, Operand, Operator};
 pub use crate::name::{Name, norm_of};
+pub use crate::written_name::WrittenName;

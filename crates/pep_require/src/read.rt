@@ -10,7 +10,7 @@ use crate::front::behind;
 use crate::keeping::{Keeper, Kept};
 use crate::requirement::Requirement;
 use crate::walking::walk;
-use pep_marker::Name;
+use pep_marker::{Name, WrittenName};
 use std::alloc::Global;
 use texts::{LINE_LIMIT, stripped};
 
@@ -35,7 +35,7 @@ impl Requirement {
     {
         let mut kept = Kept::new(alloc);
         let name = walk(alloc, &mut Keeper { alloc, text: line }, &mut kept, line)?;
-        Ok(kept.requirement(name))
+        Ok(kept.requirement(name.kept(alloc)?))
     }
 
     /// The name that a requirement line begins with (PEP 508, "Grammar"). The rest of the line isn't read, so it may be
@@ -48,26 +48,26 @@ impl Requirement {
         ensures refused { IfErr result (λ e. (e ≡ RequireFault.NoMemory)
             ⊎ (beginning_fault line.now ≡ Some e)) }
     {
-        let start = name_at(alloc, line)?;
-        Ok(start.name)
+        let start = name_at(line)?;
+        Ok(start.name.kept(alloc)?)
     }
 }
 
-// The name that a requirement line begins with, and what stands behind it, without white space before it.
+// The name that a requirement line begins with, as it is written, and what stands behind it, without white space before
+// it.
 #[derive(Drop)]
 pub(crate) struct Start<'a> {
-    pub(crate) name: Name,
+    pub(crate) name: WrittenName<'a>,
     pub(crate) rest: &'a str,
 }
 
 // The name at the front of a line, with the white space before and behind it.
 #[inline(always)]
-pub(crate) fn name_at<'a>(alloc: Global, line: &'a str) -> Result<Start<'a>, RequireFault>
+pub(crate) fn name_at<'a>(line: &'a str) -> Result<Start<'a>, RequireFault>
     ensures begun { IfOk result (λ _. beginning_fault line.now ≡ None) }
     ensures name { IfOk result (λ start. name_of (name_run line.now) ≡ Some start.name) }
     ensures rest { IfOk result (λ start. start.rest.now ≡ after_name line.now) }
-    ensures refused { IfErr result (λ e. (e ≡ RequireFault.NoMemory)
-        ⊎ (beginning_fault line.now ≡ Some e)) }
+    ensures refused { IfErr result (λ e. beginning_fault line.now ≡ Some e) }
 {
     if line.len() > LINE_LIMIT {
         return Err(RequireFault::LineTooLong);
@@ -76,11 +76,13 @@ pub(crate) fn name_at<'a>(alloc: Global, line: &'a str) -> Result<Start<'a>, Req
     if behind(text, '-').is_some() {
         return Err(RequireFault::OptionLine);
     }
-    let (name, rest) = Name::in_front(alloc, text)?;
-    Ok(Start {
-        name,
-        rest: stripped(rest),
-    })
+    match WrittenName::in_front(text) {
+        Some((name, rest)) => Ok(Start {
+            name,
+            rest: stripped(rest),
+        }),
+        None => Err(RequireFault::BadName),
+    }
 }
 
 /// The text of the marker that this is, which is left of a line that is read up to its marker;

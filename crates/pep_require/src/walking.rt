@@ -12,7 +12,7 @@ use crate::fault::RequireFault;
 use crate::read::{marker_text, name_at};
 use crate::sink::LineSink;
 use crate::target::walk_target;
-use pep_marker::Name;
+use pep_marker::WrittenName;
 use std::alloc::Global;
 use texts::stripped;
 
@@ -36,23 +36,24 @@ fn walk_ending<S: LineSink>(
 }
 
 /// Walks a requirement line once (PEP 508, "Grammar"): tells the sink its parts, in the order of the line, and gives
-/// the name. What the sink then keeps holds of the parts that the line is read as, with the extras as they stand in it.
+/// the name as it is written. What the sink then keeps holds of the parts that the line is read as, with the extras as
+/// they stand in it.
 ///
 /// The refusals are those of [`Requirement::read`](crate::Requirement::read), for the first part at fault, from left to
 /// right. What a sink has kept of a line that is refused says nothing. Public for the crates above alone.
 #[inline(always)]
-pub fn walk<S: LineSink>(
+pub fn walk<'a, S: LineSink>(
     alloc: Global,
     sink: &mut S,
     line: &mut S::Line,
-    text: &str,
-) -> Result<Name, RequireFault>
+    text: &'a str,
+) -> Result<WrittenName<'a>, RequireFault>
     ensures same { sink.new ≡ sink.old }
     ensures ok { IfOk result (λ name. IsWalked text.now name (S.holds sink.old line.new)) }
     ensures refused { IfErr result (RefusesLine text.now) }
 {
     sink.begin(line);
-    let start = name_at(alloc, text)?;
+    let start = name_at(text)?;
     let behind_extras = walk_extras(alloc, sink, line, start.rest)?;
     let behind_target = walk_target(sink, line, stripped(behind_extras))?;
     walk_ending(sink, line, stripped(behind_target))?;

@@ -15,7 +15,7 @@ use Rattle.std.proofs.lemmas.Map.Keys.{sorted_head, sorted_tail}
 use Rattle.std.proofs.lemmas.Map.Text.{is_eq-slice_cmp}
 use Rattle.std.proofs.lemmas.Map.Views.{All-found}
 use Rattle.std.proofs.lemmas.Slice.Eq.{bytes_eq-Decides}
-use Rattle.pep_marker.specs.Name.{name_cmp}
+use Rattle.pep_marker.specs.Name.{name_cmp, normalized}
 use Rattle.pep_require.proofs.Ascending.{irreflexive}
 use Rattle.pep_table.specs.Way.Gathered.{AddsAtMostOne, AreApart, ArePlaces, PlaceParts, TakesPlace, place_at}
 use Rattle.pep_table.specs.Way.KnownNames.{IsKnown}
@@ -65,7 +65,7 @@ module _ (old new : PlaceParts) (n : List ℕ) (i : ℕ) (taken : TakesPlace old
 
   one_still : (slot : Option KnownName) → IsKnown old slot → IsKnown new slot
   one_still None h = tt
-  one_still (Some k) h = still k.name k.place h
+  one_still (Some k) h = still (normalized k.text.bytes) k.place h
 
   -- what is remembered stays right
   pub still_known : (slots : List (Option KnownName)) → All (IsKnown old) slots → All (IsKnown new) slots

@@ -8,7 +8,7 @@ ghost use Rattle.pep_table.specs.Way.Gathered.{ArePlaces, HasRoom, OpensPlace, t
 
 use crate::places::Places;
 use demands::{Entry, LineDemands, PackageDemands};
-use pep_marker::Name;
+use pep_marker::{Name, WrittenName};
 use std::alloc::{AllocError, Global};
 use std::collections::btree_map;
 use std::marker::Model;
@@ -47,15 +47,11 @@ fn make_room(places: &Places, demands: &mut Vec<PackageDemands>) -> Result<(), A
     Ok(())
 }
 
-// The number of the name, by which what is demanded of it is kept: nothing, where the name is new. A short name that
-// may come often is remembered.
-#[inline(always)]
+// The number of the name, by which what is demanded of it is kept: nothing, where the name is new.
 fn place_of(
-    alloc: Global,
     places: &mut Places,
     demands: &mut Vec<PackageDemands>,
     name: Name,
-    comes_often: bool,
 ) -> Result<usize, AllocError>
     requires { HasRoom places.old demands.old.items }
     ensures opened { IfOk result (OpensPlace (table_of places.old demands.old.items) name places.new
@@ -64,11 +60,25 @@ fn place_of(
     ensures places { ArePlaces places.new }
 {
     make_room(places, demands)?;
-    if comes_often {
-        places.place(alloc, name)
-    } else {
-        places.mapped_place(name)
-    }
+    places.mapped_place(name)
+}
+
+// The same of the name of a line, which may come often: it is remembered, if it is short.
+#[inline(always)]
+fn line_place(
+    alloc: Global,
+    places: &mut Places,
+    demands: &mut Vec<PackageDemands>,
+    name: &WrittenName,
+) -> Result<usize, AllocError>
+    requires { HasRoom places.old demands.old.items }
+    ensures opened { IfOk result (OpensPlace (table_of places.old demands.old.items) name.now
+        places.new demands.new.items) }
+    ensures room { HasRoom places.new demands.new.items }
+    ensures places { ArePlaces places.new }
+{
+    make_room(places, demands)?;
+    places.place(alloc, name)
 }
 
 impl Gathered {
@@ -96,7 +106,7 @@ impl Gathered {
     {
         // Its clause tells that the name is in its normalized form.
         let _ = name.text();
-        let place = place_of(alloc, &mut self.places, &mut self.demands, name, false)?;
+        let place = place_of(&mut self.places, &mut self.demands, name)?;
         let Ok(()) = self.demands[place].join(alloc, entry) else {
             return Err(AllocError);
         };
@@ -108,15 +118,15 @@ impl Gathered {
     pub(crate) fn take_line(
         &mut self,
         alloc: Global,
-        name: Name,
+        name: &WrittenName,
         line: &mut LineDemands,
     ) -> Result<(), AllocError>
         requires { IsValidTable self.old }
-        ensures { OnOk result (JoinsTables self.old ((name, line.old) ∷ []) self.new) }
+        ensures { OnOk result (JoinsTables self.old ((name.now, line.old) ∷ []) self.new) }
     {
         // Its clause tells that the name is in its normalized form.
         let _ = name.text();
-        let place = place_of(alloc, &mut self.places, &mut self.demands, name, true)?;
+        let place = line_place(alloc, &mut self.places, &mut self.demands, name)?;
         let Ok(()) = self.demands[place].take_line(alloc, line) else {
             return Err(AllocError);
         };

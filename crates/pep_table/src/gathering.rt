@@ -15,7 +15,7 @@ use crate::printout::{Printout, Row, Rows};
 use crate::table::Table;
 use crate::text::header_of;
 use demands::{LineDemands, PackageDemands, TableFault};
-use pep_marker::{Environment, MarkerFault, Name};
+use pep_marker::{Environment, MarkerFault, Name, WrittenName};
 use pep_require::Requirement;
 use std::alloc::{AllocError, Global};
 use std::marker::Model;
@@ -103,11 +103,9 @@ impl Gathering {
             TakesRequirement self (requirement_parts requirement.now) new) }
         ensures faults { IfErr result (λ e. e ≡ TableFault.NoMemory) }
     {
-        let Ok(name) = requirement.name().copied(alloc) else {
-            return Err(TableFault::NoMemory);
-        };
+        let name = requirement.name().written();
         let mut line = LineDemands::of(alloc, requirement)?;
-        self.take_line(alloc, name, &mut line)
+        self.take_line(alloc, &name, &mut line)
     }
 
     /// What is demanded so far and, if it applies in the environment, by the requirement. A marker
@@ -156,11 +154,11 @@ impl Gathering {
     pub fn take_line(
         self,
         alloc: Global,
-        name: Name,
+        name: &WrittenName,
         line: &mut LineDemands,
     ) -> Result<Gathering, TableFault>
-        ensures joined { IfOk result (λ new. JoinsTables self ((name, line.old) ∷ []) new) }
-        ensures taken { IfOk result (λ new. (r : RequirementParts) → r.name ≡ name
+        ensures joined { IfOk result (λ new. JoinsTables self ((name.now, line.old) ∷ []) new) }
+        ensures taken { IfOk result (λ new. (r : RequirementParts) → r.name ≡ name.now
             → DemandsEntry r line.old → TakesRequirement self r new) }
         ensures faults { IfErr result (λ e. e ≡ TableFault.NoMemory) }
     {

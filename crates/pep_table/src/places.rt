@@ -10,7 +10,8 @@ ghost use Rattle.std.specs.Prelude.{
 };
 ghost use Rattle.pep_table.specs.Way.Gathered.{AddsAtMostOne, AreApart, ArePlaces, TakesPlace, place_at};
 
-use pep_marker::Name;
+use arrayvec::ArrayString;
+use pep_marker::{Name, WrittenName};
 use std::alloc::{AllocError, Global};
 use std::collections::{BTreeMap, btree_map};
 use std::marker::Model;
@@ -18,21 +19,21 @@ use text_memory::{OfText, TextMemory};
 
 // How many names are remembered at most.
 const MOST: usize = 16_384;
-// How many bytes a name has at most that is remembered: a copy of it asks for no memory.
+// How many bytes a name has at most, as it is written, that is remembered.
 const LONGEST: usize = 24;
 
-/// A name with its number.
+/// A name as it is written, with the number of the name.
 #[derive(Drop)]
 struct KnownName {
-    name: Name,
+    text: ArrayString<LONGEST>,
     place: usize,
 }
 
 impl OfText for KnownName {
-    ghost text = { λ k. k.name };
+    ghost text = { λ k. k.text.bytes };
 
     fn text(&self) -> &[u8] {
-        self.name.text().as_bytes()
+        self.text.as_str().as_bytes()
     }
 }
 
@@ -75,8 +76,8 @@ impl Places {
         self.all.len()
     }
 
-    // The number of the name, if it is remembered.
-    fn known_place(&self, name: &Name) -> Option<usize>
+    // The number of the name, if it is remembered as it is written.
+    fn known_place(&self, name: &WrittenName) -> Option<usize>
         ensures place { IfSome result (λ i. place_at self.now name.now ≡ Some i) }
         ensures places { ArePlaces self.now }
     {
@@ -84,12 +85,20 @@ impl Places {
         Some(known.place)
     }
 
-    // Remembers the name with its number.
-    fn remember(&mut self, alloc: Global, name: Name, place: usize) -> Result<(), AllocError>
-        requires { place_at self.old name ≡ Some place }
+    // Remembers the name as it is written with its number, if that is short.
+    fn remember(
+        &mut self,
+        alloc: Global,
+        name: &WrittenName,
+        place: usize,
+    ) -> Result<(), AllocError>
+        requires { place_at self.old name.now ≡ Some place }
         ensures { self.new ≡ self.old }
     {
-        self.known.put(alloc, KnownName { name, place })
+        match ArrayString::from(name.text()) {
+            Ok(text) => self.known.put(alloc, KnownName { text, place }),
+            Err(_) => Ok(()),
+        }
     }
 
     /// The number of the name: the next one, if it has none yet. One look finds the name's place in the map, where it
@@ -107,19 +116,19 @@ impl Places {
     }
 
     /// The same of a name that may come often: it is remembered, if it is short.
-    pub(crate) fn place(&mut self, alloc: Global, name: Name) -> Result<usize, AllocError>
-        ensures taken { IfOk result (TakesPlace self.old name self.new) }
+    pub(crate) fn place(&mut self, alloc: Global, name: &WrittenName) -> Result<usize, AllocError>
+        ensures taken { IfOk result (TakesPlace self.old name.now self.new) }
         ensures count { AddsAtMostOne self.old self.new }
         ensures places { ArePlaces self.new }
     {
-        if let Some(place) = self.known_place(&name) {
+        if let Some(place) = self.known_place(name) {
             return Ok(place);
         }
-        let copy = short_copy(alloc, &name)?;
-        let place = self.mapped_place(name)?;
-        if let Some(name) = copy {
-            self.remember(alloc, name, place)?;
-        }
+        let Ok(kept) = name.kept(alloc) else {
+            return Err(AllocError);
+        };
+        let place = self.mapped_place(kept)?;
+        self.remember(alloc, name, place)?;
         Ok(place)
     }
 
@@ -129,18 +138,5 @@ impl Places {
         ensures apart { AreApart self (length self) }
     {
         self.all.into_iter()
-    }
-}
-
-// The same name once more, if it is short.
-fn short_copy(alloc: Global, name: &Name) -> Result<Option<Name>, AllocError>
-    ensures { IfOk result (λ copy. IfSome copy (λ n. n ≡ name.now)) }
-{
-    if name.text().len() > LONGEST {
-        return Ok(None);
-    }
-    match name.copied(alloc) {
-        Ok(copy) => Ok(Some(copy)),
-        Err(_) => Err(AllocError),
     }
 }

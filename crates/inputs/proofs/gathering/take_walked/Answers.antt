@@ -5,17 +5,17 @@ use Rattle.inputs.proofs.gathering.take_walked.Goals as goal
 
 pub returns-in_default-clause-refused : goal.returns-in_default-clause-refused
 returns-in_default-clause-refused c =
-    λ e text h. inr (refl, walked_undefined e (wanted_name c.args.wanted) text c.args.name c.args.line.now h c.in_default.is)
+    λ e text h. inr (refl, walked_undefined e (wanted_name c.args.wanted) text c.args.name.now c.args.line.now h c.in_default.is)
 
 pub returns-then-not-counts-clause-ok : goal.returns-then-not-counts-clause-ok
 returns-then-not-counts-clause-ok c =
     let w = wanted_name c.args.wanted in
-    let off : (c.in-Some.applies && wants w c.args.name) ≡ false = search rules in
-    λ e text h. walked_passed e w text c.args.name c.args.line.now h c.in-Some.applies c.args.gathering c.in-Some.is off
+    let off : (c.in-Some.applies && wants w c.args.name.now) ≡ false = search rules in
+    λ e text h. walked_passed e w text c.args.name.now c.args.line.now h c.in-Some.applies c.args.gathering c.in-Some.is off
 
 pub returns-in-Ok-clause-ok : goal.returns-in-Ok-clause-ok
 returns-in-Ok-clause-ok c =
     let w = wanted_name c.args.wanted in
-    let on : (c.in-Some.applies && wants w c.args.name) ≡ true = search rules in
-    λ e text h. walked_taken e w text c.args.name c.args.line.now h c.in-Some.applies c.args.gathering c.in-Ok.new
+    let on : (c.in-Some.applies && wants w c.args.name.now) ≡ true = search rules in
+    λ e text h. walked_taken e w text c.args.name.now c.args.line.now h c.in-Some.applies c.args.gathering c.in-Ok.new
     c.in-Some.is on c.in-Ok.ensures.taken

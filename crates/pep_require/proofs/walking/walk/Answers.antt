@@ -1,22 +1,14 @@
-use Rattle.std.proofs.Common.{◌≡◌, ◌⊎◌, ℕ, List, Some, inl, inr, refl}
+use Rattle.std.proofs.Common.{refl}
 use Rattle.std.proofs.lemmas.Result.{err_from_is_err_and}
-use Rattle.pep_require.specs.Faults.{beginning_fault}
-use Rattle.pep_require.specs.LineParts.{RefusesLine, bad_beginning, no_memory}
-use Rattle.pep_require.specs.declared.fault.RequireFault.{RequireFault}
-use Rattle.pep_require.specs.declared.fault.RequireFault.TheVariants as fault
+use Rattle.pep_require.specs.LineParts.{bad_beginning}
 use Rattle.pep_require.proofs.LineLaws.{ending_fault, extras_fault, line_read, target_fault}
 use Rattle.pep_require.proofs.SinkLemmas.{named, sorted, whole}
 use Rattle.pep_require.proofs.walking.walk.Goals as goal
 
-begin_fault : (x : List ℕ) (e : RequireFault) → (e ≡ fault.NoMemory) ⊎ (beginning_fault x ≡ Some e) →
-    RefusesLine x e
-begin_fault x e (inl h) = no_memory h
-begin_fault x e (inr h) = bad_beginning h
-
 pub returns-in_err-start-clause-refused : goal.returns-in_err-start-clause-refused
 returns-in_err-start-clause-refused g c =
     let p = err_from_is_err_and c.from_residual.result c.from_residual.ensures.1 in
-    rw (p.1, p.2) (begin_fault c.args.text.now _ c.in_err-start.ensures.refused)
+    rw (p.1, p.2) (bad_beginning c.in_err-start.ensures.refused)
 
 pub returns-in_err-behind_extras-clause-refused : goal.returns-in_err-behind_extras-clause-refused
 returns-in_err-behind_extras-clause-refused g c =

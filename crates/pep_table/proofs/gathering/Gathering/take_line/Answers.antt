@@ -6,6 +6,6 @@ use Rattle.pep_table.proofs.gathering.Gathering.take_line.Goals as goal
 
 pub returns-clause-taken : goal.returns-clause-taken
 returns-clause-taken c =
-    line_taken c.args.self c.take_line.new.self c.args.name c.args.line.now c.text.ensures.normal
-    (subst (λ (t : TableParts). JoinsTables t ((c.args.name, c.args.line.now) ∷ []) c.take_line.new.self)
+    line_taken c.args.self c.take_line.new.self c.args.name.now c.args.line.now c.text.ensures.normal
+    (subst (λ (t : TableParts). JoinsTables t ((c.args.name.now, c.args.line.now) ∷ []) c.take_line.new.self)
     (c.deref_mut.ensures.value ∙ c.in_ok-gathered.ensures.same) c.in_ok-take_line.ensures)
