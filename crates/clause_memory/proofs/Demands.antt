@@ -1,10 +1,9 @@
 -- Clauses that are found in a text, and what they demand.
 use Rattle.std.proofs.Common.{◌≡◌, ℕ, ◌==◌, Bool, true, false, length, List, ◌++◌, Option, Some, None, refl, sym}
-use Rattle.std.proofs.Common.{subst, ◌∙◌, append-nil}
-use Rattle.std.specs.Prelude.{IfSome, IsSome}
-use Rattle.specifiers.specs.Clause.{Clause, demanded_text}
-use Rattle.specifiers.specs.Valid.{IsValidClause}
-use Rattle.pep_clause.specs.OperatorTable.{outside, range, set_of}
+use Rattle.std.proofs.Common.{ap, subst, ◌∙◌, append-nil}
+use Rattle.std.specs.Prelude.{IfSome, is_some, not}
+use Rattle.specifiers.specs.Clause.{Clause}
+use Rattle.pep_clause.specs.OperatorTable.{outside, range}
 use Rattle.pep_clause.specs.VersionSet.{IsNormal, Range}
 use Rattle.pep_clause.proofs.SetLemmas.{IsNormal-set_of}
 use Rattle.texts.proofs.ListLemmas.{nothing_in}
@@ -25,21 +24,16 @@ whole_read x rest c found tests empty =
     sym (append-nil piece) ∙ (λ i. piece ++ sym (nothing_in rest (sym tests ∙ empty)) i) ∙ sym (bound_whole x c rest found) in
     subst (λ t. IsBound t c) same (bound_read x c rest found)
 
-pub demanded_here : (x : List ℕ) (c : Clause) (found : Option PackedSet) → IsBound x c →
-    IfSome found (λ d. DemandsRanges c (ranges_in d)) → KnowsDemand x found
-demanded_here x c None read h = tt
-demanded_here x c (Some d) read h = record { clause = c; read = read; demands = h }
+-- what is known of a clause whose set this is
+pub packed_here : (x : List ℕ) (c : Clause) (s : List Range) (found : Option PackedSet) → IsBound x c →
+    DemandsRanges c s → IfSome found (λ d. ranges_in d ≡ s) → KnowsDemand x found
+packed_here x c s None read h is = tt
+packed_here x c s (Some d) read h is =
+    record { clause = c; read = read; demands = subst (DemandsRanges c) (sym is) h }
 
-pub nothing_there : {A : Type 0} (found : Option A) → ¬ IsSome found → found ≡ None
-nothing_there None h = refl
-nothing_there (Some a) h = absurd (h refl)
-
--- the set of a clause, as far as packed cuts tell it
-pub packed_demand : (c : Clause) (s : List Range) (found : Option PackedSet) → IsValidClause c →
-    demanded_text c ≡ None → s ≡ set_of c → IfSome found (λ d. ranges_in d ≡ s) →
-    IfSome found (λ d. DemandsRanges c (ranges_in d))
-packed_demand c s None valid none set h = tt
-packed_demand c s (Some d) valid none set h = record { valid = valid; no_text = none; versions = h ∙ set }
+pub nothing_there : {A : Type 0} (found : Option A) (b : Bool) → is_some found ≡ not b → b ≡ true → found ≡ None
+nothing_there None b h e = refl
+nothing_there (Some a) b h e = let wrong : true ≡ false = h ∙ ap not e in cc wrong
 
 -- the ranges of what leaves versions out, and of what doesn't
 pub outside_ranges : (d : PackedSet) → d.outside ≡ true → ranges_in d ≡ outside d.bounds.low d.bounds.high

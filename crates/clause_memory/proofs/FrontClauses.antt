@@ -16,8 +16,7 @@ use Rattle.pep_require.proofs.BlankLemmas.{leading, leading_whole, no_leading}
 use Rattle.pep_require.proofs.BoundPieces.{bound_found}
 use Rattle.demands.specs.Way.LineDemands.{AddsClause, DemandsRanges}
 use Rattle.demands.specs.Table.{EntryParts}
-use Rattle.clause_memory.specs.Way.Taken.{DemandsFront, TakesFront, goes_on}
-use Rattle.clause_memory.specs.Way.PackedClause.{ReadsDemand}
+use Rattle.clause_memory.specs.Way.Taken.{DemandsFront, TakesFront, TakesWhole, goes_on}
 
 -- ---- where a clause ends
 
@@ -56,10 +55,10 @@ pub cut_ends : (left rest : List ℕ) (n : ℕ) → n ≡ prefix_len goes_on lef
 cut_ends left rest n count back = ap (begins goes_on) (back ∙ (λ i. drop (count i) left)) ∙ begins-rest goes_on left
 
 -- a text that is cut where a clause ends
-pub demand_here : (left piece rest : List ℕ) (ranges : List Range) → piece ++ rest ≡ left → begins goes_on rest ≡ false →
-    ReadsDemand piece ranges → DemandsFront left ranges rest
-demand_here left piece rest ranges whole stops d =
-    record { clause = d.clause; found = front_bound left piece rest d.clause whole stops d.read; demands = d.demands }
+pub whole_taken : (left piece rest : List ℕ) (old new : EntryParts) → piece ++ rest ≡ left →
+    begins goes_on rest ≡ false → TakesWhole piece old new → TakesFront left rest old new
+whole_taken left piece rest old new whole stops t =
+    record { clause = t.clause; found = front_bound left piece rest t.clause whole stops t.read; adds = t.adds }
 
 -- what stands at the end of a text, cut off by its length
 pub left_is : (x front rest : List ℕ) → x ≡ front ++ rest → drop (length x - length rest) x ≡ rest

@@ -4,7 +4,6 @@
 #![tactic(auto)]
 
 mod memory;
-mod packed_clause;
 mod plain;
 mod sink;
 mod taking;

@@ -1,10 +1,14 @@
 //! A memory of clauses by their texts.
 
 ghost use Rattle.std.specs.Prelude.{◌≡◌, IfSome, Some, length, take};
-ghost use Rattle.clause_memory.specs.Way.PackedClause.{IsRemembered, KnowsDemand, remembered_demand};
+ghost use Rattle.clause_memory.specs.Way.PackedClause.{
+  IsKnown,
+  IsRemembered,
+  KnowsDemand,
+  remembered,
+};
 
 use packed_cuts::{PackedRange, PackedSet};
-use pep_clause::PackedCut;
 use std::alloc::{AllocError, Global};
 use std::marker::Model;
 use text_memory::{OfText, TextMemory};
@@ -13,6 +17,16 @@ use text_memory::{OfText, TextMemory};
 const LONGEST: usize = 21;
 // How many texts are remembered at most, in 1 MiB of slots.
 const MOST: usize = 16_384;
+
+/// What is remembered of a text.
+#[derive(Clone, Copy)]
+pub(crate) enum Known {
+    /// It is a clause, with white space round it, that demands these versions.
+    Packed(PackedSet),
+    /// It is a clause whose versions have no packed cuts.
+    Unpacked,
+    Nothing,
+}
 
 /// The text of a clause, with its length, and what it demands, where that is known: else the line goes the whole way.
 #[derive(Clone, Copy)]
@@ -46,10 +60,7 @@ impl Remembered {
         let len = u8::try_from(text.len()).ok()?;
         let kept = kept_bytes(text)?;
         let unknown = Remembered {
-            bounds: PackedRange {
-                low: PackedCut::least(),
-                high: PackedCut::end(),
-            },
+            bounds: PackedRange::all(),
             outside: false,
             is_known: false,
             len,
@@ -66,13 +77,13 @@ impl Remembered {
         }
     }
 
-    fn demand(&self) -> Option<PackedSet>
-        ensures { result ≡ remembered_demand self.now }
+    fn known(&self) -> Known
+        ensures { result ≡ remembered self.now }
     {
         if !self.is_known {
-            return None;
+            return Known::Unpacked;
         }
-        Some(PackedSet {
+        Known::Packed(PackedSet {
             bounds: self.bounds,
             outside: self.outside,
         })
@@ -90,8 +101,8 @@ impl OfText for Remembered {
     }
 }
 
-/// Remembers clauses by their texts, with what they demand, but for those with `===` and most whose version is a release:
-/// these are read as fast as they are found. Contracts see nothing of it: what is remembered saves time alone.
+/// Remembers clauses by their texts, with what they demand, but for those with `===` and most whose version is a
+/// release: these are read as fast as they are found. Contracts see nothing of it: what is remembered saves time alone.
 #[derive(Drop)]
 pub(crate) struct ClauseMemory {
     memory: TextMemory<Remembered>,
@@ -116,16 +127,17 @@ impl ClauseMemory {
         }
     }
 
-    /// What is remembered of a text: the versions that it demands as a clause, white space round it apart, or an inner
-    /// `None` where these have no packed cuts. An outer `None` if the text isn't remembered.
-    pub(crate) fn known(&self, text: &str) -> Option<Option<PackedSet>>
-        ensures { IfSome result (KnowsDemand text.now) }
+    /// What is remembered of a text.
+    pub(crate) fn known(&self, text: &str) -> Known
+        ensures { IsKnown text.now result }
     {
         if text.len() > LONGEST {
-            return None;
+            return Known::Nothing;
         }
-        let known = self.memory.find(text.as_bytes())?;
-        Some(known.demand())
+        match self.memory.find(text.as_bytes()) {
+            Some(remembered) => remembered.known(),
+            None => Known::Nothing,
+        }
     }
 
     /// Remembers what the clause demands that the text is, if the text is short.

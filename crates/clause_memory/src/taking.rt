@@ -1,21 +1,31 @@
 //! The clause in front of a text, as what it demands.
 
-ghost use Rattle.std.specs.Prelude.{◌≡◌, ◌⊎◌, ◌≤◌, ◌++◌, IfErr, IfOk, IfSome, OnOk, false, length};
+ghost use Rattle.std.specs.Prelude.{
+  ◌≡◌,
+  ◌⊎◌,
+  ◌≤◌,
+  ◌++◌,
+  IfErr,
+  IfOk,
+  IsTrue,
+  OnOk,
+  false,
+  length,
+};
 ghost use Rattle.std.specs.List.{prefix_len};
 ghost use Rattle.texts.specs.Runs.{begins};
 ghost use Rattle.specifiers.specs.Clause.{Clause};
 ghost use Rattle.pep_require.specs.LineParts.{RefusesBound};
 ghost use Rattle.demands.specs.Way.LineDemands.{AddsClause, DemandsRanges};
 ghost use Rattle.packed_cuts.specs.Way.PackedSet.{ranges_in};
-ghost use Rattle.clause_memory.specs.Way.Taken.{TakesFront, goes_on};
+ghost use Rattle.clause_memory.specs.Way.Taken.{TakesFront, TakesWhole, goes_on};
 
-use crate::memory::ClauseMemory;
-use crate::packed_clause::demand_of;
+use crate::memory::{ClauseMemory, Known};
 use crate::plain::plain_demand;
 use crate::text::text_at;
 use demands::LineDemands;
 use packed_cuts::PackedSet;
-use pep_clause::{Clause, ClauseFault};
+use pep_clause::{Clause, ClauseFault, VersionSet};
 use pep_require::RequireFault;
 use std::alloc::{AllocError, Global};
 
@@ -53,22 +63,6 @@ fn keep(demand: PackedSet, demands: &mut LineDemands) -> Result<(), AllocError>
     }
     demands.meet(demand.bounds);
     Ok(())
-}
-
-// Keeps what the clause demands, where this was found of it.
-fn keep_found(
-    alloc: Global,
-    clause: &Clause,
-    found: Option<PackedSet>,
-    demands: &mut LineDemands,
-) -> Result<(), AllocError>
-    requires { IfSome found (λ demand. DemandsRanges clause.now (ranges_in demand)) }
-    ensures { OnOk result (AddsClause clause.now demands.old demands.new) }
-{
-    match found {
-        Some(demand) => keep(demand, demands),
-        None => demands.put_clause(alloc, clause),
-    }
 }
 
 // Keeps what the clause in front of the text demands, of which no packed cuts were told, and gives what is behind it.
@@ -124,37 +118,56 @@ impl ClauseMemory {
         ensures refused { IfErr result (λ e. (e ≡ RequireFault.NoMemory) ⊎ RefusesBound text.now e) }
     {
         let (piece, rest) = cut_piece(text);
+        let kept = self.take_piece(alloc, piece, demands)?;
+        if kept {
+            return Ok(rest);
+        }
+        // Where the line is refused, the whole text tells how.
+        take_unplaced(alloc, text, demands)
+    }
+
+    // Keeps what the clause demands that the text is, and tells whether it did: not where that is a text, where it is
+    // remembered without packed cuts, or where the text is no clause.
+    fn take_piece(
+        &mut self,
+        alloc: Global,
+        piece: &str,
+        demands: &mut LineDemands,
+    ) -> Result<bool, AllocError>
+        ensures kept { IfOk result (λ kept. IsTrue kept
+            → TakesWhole piece.now demands.old demands.new) }
+        ensures same { IfOk result (λ kept. kept ≡ false → demands.new ≡ demands.old) }
+    {
         match self.known(piece) {
-            Some(Some(demand)) => {
+            Known::Packed(demand) => {
                 keep(demand, demands)?;
-                Ok(rest)
+                Ok(true)
             }
-            Some(None) => take_unplaced(alloc, text, demands),
-            None => self.take_new(alloc, text, demands),
+            Known::Unpacked => Ok(false),
+            Known::Nothing => self.take_new(alloc, piece, demands),
         }
     }
 
-    // The same of one that isn't remembered. If it is short, it is remembered then.
-    fn take_new<'a>(
+    // The same of a clause that isn't remembered. If it is short, it is remembered then.
+    fn take_new(
         &mut self,
         alloc: Global,
-        text: &'a str,
+        piece: &str,
         demands: &mut LineDemands,
-    ) -> Result<&'a str, RequireFault>
-        ensures taken { IfOk result (λ rest. TakesFront text.now rest.now demands.old demands.new) }
-        ensures refused { IfErr result (λ e. (e ≡ RequireFault.NoMemory) ⊎ RefusesBound text.now e) }
+    ) -> Result<bool, AllocError>
+        ensures kept { IfOk result (λ kept. IsTrue kept
+            → TakesWhole piece.now demands.old demands.new) }
+        ensures same { IfOk result (λ kept. kept ≡ false → demands.new ≡ demands.old) }
     {
-        let (piece, rest) = cut_piece(text);
         match Clause::at_front(alloc, piece) {
-            Ok((clause, left)) if left.is_empty() => {
-                let found = demand_of(alloc, &clause)?;
-                self.remember(alloc, piece, &found)?;
-                keep_found(alloc, &clause, found, demands)?;
-                Ok(rest)
+            Ok((clause, left)) if left.is_empty() && clause.exact_text().is_none() => {
+                let versions = VersionSet::of(alloc, &clause).map_err(|_| AllocError)?;
+                self.remember(alloc, piece, &PackedSet::of(&versions))?;
+                demands.admit(versions)?;
+                Ok(true)
             }
-            Err(ClauseFault::NoMemory) => Err(RequireFault::NoMemory),
-            // The line is refused. How, the whole text tells.
-            _ => take_unplaced(alloc, text, demands),
+            Err(ClauseFault::NoMemory) => Err(AllocError),
+            _ => Ok(false),
         }
     }
 }

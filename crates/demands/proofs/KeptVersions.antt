@@ -1,22 +1,20 @@
--- The versions that are kept between two packed cuts and beside them: moved inwards, met with one set more, and as ranges.
+-- The versions that are kept between two packed cuts and beside them: met with others, and as ranges.
 use Rattle.std.proofs.Common.{◌≡◌, ◌&&◌, Bool, true, false, List, refl, sym, ap, ◌∙◌}
 use Rattle.std.proofs.Common.{Option, Some, None, subst}
 use Rattle.std.proofs.Math.Bool.{and_assoc}
-use Rattle.std.specs.Ordering.{is_lt}
 use Rattle.texts.proofs.Connectives.{and_given}
-use Rattle.pep_clause.specs.Cut.{Cut, IsCut, cut_cmp, end, least}
-use Rattle.pep_clause.specs.Way.Joined.{earlier, joined, later}
+use Rattle.pep_clause.specs.Cut.{Cut, IsCut, end, least}
+use Rattle.pep_clause.specs.Way.Joined.{joined}
 use Rattle.pep_clause.specs.OperatorTable.{range}
 use Rattle.pep_clause.specs.VersionSet.{IsNormal, Range, all_versions, is_point}
-use Rattle.pep_clause.proofs.Between.{earlier-keeps, later-keeps}
-use Rattle.pep_clause.proofs.JoinedPoints.{is_point-joined, is_point-range, is_point-range_joined}
+use Rattle.pep_clause.proofs.JoinedPoints.{is_point-joined}
 use Rattle.pep_clause.proofs.LeastCut.{IsNormal-all_versions, point-all_versions}
 use Rattle.pep_clause.proofs.NormalJoined.{IsNormal-joined, IsNormal-range}
 use Rattle.pep_clause.proofs.OneList.{same_points}
 use Rattle.demands.specs.declared.kept_versions.Beside.{Beside}
 use Rattle.demands.specs.Join.{IsIntersection}
 use Rattle.demands.specs.Way.KeptVersions.{AreNormalParts, beside_versions}
-use Rattle.demands.specs.Way.PartialJoins.{AreKept, AreNormal, joined_sets, kept_versions}
+use Rattle.demands.specs.Way.PartialJoins.{AreKept, joined_sets, kept_versions}
 use Rattle.demands.proofs.PartialJoins.{normal_sets}
 
 pub kept-normal : (l h : Cut) (s : List Range) → AreKept l h s → IsNormal (kept_versions l h s)
@@ -39,69 +37,41 @@ last_two true false true = refl
 last_two true false false = refl
 last_two false b j = refl
 
--- where the packed cuts move inwards
-pub narrowed-kept : (l h m n x y : Cut) (s : List Range) → AreKept l h s → IsCut m →
-    IsCut n → x ≡ later cut_cmp l m → y ≡ earlier cut_cmp h n → AreKept x y s
-narrowed-kept l h m n x y s k f g e d = record {
-  low = subst IsCut (sym e) (later-keeps IsCut (is_lt (cut_cmp l m)) l m k.low f);
-  high = subst IsCut (sym d) (earlier-keeps IsCut (is_lt (cut_cmp h n)) h n k.high g);
-  beside = k.beside;
+-- ---- what two lists have in common, met with another
+
+-- where the first is
+pub first-met : (a new t s : List Range) → IsNormal new → IsNormal s →
+    ((c : Cut) → is_point new c ≡ (is_point a c && is_point t c)) → IsIntersection (joined a s) t (joined new s)
+first-met a new t s n m points = record {
+  normal = IsNormal-joined new s n m;
+  points = λ cut is. is_point-joined new s cut
+      ∙ ap (λ b. b && is_point s cut) (points cut)
+      ∙ last_two (is_point a cut) (is_point t cut) (is_point s cut)
+      ∙ ap (λ b. b && is_point t cut) (sym (is_point-joined a s cut));
 }
 
-pub narrowed-versions : (l h m n x y : Cut) (s : List Range) → AreKept l h s →
-    IsCut m → IsCut n → x ≡ later cut_cmp l m → y ≡ earlier cut_cmp h n →
-    IsIntersection (kept_versions l h s) (range m n) (kept_versions x y s)
-narrowed-versions l h m n x y s k f g e d = record {
-  normal = kept-normal x y s (narrowed-kept l h m n x y s k f g e d);
-  points = λ cut is. is_point-joined (range x y) s cut
-      ∙ (λ i. is_point (range (e i) (d i)) cut && is_point s cut)
-      ∙ ap (λ b. b && is_point s cut)
-      (is_point-range_joined (record { low = l; high = h }) (record { low = m; high = n }) cut)
-      ∙ (λ i. (sym (is_point-range l h cut) i && sym (is_point-range m n cut) i) && is_point s cut)
-      ∙ last_two (is_point (range l h) cut) (is_point (range m n) cut) (is_point s cut)
-      ∙ ap (λ b. b && is_point (range m n) cut) (sym (is_point-joined (range l h) s cut));
+-- where the second is
+pub second-met : (a s new t : List Range) → IsNormal a → IsIntersection s t new →
+    IsIntersection (joined a s) t (joined a new)
+second-met a s new t n i = record {
+  normal = IsNormal-joined a new n i.normal;
+  points = λ cut is. is_point-joined a new cut
+      ∙ ap (λ b. is_point a cut && b) (i.points cut is)
+      ∙ sym (and_assoc (is_point a cut) (is_point s cut) (is_point t cut))
+      ∙ ap (λ b. b && is_point t cut) (sym (is_point-joined a s cut));
 }
+
+-- where the packed cuts move inwards
+pub narrowed-versions : (l h x y : Cut) (s t : List Range) → AreKept l h s → IsCut x × IsCut y →
+    ((c : Cut) → is_point (range x y) c ≡ (is_point (range l h) c && is_point t c)) →
+    IsIntersection (kept_versions l h s) t (kept_versions x y s)
+narrowed-versions l h x y s t k cuts points =
+    first-met (range l h) (range x y) t s (IsNormal-range x y cuts.0 cuts.1) k.beside points
 
 -- where what is beside them is met with another
 pub met-versions : (l h : Cut) (s new t : List Range) → AreKept l h s → IsIntersection s t new →
     IsIntersection (kept_versions l h s) t (kept_versions l h new)
-met-versions l h s new t k i = record {
-  normal = kept-normal l h new (record { low = k.low; high = k.high; beside = i.normal });
-  points = λ cut is. is_point-joined (range l h) new cut
-      ∙ ap (λ b. is_point (range l h) cut && b) (i.points cut is)
-      ∙ sym (and_assoc (is_point (range l h) cut) (is_point s cut) (is_point t cut))
-      ∙ ap (λ b. b && is_point t cut) (sym (is_point-joined (range l h) s cut));
-}
-
--- ---- what is beside them: what is left over, and sets
-
-pub beside-normal : (left : List Range) (sets : List (List Range)) → IsNormal left → AreNormal sets →
-    IsNormal (joined left (joined_sets sets))
-beside-normal left sets n are = IsNormal-joined left (joined_sets sets) n (normal_sets sets are)
-
--- where more is left out
-pub left-more : (left new t : List Range) (sets : List (List Range)) → IsNormal new → AreNormal sets →
-    ((c : Cut) → is_point new c ≡ (is_point left c && is_point t c)) →
-    IsIntersection (joined left (joined_sets sets)) t (joined new (joined_sets sets))
-left-more left new t sets n are points = record {
-  normal = beside-normal new sets n are;
-  points = λ cut is. is_point-joined new (joined_sets sets) cut
-      ∙ ap (λ b. b && is_point (joined_sets sets) cut) (points cut)
-      ∙ last_two (is_point left cut) (is_point t cut) (is_point (joined_sets sets) cut)
-      ∙ ap (λ b. b && is_point t cut) (sym (is_point-joined left (joined_sets sets) cut));
-}
-
--- where the sets are met with another
-pub sets-more : (left t : List Range) (sets new : List (List Range)) → IsNormal left → AreNormal new →
-    IsIntersection (joined_sets sets) t (joined_sets new) →
-    IsIntersection (joined left (joined_sets sets)) t (joined left (joined_sets new))
-sets-more left t sets new n are i = record {
-  normal = beside-normal left new n are;
-  points = λ cut is. is_point-joined left (joined_sets new) cut
-      ∙ ap (λ b. is_point left cut && b) (i.points cut is)
-      ∙ sym (and_assoc (is_point left cut) (is_point (joined_sets sets) cut) (is_point t cut))
-      ∙ ap (λ b. b && is_point t cut) (sym (is_point-joined left (joined_sets sets) cut));
-}
+met-versions l h s new t k i = second-met (range l h) s new t (IsNormal-range l h k.low k.high) i
 
 -- where what is kept beside the packed cuts of a package is met with another
 pub met-beside : (l h : Cut) (b : Beside) (whole t new : List Range) → IsCut l → IsCut h →

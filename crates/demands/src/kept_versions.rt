@@ -4,14 +4,12 @@ ghost use Rattle.std.specs.Prelude.{
   ◌≡◌,
   ◌++◌,
   IfOk,
-  IsTrue,
   List,
   OnOk,
   Some,
   map,
   option_map,
 };
-ghost use Rattle.pep_clause.specs.Cut.{IsCut, end, least};
 ghost use Rattle.pep_clause.specs.OperatorTable.{outside, range};
 ghost use Rattle.pep_clause.specs.Way.Joined.{joined};
 ghost use Rattle.pep_clause.specs.VersionSet.{IsNormal, Range, all_versions};
@@ -23,7 +21,7 @@ ghost use Rattle.demands.specs.Way.PartialJoins.{joined_sets};
 use crate::line_demands::LineDemands;
 use crate::partial_joins::{joined_of, joined_with, narrow};
 use packed_cuts::{LeftOut, PackedRange, PackedSet};
-use pep_clause::{Cut, PackedCut, VersionSet};
+use pep_clause::{Cut, VersionSet};
 use std::alloc::{AllocError, Global};
 use std::marker::Model;
 
@@ -39,8 +37,7 @@ struct Beside {
 /// the sets of clauses without packed cuts and of tables. Clauses see the ranges of the versions that are in all this.
 #[derive(Drop)]
 pub(crate) struct KeptVersions {
-    low: PackedCut,
-    high: PackedCut,
+    bounds: PackedRange,
     // All versions, where it is `None`.
     beside: Option<Box<Beside>>,
 }
@@ -54,10 +51,10 @@ impl Model for KeptVersions {
 
     ghost Value = { List Range };
 
-    ghost view = { λ v. kept_versions v.low v.high
+    ghost view = { λ v. kept_versions v.bounds.low v.bounds.high
         (beside_versions (option_map (λ b. b.value) v.beside)) };
 
-    ghost invariant = { λ v. IsCut v.low × IsCut v.high
+    ghost invariant = { λ v. IsCut v.bounds.low × IsCut v.bounds.high
         × AreNormalParts (option_map (λ b. b.value) v.beside) };
 }
 
@@ -105,21 +102,13 @@ fn left_between(
     left_out.between(alloc, bounds).map_err(|_| AllocError)
 }
 
-// Whether the two packed cuts bound nothing.
-fn is_unbounded(bounds: &PackedRange) -> bool
-    ensures { IsTrue result → (bounds.now.low ≡ least) × (bounds.now.high ≡ end) }
-{
-    bounds.low == PackedCut::least() && bounds.high == PackedCut::end()
-}
-
 impl KeptVersions {
     /// All versions.
     pub(crate) fn all() -> KeptVersions
         ensures { result ≡ all_versions }
     {
         KeptVersions {
-            low: PackedCut::least(),
-            high: PackedCut::end(),
+            bounds: PackedRange::all(),
             beside: None,
         }
     }
@@ -128,17 +117,14 @@ impl KeptVersions {
     fn in_order(&self)
         ensures { IsNormal self.now }
     {
-        let _ = &self.low;
+        let _ = &self.bounds;
     }
 
     // Keeps the versions between the bounds.
     fn narrow_to(&mut self, bounds: PackedRange)
-        requires low { IsCut bounds.low }
-        requires high { IsCut bounds.high }
         ensures { IsIntersection self.old (range bounds.low bounds.high) self.new }
     {
-        self.low = self.low.later(bounds.low);
-        self.high = self.high.earlier(bounds.high);
+        self.bounds.meet(bounds);
     }
 
     /// Keeps the versions that a line demands too, whose sets are moved. Where the line leaves none out, and each of
@@ -221,13 +207,12 @@ impl KeptVersions {
     pub(crate) fn finish(self, alloc: Global) -> Result<VersionSet, AllocError>
         ensures { IfOk result (λ s. s ≡ self) }
     {
-        let KeptVersions { low, high, beside } = self;
-        let bounds = PackedRange { low, high };
+        let KeptVersions { bounds, beside } = self;
         let Some(beside) = beside else {
             return Ok(set_between(alloc, bounds));
         };
         let Beside { left_out, sets } = Box::into_inner(beside);
-        if left_out.is_none() && is_unbounded(&bounds) {
+        if left_out.is_none() && bounds.is_all() {
             return joined_of(alloc, sets);
         }
         let left = left_between(alloc, left_out, bounds)?;

@@ -2,7 +2,6 @@
 
 ghost use Rattle.std.specs.Prelude.{◌≡◌, [], IfOk, IsTrue, OnOk};
 ghost use Rattle.specifiers.specs.Clause.{Clause, demanded, is_demanded_text};
-ghost use Rattle.pep_clause.specs.Cut.{end, least};
 ghost use Rattle.pep_clause.specs.OperatorTable.{outside, range};
 ghost use Rattle.pep_clause.specs.VersionSet.{IsNormal};
 ghost use Rattle.pep_require.specs.Requirement.{UrlParts};
@@ -14,7 +13,7 @@ ghost use Rattle.demands.specs.Table.{IsValidEntry, is_url_text};
 
 use crate::others::Others;
 use packed_cuts::{PackedRange, PackedSet};
-use pep_clause::{Clause, PackedCut, VersionSet};
+use pep_clause::{Clause, VersionSet};
 use pep_marker::Name;
 use pep_require::{Requirement, Target};
 use std::alloc::{AllocError, Global};
@@ -57,24 +56,13 @@ fn empty<T: Drop>(list: &mut Vec<T>)
     }
 }
 
-// The packed cuts between which all versions lie.
-fn unbounded() -> PackedRange
-    ensures low { result.low ≡ least }
-    ensures high { result.high ≡ end }
-{
-    PackedRange {
-        low: PackedCut::least(),
-        high: PackedCut::end(),
-    }
-}
-
 impl LineDemands {
     /// Nothing is demanded.
     pub fn new(alloc: Global) -> LineDemands
         ensures { result ≡ bare_entry }
     {
         LineDemands {
-            bounds: unbounded(),
+            bounds: PackedRange::all(),
             left_out: Vec::new(alloc),
             sets: Vec::new(alloc),
             others: Others::new(alloc),
@@ -86,7 +74,7 @@ impl LineDemands {
     pub fn clear(&mut self)
         ensures { self.new ≡ bare_entry }
     {
-        self.bounds = unbounded();
+        self.bounds = PackedRange::all();
         empty(&mut self.left_out);
         empty(&mut self.sets);
         self.others.clear();
@@ -105,10 +93,7 @@ impl LineDemands {
         ensures { (c : Clause) → DemandsRanges c (range bounds.low bounds.high)
             → AddsClause c self.old self.new }
     {
-        // Its clauses tell that both cuts are in their one spelling.
-        let _ = bounds.low.cmp(&bounds.high);
-        self.bounds.low = self.bounds.low.later(bounds.low);
-        self.bounds.high = self.bounds.high.earlier(bounds.high);
+        self.bounds.meet(bounds);
     }
 
     /// The versions that don't lie between the bounds are demanded, by a clause with `!=` that admits just these (PEP

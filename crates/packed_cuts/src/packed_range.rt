@@ -1,7 +1,9 @@
 //! The versions between two packed cuts, and those of a prefix.
 
-ghost use Rattle.std.specs.Prelude.{◌≡◌, ◌<◌, ◌≤◌, ◌↔◌, length, IfSome, IsSome};
-ghost use Rattle.pep_clause.specs.OperatorTable.{before_dev, prefix_end};
+ghost use Rattle.std.specs.Prelude.{◌≡◌, ◌<◌, ◌≤◌, ◌↔◌, ◌&&◌, [], length, IfSome, IsSome, IsTrue};
+ghost use Rattle.pep_clause.specs.Cut.{Cut, IsCut, end, least};
+ghost use Rattle.pep_clause.specs.OperatorTable.{before_dev, prefix_end, range};
+ghost use Rattle.pep_clause.specs.VersionSet.{is_point};
 ghost use Rattle.packed_cuts.specs.Way.PackedRange.{HasPrefixEnds, PrefixEndsShort, raised_last, release_prefix};
 ghost use Rattle.pep_clause.specs.PackedCut.{AreShortNumbers, four};
 
@@ -12,6 +14,51 @@ use pep_clause::PackedCut;
 pub struct PackedRange {
     pub low: PackedCut,
     pub high: PackedCut,
+}
+
+impl PackedRange {
+    /// The least cut and the end, between which all versions lie.
+    pub fn all() -> PackedRange
+        ensures low { result.low ≡ least }
+        ensures high { result.high ≡ end }
+    {
+        PackedRange {
+            low: PackedCut::least(),
+            high: PackedCut::end(),
+        }
+    }
+
+    /// The end and the least cut, between which no version lies.
+    pub fn none() -> PackedRange
+        ensures empty { range result.low result.high ≡ [] }
+        ensures spelled { IsCut result.low × IsCut result.high }
+    {
+        PackedRange {
+            low: PackedCut::end(),
+            high: PackedCut::least(),
+        }
+    }
+
+    /// Whether these are the least cut and the end.
+    pub fn is_all(&self) -> bool
+        ensures { IsTrue result ↔ ((self.now.low ≡ least) × (self.now.high ≡ end)) }
+    {
+        self.low == PackedCut::least() && self.high == PackedCut::end()
+    }
+
+    /// Moves the packed cuts inwards, to the versions that lie between the other ones too.
+    #[inline(always)]
+    pub fn meet(&mut self, other: PackedRange)
+        ensures points { (c : Cut) → is_point (range self.new.low self.new.high) c
+            ≡ (is_point (range self.old.low self.old.high) c
+            && is_point (range other.low other.high) c) }
+        ensures spelled { IsCut self.new.low × IsCut self.new.high }
+    {
+        self.low = self.low.later(other.low);
+        self.high = self.high.earlier(other.high);
+        // Its clauses tell that both cuts are in their one spelling.
+        let _ = self.low.cmp(&self.high);
+    }
 }
 
 // The release with its last number raised by one, as four numbers.

@@ -2,11 +2,11 @@
 
 ghost use Rattle.std.specs.Prelude.{◌≡◌, ◌∷◌, [], IfSome};
 ghost use Rattle.pep_clause.specs.Cut.{IsCut};
-ghost use Rattle.pep_clause.specs.OperatorTable.{outside, range};
+ghost use Rattle.pep_clause.specs.OperatorTable.{outside};
 ghost use Rattle.packed_cuts.specs.Way.PackedSet.{ranges_in};
 
 use crate::packed_range::PackedRange;
-use pep_clause::{Cut, PackedCut, Range, VersionSet};
+use pep_clause::{Cut, Range, VersionSet};
 
 /// The versions between two packed cuts, or all others.
 #[derive(Clone, Copy)]
@@ -24,17 +24,6 @@ fn between(low: &Cut, high: &Cut) -> Option<PackedRange>
         low: low.packed()?,
         high: high.packed()?,
     })
-}
-
-// No version lies between the end and the least cut.
-fn nothing() -> PackedRange
-    ensures empty { range result.low result.high ≡ [] }
-    ensures spelled { IsCut result.low × IsCut result.high }
-{
-    PackedRange {
-        low: PackedCut::end(),
-        high: PackedCut::least(),
-    }
 }
 
 // What two ranges leave out, the first of which begins under all versions, and the second of which ends behind all.
@@ -56,7 +45,7 @@ impl PackedSet {
     {
         match versions.ranges() {
             [] => Some(PackedSet {
-                bounds: nothing(),
+                bounds: PackedRange::none(),
                 outside: false,
             }),
             [range] => Some(PackedSet {

@@ -5,7 +5,8 @@ use Rattle.pep_clause.specs.Way.Joined.{joined}
 use Rattle.demands.specs.declared.kept_versions.Beside.{Beside}
 use Rattle.demands.specs.Way.KeptVersions.{AreNormalParts, beside_versions}
 use Rattle.demands.specs.Way.PartialJoins.{joined_sets, kept_versions}
-use Rattle.demands.proofs.KeptVersions.{left-more, met-beside}
+use Rattle.demands.proofs.KeptVersions.{first-met, met-beside}
+use Rattle.demands.proofs.PartialJoins.{normal_sets}
 use Rattle.demands.proofs.kept_versions.KeptVersions.leave_out.Goals as goal
 
 pub returns : goal.returns
@@ -18,6 +19,7 @@ returns c =
     ∙ ap (λ x. beside_versions (option_map (λ k. k.value) x)) c.take.ensures.value in
     let t = outside c.args.bounds.low c.args.bounds.high in
     let new = c.leave_out.new.self in
-    met-beside i.low i.high b c.args.self.now t (joined new (joined_sets b.sets.items)) c.self.invariant.0
-    c.self.invariant.1 are (ap (kept_versions i.low i.high) same ∙ c.self.view_is)
-    (left-more b.left_out new t b.sets.items c.in-Ok.ensures.normal are.1 c.in-Ok.ensures.points)
+    met-beside i.bounds.low i.bounds.high b c.args.self.now t (joined new (joined_sets b.sets.items)) c.self.invariant.0
+    c.self.invariant.1 are (ap (kept_versions i.bounds.low i.bounds.high) same ∙ c.self.view_is)
+    (first-met b.left_out new t (joined_sets b.sets.items) c.in-Ok.ensures.normal (normal_sets b.sets.items are.1)
+    c.in-Ok.ensures.points)

@@ -4,7 +4,7 @@ use Rattle.pep_clause.specs.Way.Joined.{joined}
 use Rattle.demands.specs.declared.kept_versions.Beside.{Beside}
 use Rattle.demands.specs.Way.KeptVersions.{AreNormalParts, beside_versions}
 use Rattle.demands.specs.Way.PartialJoins.{joined_sets, kept_versions}
-use Rattle.demands.proofs.KeptVersions.{met-beside, sets-more}
+use Rattle.demands.proofs.KeptVersions.{met-beside, second-met}
 use Rattle.demands.proofs.kept_versions.KeptVersions.meet_beside.Goals as goal
 
 pub returns : goal.returns
@@ -17,6 +17,6 @@ returns c =
     ∙ ap (λ x. beside_versions (option_map (λ k. k.value) x)) c.take.ensures.value in
     let t = c.args.other in
     let new = c.narrow.new.sets.items in
-    met-beside i.low i.high b c.args.self.now t (joined b.left_out (joined_sets new)) c.self.invariant.0
-    c.self.invariant.1 are (ap (kept_versions i.low i.high) same ∙ c.self.view_is)
-    (sets-more b.left_out t b.sets.items new are.0 c.in_ok-narrow.ensures.normal c.in_ok-narrow.ensures.ok)
+    met-beside i.bounds.low i.bounds.high b c.args.self.now t (joined b.left_out (joined_sets new)) c.self.invariant.0
+    c.self.invariant.1 are (ap (kept_versions i.bounds.low i.bounds.high) same ∙ c.self.view_is)
+    (second-met b.left_out (joined_sets b.sets.items) (joined_sets new) t are.0 c.in_ok-narrow.ensures.ok)

@@ -12,9 +12,9 @@ returns c =
     let i = c.self.inside in
     let b = c.args.bounds in
     let s = beside_versions (option_map (λ x. x.value) i.beside) in
-    let low = c.later-self-inside in
-    let high = c.earlier-self-inside in
-    subst (λ old. IsIntersection old (range b.low b.high) (kept_versions low.result high.result s)) c.self.view_is
-    (narrowed-versions i.low i.high b.low b.high low.result high.result s
-    (kept-parts i.low i.high (option_map (λ x. x.value) i.beside) c.self.invariant.0 c.self.invariant.1 c.self.invariant.2)
-    c.requires.low c.requires.high low.ensures high.ensures)
+    let new = c.meet.new.self in
+    let t = range b.low b.high in
+    subst (λ old. IsIntersection old t (kept_versions new.low new.high s)) c.self.view_is
+    (narrowed-versions i.bounds.low i.bounds.high new.low new.high s t
+    (kept-parts i.bounds.low i.bounds.high (option_map (λ x. x.value) i.beside) c.self.invariant.0 c.self.invariant.1
+    c.self.invariant.2) c.meet.ensures.spelled c.meet.ensures.points)
