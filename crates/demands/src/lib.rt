@@ -13,6 +13,7 @@ mod package_demands;
 mod partial_joins;
 mod same;
 mod sorted;
+mod text_list;
 mod verdict;
 
 pub use crate::entry::Entry;
@@ -22,4 +23,5 @@ pub use crate::line_demands::LineDemands;
 pub use crate::others::OtherTexts;
 pub use crate::package_demands::{Finished, PackageDemands};
 pub use crate::sorted::{Kept, Sorted};
+pub use crate::text_list::TextList;
 pub use crate::verdict::{Answer, Verdict};

@@ -16,7 +16,8 @@ use Rattle.demands.specs.Gathering.{TakesIf}
 use Rattle.demands.specs.Join.{JoinsTables}
 use Rattle.demands.specs.Table.{HasExactPoints, IsTable, IsValidTable}
 use Rattle.demands.specs.Table.{TableDemands, TableParts, entry_at}
-use Rattle.inputs.specs.Way.Wanted.{TakesWanted, Wanted, wanted_part, wants}
+use Rattle.pep_table.specs.NamedEntry.{wanted_part}
+use Rattle.inputs.specs.Way.Wanted.{TakesWanted, Wanted, wants}
 
 -- ---- demands that count
 

@@ -46,7 +46,7 @@ ghost use Rattle.inputs.specs.Way.Wanted.{
 
 use crate::input::{Input, Kind};
 use crate::lines::{Taker, take_lines};
-use crate::table_file::table_in;
+use crate::table_file::take_table;
 use clause_memory::{DemandSink, LineSoFar};
 use documents::ProjectFile;
 use faults::{Cause, Fault, LineFault, Place};
@@ -274,11 +274,7 @@ impl<'a> DemandTaker<'a> {
             (RefusesAsInput self.now.sink Kind.Table None bytes.now) }
     {
         let environment = self.sink.environment();
-        let table = table_in(self.alloc, bytes, environment, self.wanted)?;
-        match gathering.take_table(self.alloc, table) {
-            Ok(new) => Ok(new),
-            Err(_) => Err(Cause::NoMemory),
-        }
+        take_table(self.alloc, gathering, bytes, environment, self.wanted)
     }
 
     // What is demanded so far and by an input.

@@ -1,15 +1,15 @@
 //! Table files.
 
 ghost use Rattle.std.specs.Prelude.{◌≡◌, ◌⊎◌, ℕ, IfErr, IfOk};
-ghost use Rattle.demands.specs.Table.{IsValidTable, TableParts};
-ghost use Rattle.pep_table.specs.Refused.{IsRefusedAsTable};
-ghost use Rattle.pep_table.specs.TableText.{IsReadAs};
-ghost use Rattle.inputs.specs.TableFiles.{IsRefusedTable};
-ghost use Rattle.inputs.specs.Way.Wanted.{IsPartOfFile, wanted_name, wanted_part};
+ghost use Rattle.demands.specs.Join.{JoinsTables};
+ghost use Rattle.demands.specs.Table.{TableParts};
+ghost use Rattle.pep_table.specs.NamedEntry.{wanted_part};
+ghost use Rattle.inputs.specs.TableFiles.{IsRefusedTable, IsTableFile};
+ghost use Rattle.inputs.specs.Way.Wanted.{wanted_name};
 
 use faults::{Cause, LineFault};
 use pep_marker::{Environment, Name};
-use pep_table::{Table, TableFault};
+use pep_table::{Gathering, TableFault};
 use std::alloc::Global;
 use texts::INPUT_LIMIT;
 
@@ -30,36 +30,20 @@ fn table_cause(fault: TableFault) -> Cause
     }
 }
 
-// The table that the text is read as: of the wanted name alone, where there is one.
-fn read_part(
+/// What is demanded so far and by the table that the bytes, at most 16,777,216 of them, are the text of in the
+/// environment, or the lines of: by the wanted name's entry alone, where there is one. The causes of a refusal, in this
+/// order: 56 where there are more bytes; 51 where they aren't UTF-8; 57 with 43 for the text of a table in another
+/// environment, and the first line that differs, or with 41 for the first line that can't stand in a table behind those
+/// before it (see [`Table::read`](pep_table::Table::read)). Lack of memory is 60.
+pub(crate) fn take_table(
     alloc: Global,
-    text: &str,
-    environment: &Environment,
-    wanted: Option<&Name>,
-) -> Result<Table, TableFault>
-    ensures ok { IfOk result (λ part. (t : TableParts) × IsReadAs environment.now t text.now
-        × IsValidTable t × (part ≡ wanted_part (wanted_name wanted.entry) t)) }
-    ensures refused { IfErr result (λ e. (e ≡ TableFault.NoMemory)
-        ⊎ IsRefusedAsTable environment.now text.now e) }
-{
-    match wanted {
-        Some(name) => Table::read_named(alloc, text, environment, name),
-        None => Table::read(alloc, text, environment),
-    }
-}
-
-/// The table that the bytes, at most 16,777,216 of them, are the text of in the environment, or the
-/// lines of: of the wanted name alone, where there is one. The causes of a refusal, in this order: 56
-/// where there are more bytes; 51 where they aren't UTF-8; 57 with 43 for the text of a table in
-/// another environment, and the first line that differs, or with 41 for the first line that can't stand
-/// in a table behind those before it (see [`Table::read`]). Lack of memory is 60.
-pub(crate) fn table_in(
-    alloc: Global,
+    gathering: Gathering,
     bytes: &[u8],
     environment: &Environment,
     wanted: Option<&Name>,
-) -> Result<Table, Cause>
-    ensures ok { IfOk result (IsPartOfFile environment.now (wanted_name wanted.entry) bytes.now) }
+) -> Result<Gathering, Cause>
+    ensures ok { IfOk result (λ new. (t : TableParts) × IsTableFile environment.now bytes.now t
+        × JoinsTables gathering (wanted_part (wanted_name wanted.entry) t) new) }
     ensures refused { IfErr result (λ cause. (cause ≡ Cause.NoMemory)
         ⊎ IsRefusedTable environment.now bytes.now cause) }
 {
@@ -69,8 +53,8 @@ pub(crate) fn table_in(
     let Ok(text) = std::str::from_utf8(bytes) else {
         return Err(Cause::NotUtf8);
     };
-    match read_part(alloc, text, environment, wanted) {
-        Ok(table) => Ok(table),
+    match gathering.take_text(alloc, text, environment, wanted) {
+        Ok(new) => Ok(new),
         Err(fault) => Err(table_cause(fault)),
     }
 }

@@ -21,7 +21,7 @@ use Rattle.demands.specs.Table.{EntryParts, IsValidEntry, IsValidTable, TablePar
 use Rattle.pep_table.specs.TableLaws.{alone, left_kept}
 use Rattle.demands.proofs.KeptSets.{above, same_text, text_cmp}
 
-abbrev Named : Type 0
+abbrev pub Named : Type 0
 Named = List ℕ × EntryParts
 
 -- ---- an entry behind others
@@ -47,13 +47,13 @@ behind_apart (q ∷ t) p rest up (inl e) =
 behind_apart (q ∷ t) p rest up (inr m) =
     behind_apart t p rest (rest_ascends q.0 (names (t ++ p ∷ rest)) up) m
 
-last_entry : (t : TableParts) (p : Named) → (IsIn (names t) p.0 → ⊥) →
+pub last_entry : (t : TableParts) (p : Named) → (IsIn (names t) p.0 → ⊥) →
     entry_at (t ++ p ∷ []) p.0 ≡ Some p.1
 last_entry [] p new = entry_first p []
 last_entry (q ∷ t) p new =
     entry_other q (t ++ p ∷ []) p.0 (λ e. new (inl (sym e))) ∙ last_entry t p (λ m. new (inr m))
 
-other_entry : (t : TableParts) (p : Named) (n : List ℕ) → (p.0 ≡ n → ⊥) →
+pub other_entry : (t : TableParts) (p : Named) (n : List ℕ) → (p.0 ≡ n → ⊥) →
     entry_at (t ++ p ∷ []) n ≡ entry_at t n
 other_entry [] p n other = entry_other p [] n other
 other_entry (q ∷ t) p n other = by (bytes_eq q.0 n) refl (other_entry t p n other)

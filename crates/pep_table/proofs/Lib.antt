@@ -24,6 +24,7 @@ pub mod ReadRanges
 pub mod ReadParts
 pub mod ToldLines
 pub mod ReadTables
+pub mod TakenEntries
 pub mod RangeWords
 pub mod TableBytes
 pub mod SameLemmas

@@ -1,7 +1,6 @@
 -- The entries of a table's text, read one by one.
 use Rattle.std.proofs.Common.{◌≡◌, ◌⊎◌, ℕ, true, List, [], ◌∷◌, ◌++◌, codes, inl, inr}
 use Rattle.std.proofs.Common.{refl, sym, ap, subst, ◌∙◌, append_assoc, append-nil, arith, length, map}
-use Rattle.std.proofs.Common.{Option, Some, None}
 use Rattle.std.specs.Prelude.{All}
 use Rattle.std.specs.List.{list_all}
 use Rattle.std.proofs.lemmas.Bool.Decides.{nat_tests}
@@ -12,14 +11,13 @@ use Rattle.pep_marker.specs.Name.{IsNormalName}
 use Rattle.pep_require.specs.Requirement.{IsAscending}
 use Rattle.pep_table.proofs.AscendingItems.{behind_one}
 use Rattle.pep_table.proofs.CutTexts.{is_plain}
-use Rattle.pep_table.proofs.EntryPlaces.{found_more}
 use Rattle.pep_table.proofs.ReadItems.{all_behind, ascending_front}
 use Rattle.pep_table.proofs.ReadParts.{one_head}
 use Rattle.pep_table.proofs.TableLines.{name_plain, regroup}
 use Rattle.demands.proofs.Verdicts.{verdict_one}
 use Rattle.demands.specs.declared.verdict.Verdict.{Verdict}
 use Rattle.pep_table.specs.Way.EntryReading.{BeginsSpace, FollowsAlike, HasHead, HasNext, HasNoHead}
-use Rattle.pep_table.specs.Way.EntryReading.{HasNoNext, found_with, wanted_entry}
+use Rattle.pep_table.specs.Way.EntryReading.{HasNoNext, TakesEntries}
 use Rattle.pep_table.specs.Way.EntryReading.{HasNoParts, HasOtherVerdict, HasParts, IsEntryAt, head_line}
 use Rattle.pep_table.specs.Way.EntryReading.{parts_then}
 use Rattle.demands.specs.Table.{EntryDemands, EntryParts, IsValidEntry, IsValidTable, TableParts}
@@ -289,55 +287,53 @@ module _ (x : List ℕ) (t : TableParts) (rest : List ℕ) (s : EntriesSoFar x t
     },
   )
 
--- ---- the entry of one name
+-- ---- entries that are taken as they are read
 
--- entries are read, of which the last name is kept, and what they have of one name
-pub record NamedSoFar (x : List ℕ) (n : Option (List ℕ)) (last : List (List ℕ))
-    (found : Option EntryParts) (rest : List ℕ) : Type 0 where
+-- entries are read, of which the last name is kept, and what is taken of them
+pub record TakenSoFar {A : Type 0} (takes : List ℕ → EntryParts → A → A → Type 0) (x : List ℕ)
+    (last : List (List ℕ)) (first taken : A) (rest : List ℕ) : Type 0 where
   pub done : TableParts
   pub entries : EntriesSoFar x done rest
   pub alike : FollowsAlike (names done) last
-  pub kept : found ≡ wanted_entry done n
+  pub made : TakesEntries takes done first taken
 
-none_wanted : (n : Option (List ℕ)) → None ≡ wanted_entry [] n
-none_wanted None = refl
-none_wanted (Some n) = refl
-
-pub none_named : (x : List ℕ) (n : Option (List ℕ)) → NamedSoFar x n [] None x
-none_named x n = record {
+pub none_taken : {A : Type 0} (takes : List ℕ → EntryParts → A → A → Type 0) (x : List ℕ) (first : A) →
+    TakenSoFar takes x [] first first x
+none_taken takes x first = record {
   done = [];
   entries = none_read x;
   alike = λ m. ((λ h. h), λ h. h);
-  kept = none_wanted n;
+  made = refl;
 }
 
-wanted_more : (t : TableParts) (p : List ℕ × EntryParts) (n : Option (List ℕ))
-    (found : Option EntryParts) → IsAscending (names (t ++ p ∷ [])) → found ≡ wanted_entry t n →
-    found_with n p.0 p.1 found ≡ wanted_entry (t ++ p ∷ []) n
-wanted_more t p None found up kept = kept
-wanted_more t p (Some n) found up kept = found_more t p n found up kept
+one_more : {A : Type 0} (takes : List ℕ → EntryParts → A → A → Type 0) (t : TableParts) (p : List ℕ × EntryParts)
+    (old mid new : A) → TakesEntries takes t old mid → takes p.0 p.1 mid new →
+    TakesEntries takes (t ++ p ∷ []) old new
+one_more takes [] p old mid new h g = (new, subst (λ o. takes p.0 p.1 o new) (sym h) g, refl)
+one_more takes (q ∷ t) p old mid new (m, s, h) g = (m, s, one_more takes t p m mid new h g)
 
-module _ (x : List ℕ) (n : Option (List ℕ)) (last : List (List ℕ)) (found : Option EntryParts) (rest : List ℕ)
-    (s : NamedSoFar x n last found rest) where
-  pub named_read : length rest ≡ 0 →
-      (t : TableParts) × AreTableLines t x × IsValidTable t × (found ≡ wanted_entry t n)
-  named_read e = (s.done, all_read x s.done rest s.entries e, s.entries.valid, s.kept)
+pub all_taken : {A : Type 0} (takes : List ℕ → EntryParts → A → A → Type 0) (x : List ℕ) (last : List (List ℕ))
+    (first taken : A) (rest : List ℕ) → TakenSoFar takes x last first taken rest → length rest ≡ 0 →
+    (t : TableParts) × IsValidTable t × AreTableLines t x × TakesEntries takes t first taken
+all_taken takes x last first taken rest s e =
+    (s.done, s.entries.valid, all_read x s.done rest s.entries e, s.made)
 
-  pub no_named : ¬ (rest ≡ []) → HasNoNext last rest → AreNoLines x
-  no_named some none =
-      no_next x s.done rest s.entries some (none_alike (names s.done) last rest s.alike none)
+pub none_behind : {A : Type 0} (takes : List ℕ → EntryParts → A → A → Type 0) (x : List ℕ) (last : List (List ℕ))
+    (first taken : A) (rest : List ℕ) → TakenSoFar takes x last first taken rest → ¬ (rest ≡ []) →
+    HasNoNext last rest → AreNoLines x
+none_behind takes x last first taken rest s some none =
+    no_next x s.done rest s.entries some (none_alike (names s.done) last rest s.alike none)
 
-  pub named_more : (name : List ℕ) (e : EntryParts) (behind : List ℕ) → ¬ (rest ≡ []) →
-      HasNext last rest name e behind → NamedSoFar x n (name ∷ [])
-      (found_with n name e found) behind
-  named_more name e behind some next =
-      let own = next_alike (names s.done) last rest s.alike name e behind next in
-      let more = entry_more x s.done rest s.entries name e behind some own in
-      let split = map-append (λ q. q.0) s.done ((name, e) ∷ []) in
-      record {
-        done = s.done ++ (name, e) ∷ [];
-        entries = more;
-        alike = subst (λ l. FollowsAlike l (name ∷ [])) (sym split)
-            (behind_one (names s.done) name own.next.behind);
-        kept = wanted_more s.done (name, e) n found more.valid.names.0 s.kept;
-      }
+pub taken_more : {A : Type 0} (takes : List ℕ → EntryParts → A → A → Type 0) (x : List ℕ) (last : List (List ℕ))
+    (first taken : A) (rest : List ℕ) → TakenSoFar takes x last first taken rest →
+    (name : List ℕ) (e : EntryParts) (behind : List ℕ) (new : A) → ¬ (rest ≡ []) →
+    HasNext last rest name e behind → takes name e taken new → TakenSoFar takes x (name ∷ []) first new behind
+taken_more takes x last first taken rest s name e behind new some next step =
+    let own = next_alike (names s.done) last rest s.alike name e behind next in
+    let split = map-append (λ q. q.0) s.done ((name, e) ∷ []) in
+    record {
+      done = s.done ++ (name, e) ∷ [];
+      entries = entry_more x s.done rest s.entries name e behind some own;
+      alike = subst (λ l. FollowsAlike l (name ∷ [])) (sym split) (behind_one (names s.done) name own.next.behind);
+      made = one_more takes s.done (name, e) first taken new s.made step;
+    }

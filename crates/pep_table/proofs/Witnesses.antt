@@ -21,7 +21,7 @@ use Rattle.demands.specs.Table.{EntryParts, IsTable, IsValidTable, TableParts, e
 use Rattle.demands.specs.declared.fault.TableFault.{TableFault}
 use Rattle.demands.specs.declared.fault.TableFault.TheVariants as fault
 use Rattle.demands.specs.declared.verdict.Verdict.TheVariants.{Conflict}
-use Rattle.pep_table.specs.Way.EntryReading.{found_with}
+use Rattle.pep_table.specs.NamedEntry.{wanted_part}
 use Rattle.pep_table.specs.TableText.{AreNoLines, IsTableText, Shows, entry_text}
 
 abbrev named : List ℕ → EntryParts → TableParts
@@ -128,8 +128,9 @@ Table_of-undefined_counted_from_zero (inr h) =
     absurd (omega (arith, ap number_of h.is, numbered 0, numbered (length h.before + 1)))
 
 -- `a` wanted, and the entry of `a`
-pub Table_read_named-another_name : ¬ (None ≡ found_with (Some (codes "a")) (codes "a") bare_entry None)
-Table_read_named-another_name e = cc e
+pub Gathering_take_text-another_name : ¬ JoinsTables []
+    (wanted_part (Some (codes "a")) (named (codes "a") bare_entry)) []
+Gathering_take_text-another_name h = cc (h.entries (codes "a"))
 
 -- no entry
 pub Table_text-without_the_header : ¬ IsTableText nowhere [] []

@@ -1,20 +1,24 @@
 //! What requirements and tables demand, gathered one by one.
 
 ghost use Rattle.std.specs.Prelude.{◌≡◌, ◌⊎◌, ◌++◌, ◌∷◌, [], IfErr, IfOk, OnOk, length, string_bytes};
+ghost use Rattle.std.specs.Option.{option_copied};
 ghost use Rattle.pep_require.specs.Requirement.{HasUndefinedMarker, RequirementParts};
 ghost use Rattle.pep_require.specs.View.{requirement_parts};
 ghost use Rattle.demands.specs.Gathering.{TakesApplying, TakesRequirement};
 ghost use Rattle.demands.specs.Join.{JoinsTables};
 ghost use Rattle.demands.specs.Way.LineDemands.{DemandsEntry};
-ghost use Rattle.demands.specs.Table.{IsValidEntry, IsValidTable};
+ghost use Rattle.demands.specs.Table.{IsValidEntry, IsValidTable, TableParts};
 ghost use Rattle.demands.specs.declared.verdict.Verdict.{Verdict};
-ghost use Rattle.pep_table.specs.TableText.{IsTableText, Shows, entry_text};
+ghost use Rattle.pep_table.specs.NamedEntry.{wanted_part};
+ghost use Rattle.pep_table.specs.Refused.{IsRefusedAsTable};
+ghost use Rattle.pep_table.specs.TableText.{IsReadAs, IsTableText, Shows, entry_text};
 
 use crate::gathered::{Gathered, GatheredEntries};
 use crate::printout::{Printout, Row, Rows};
+use crate::read::{EntryTaker, read_text};
 use crate::table::Table;
 use crate::text::header_of;
-use demands::{LineDemands, PackageDemands, TableFault};
+use demands::{Entry, LineDemands, PackageDemands, TableFault};
 use pep_marker::{Environment, MarkerFault, Name, WrittenName};
 use pep_require::Requirement;
 use std::alloc::{AllocError, Global};
@@ -52,6 +56,37 @@ fn push_gathered(
 {
     let row = Row::of(alloc, name, gathered)?;
     row.put_text(text)
+}
+
+// Joins what is demanded with the entries of a table: with that of the wanted name alone, where one is wanted.
+#[derive(Drop)]
+struct Joining<'a> {
+    alloc: Global,
+    wanted: Option<&'a Name>,
+}
+
+impl EntryTaker for Joining<'_> {
+    ghost use Rattle.std.specs.Prelude.{◌∷◌, []};
+    ghost use Rattle.std.specs.Option.{option_copied};
+    ghost use Rattle.demands.specs.Join.{JoinsTables};
+    ghost use Rattle.pep_table.specs.NamedEntry.{wanted_part};
+
+    type Taken = Gathering;
+
+    ghost takes = { λ j name entry old new.
+        JoinsTables old (wanted_part (option_copied j.wanted) ((name, entry) ∷ [])) new };
+
+    fn take(
+        &self,
+        gathering: Gathering,
+        name: &Name,
+        entry: Entry,
+    ) -> Result<Gathering, AllocError> {
+        match self.wanted {
+            Some(wanted) if *name != *wanted => Ok(gathering),
+            _ => gathering.join(self.alloc, name, entry),
+        }
+    }
 }
 
 impl Gathering {
@@ -94,6 +129,20 @@ impl Gathering {
             Some(gathered) => Box::into_inner(gathered).into_entries(),
             None => Gathered::new(alloc).into_entries(),
         }
+    }
+
+    // What is demanded so far and by the entry of a name.
+    fn join(self, alloc: Global, name: &Name, entry: Entry) -> Result<Gathering, AllocError>
+        ensures { IfOk result (JoinsTables self ((name.now, entry) ∷ [])) }
+    {
+        let Ok(name) = name.copied(alloc) else {
+            return Err(AllocError);
+        };
+        let mut gathered = self.opened(alloc)?;
+        gathered.join(alloc, name, entry)?;
+        Ok(Gathering {
+            gathered: Some(gathered),
+        })
     }
 
     /// What is demanded so far and by the requirement, whatever its marker. The only fault is
@@ -147,6 +196,27 @@ impl Gathering {
         Ok(Gathering {
             gathered: Some(gathered),
         })
+    }
+
+    /// What is demanded so far and by the table whose text this is in the environment, or whose lines, as by
+    /// [`Table::read`]: of the wanted name alone, where there is one. Each entry is taken as it is read, so the table
+    /// takes no memory. The faults are those of `Table::read`. Public for the crates above alone.
+    pub fn take_text(
+        self,
+        alloc: Global,
+        text: &str,
+        environment: &Environment,
+        wanted: Option<&Name>,
+    ) -> Result<Gathering, TableFault>
+        ensures joined { IfOk result (λ new. (t : TableParts) × IsValidTable t
+            × IsReadAs environment.now t text.now
+            × JoinsTables self (wanted_part (option_copied wanted.entry) t) new) }
+        ensures refused { IfErr result (λ e. (e ≡ TableFault.NoMemory)
+            ⊎ IsRefusedAsTable environment.now text.now e) }
+    {
+        // Its clause tells that what is demanded is a table.
+        let _ = &self.gathered;
+        read_text(alloc, text, environment, &Joining { alloc, wanted }, self)
     }
 
     /// What is demanded so far, and of one package by a line, whose sets are moved: the line may be anything until it

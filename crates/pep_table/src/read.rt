@@ -2,13 +2,12 @@
 
 mod items;
 mod ranges;
+mod taker;
 
 ghost use Rattle.std.specs.Prelude.{◌≡◌, ◌≤◌, ◌+◌, ◌⊎◌, ◌↔◌, ◌++◌, ◌∷◌, [], ℕ, List};
 ghost use Rattle.std.specs.Prelude.{IfErr, IfOk, IfSome, IsTrue, None, Some};
-ghost use Rattle.std.specs.Option.{option_copied};
 ghost use Rattle.pep_require.specs.Requirement.{IsAscending};
 ghost use Rattle.pep_table.specs.Way.EntryReading.{
-  FollowsAlike,
   HasHead,
   HasNext,
   HasNoHead,
@@ -16,12 +15,10 @@ ghost use Rattle.pep_table.specs.Way.EntryReading.{
   HasNoParts,
   HasOtherVerdict,
   HasParts,
-  found_with,
+  TakesEntries,
   last_name,
-  wanted_entry,
 };
-ghost use Rattle.demands.specs.Table.{IsValidTable, TableParts, entry_at, names};
-ghost use Rattle.pep_table.specs.NamedEntry.{entry_alone};
+ghost use Rattle.demands.specs.Table.{IsValidTable, TableParts};
 ghost use Rattle.pep_marker.specs.Environment.{IsEnvironment};
 ghost use Rattle.pep_marker.specs.Header.{FindsHeader};
 ghost use Rattle.pep_table.specs.Refused.{AreIndented, BeginsEntry, IsRefusedAsTable, feeds};
@@ -31,6 +28,8 @@ ghost use Rattle.demands.specs.Verdict.{verdict_word};
 
 use crate::read::items::{Extras, TextLines, listed_name, read_items};
 use crate::read::ranges::read_ranges;
+pub(crate) use crate::read::taker::EntryTaker;
+use crate::read::taker::{Listing, Reading};
 use crate::table::Table;
 use demands::{Entry, TableFault, Verdict};
 use pep_marker::{Environment, HeaderIn, Name};
@@ -136,17 +135,6 @@ fn is_behind(last: Option<&Name>, name: &Name) -> bool
     }
 }
 
-// The name of the last entry.
-fn name_of_last(entries: &[(Name, Entry)]) -> Option<&Name>
-    requires { IsAscending (names entries.now) }
-    ensures { FollowsAlike (names entries.now) (last_name result) }
-{
-    match entries.last() {
-        Some((last, _)) => Some(last),
-        None => None,
-    }
-}
-
 // The parts of an entry with this verdict, and the text behind them. The entry begins with `text`.
 fn read_judged<'a>(
     alloc: Global,
@@ -189,61 +177,28 @@ fn read_entry<'a>(
     }
 }
 
-// The entries of a table's lines.
-fn read_entries(alloc: Global, text: &str) -> Result<Vec<(Name, Entry)>, Halt<'_>>
-    ensures ok { IfOk result (λ entries. IsValidTable entries.items
-        × AreTableLines entries.items text.now) }
-    ensures refused { IfErr result (λ e. (e ≡ Halt.NoMemory) ⊎ AreNoLines text.now) }
-    ensures stops { IfErr result (HaltsAt (StopsIn text.now)) }
-{
-    let mut entries = Vec::new(alloc);
-    let mut rest = text;
-    while !rest.is_empty() {
-        let last = name_of_last(entries.as_slice());
-        let (name, entry, behind) = read_entry(alloc, last, rest)?;
-        entries.push((name, entry))?;
-        rest = behind;
-    }
-    Ok(entries)
-}
-
-// What was found before, or this entry where it has the wanted name.
-fn found_with(
-    found: Option<Entry>,
-    wanted: Option<&Name>,
-    name: &Name,
-    entry: Entry,
-) -> Option<Entry>
-    ensures { result ≡ found_with (option_copied wanted.entry) name.now entry found }
-{
-    match wanted {
-        Some(wanted) if *name == *wanted => Some(entry),
-        _ => found,
-    }
-}
-
-// The entry of the wanted name, where one is wanted, in a table's lines, if there is one. All
-// entries are read, and the others dropped.
-fn read_wanted<'a>(
+// What the taker makes of the entries of a table's lines.
+fn read_entries<'a, T: EntryTaker>(
     alloc: Global,
     text: &'a str,
-    wanted: Option<&Name>,
-) -> Result<Option<Entry>, Halt<'a>>
-    ensures ok { IfOk result (λ found. (t : TableParts) × AreTableLines t text.now
-        × IsValidTable t × (found ≡ wanted_entry t (option_copied wanted.entry))) }
+    taker: &T,
+    taken: T::Taken,
+) -> Result<T::Taken, Halt<'a>>
+    ensures ok { IfOk result (λ new. (t : TableParts) × IsValidTable t × AreTableLines t text.now
+        × TakesEntries (T.takes taker.now) t taken new) }
     ensures refused { IfErr result (λ e. (e ≡ Halt.NoMemory) ⊎ AreNoLines text.now) }
     ensures stops { IfErr result (HaltsAt (StopsIn text.now)) }
 {
+    let mut taken = taken;
     let mut last = None;
-    let mut found = None;
     let mut rest = text;
     while !rest.is_empty() {
         let (name, entry, behind) = read_entry(alloc, last.as_ref(), rest)?;
-        found = found_with(found, wanted, &name, entry);
+        taken = taker.take(taken, &name, entry)?;
         last = Some(name);
         rest = behind;
     }
-    Ok(found)
+    Ok(taken)
 }
 
 // The number of the line at which this rest of the text begins, counted from 1.
@@ -289,19 +244,6 @@ fn halted(text: &str, halt: Halt<'_>) -> TableFault
     }
 }
 
-// The table of these lines, with which the text ends.
-fn table_of_lines(alloc: Global, text: &str, lines: &str) -> Result<Table, TableFault>
-    ensures lines { IfOk result (λ t. AreTableLines t lines.now) }
-    ensures valid { IfOk result (λ t. IsValidTable t) }
-    ensures refused { IfErr result (λ e. (e ≡ TableFault.NoMemory)
-        ⊎ (TellsLine text.now lines.now e × AreNoLines lines.now)) }
-{
-    match read_entries(alloc, lines) {
-        Ok(entries) => Ok(Table::of_entries(entries)),
-        Err(halt) => Err(halted(text, halt)),
-    }
-}
-
 // Why a text is refused that has the header of another environment, which differs at this line,
 // and these lines behind it.
 fn other_fault(alloc: Global, text: &str, number: usize, lines: &str) -> TableFault
@@ -310,7 +252,7 @@ fn other_fault(alloc: Global, text: &str, number: usize, lines: &str) -> TableFa
         × (t : TableParts) × IsValidTable t × AreTableLines t lines.now)
         ⊎ (TellsLine text.now lines.now result × AreNoLines lines.now) }
 {
-    match read_wanted(alloc, lines, None) {
+    match read_entries(alloc, lines, &Reading, ()) {
         Ok(_) => TableFault::OtherEnvironment(number),
         Err(halt) => halted(text, halt),
     }
@@ -346,6 +288,27 @@ fn lines_to_read<'a>(
     }
 }
 
+/// What the taker makes of the entries of the table whose text this is in the environment, or whose lines. The faults
+/// are those of [`Table::read`].
+pub(crate) fn read_text<T: EntryTaker>(
+    alloc: Global,
+    text: &str,
+    environment: &Environment,
+    taker: &T,
+    taken: T::Taken,
+) -> Result<T::Taken, TableFault>
+    ensures ok { IfOk result (λ new. (t : TableParts) × IsValidTable t × IsReadAs environment.now t text.now
+        × TakesEntries (T.takes taker.now) t taken new) }
+    ensures refused { IfErr result (λ e. (e ≡ TableFault.NoMemory)
+        ⊎ IsRefusedAsTable environment.now text.now e) }
+{
+    let lines = lines_to_read(alloc, text, environment)?;
+    match read_entries(alloc, lines, taker, taken) {
+        Ok(new) => Ok(new),
+        Err(halt) => Err(halted(text, halt)),
+    }
+}
+
 impl Table {
     /// The table whose text this is in the environment, as `Table::text` writes it, the verdict words
     /// included, or whose lines alone it is.
@@ -362,29 +325,13 @@ impl Table {
         ensures refused { IfErr result (λ e. (e ≡ TableFault.NoMemory)
             ⊎ IsRefusedAsTable environment.now text.now e) }
     {
-        let lines = lines_to_read(alloc, text, environment)?;
-        table_of_lines(alloc, text, lines)
-    }
-
-    /// What the table has of one name whose text this is in the environment, or whose lines: a table
-    /// of its entry alone, or of nothing where there is none. The whole text is read, and refused as
-    /// by [`Table::read`]; of the other entries none is kept.
-    pub fn read_named(
-        alloc: Global,
-        text: &str,
-        environment: &Environment,
-        name: &Name,
-    ) -> Result<Table, TableFault>
-        ensures text { IfOk result (λ part. (t : TableParts) × IsReadAs environment.now t text.now
-            × IsValidTable t × (part ≡ entry_alone name.now (entry_at t name.now))) }
-        ensures valid { IfOk result (λ part. IsValidTable part) }
-        ensures refused { IfErr result (λ e. (e ≡ TableFault.NoMemory)
-            ⊎ IsRefusedAsTable environment.now text.now e) }
-    {
-        let lines = lines_to_read(alloc, text, environment)?;
-        match read_wanted(alloc, lines, Some(name)) {
-            Ok(found) => Ok(Table::alone(alloc, name, found)?),
-            Err(halt) => Err(halted(text, halt)),
-        }
+        let entries = read_text(
+            alloc,
+            text,
+            environment,
+            &Listing { alloc },
+            Vec::new(alloc),
+        )?;
+        Ok(Table::of_entries(entries))
     }
 }

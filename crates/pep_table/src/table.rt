@@ -8,7 +8,6 @@ ghost use Rattle.demands.specs.Demand.{ApplyingDemands};
 ghost use Rattle.demands.specs.Gathering.{IsFirstUndefined};
 ghost use Rattle.demands.specs.Table.{HasExactPoints, IsTable, IsValidTable, entry_at};
 ghost use Rattle.pep_table.specs.EntryRanges.{HasFewEntryRanges};
-ghost use Rattle.pep_table.specs.NamedEntry.{entry_alone};
 
 use crate::gathering::Gathering;
 use demands::{Entry, Join, Kept, TableFault};
@@ -61,23 +60,6 @@ impl Table {
         ensures { result ≡ entries.items }
     {
         Table { entries }
-    }
-
-    /// The table of one name with its entry, or of nothing.
-    pub(crate) fn alone(
-        alloc: Global,
-        name: &Name,
-        entry: Option<Entry>,
-    ) -> Result<Table, AllocError>
-        requires { IsValidTable (entry_alone name.now entry) }
-        ensures { IfOk result (λ t. t ≡ entry_alone name.now entry) }
-    {
-        let Some(entry) = entry else {
-            return Ok(Table::empty(alloc));
-        };
-        let mut entries = Vec::with_capacity(alloc, 1)?;
-        entries.push((name.kept(alloc).map_err(|_| AllocError)?, entry))?;
-        Ok(Table::of_entries(entries))
     }
 
     /// The names in byte order, each with its entry.

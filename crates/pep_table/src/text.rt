@@ -28,11 +28,11 @@ ghost use Rattle.demands.specs.Verdict.{verdict_word};
 ghost use Rattle.texts.specs.TextOut.{Extends};
 
 use crate::table::Table;
-use demands::{Entry, Finished, Kept, OtherTexts, TableFault, Verdict};
+use demands::{Entry, Finished, OtherTexts, TableFault, TextList, Verdict};
 use pep_clause::Range;
 use pep_marker::{Environment, Name};
 use std::alloc::{AllocError, Global};
-use texts::{Arena, TextOut};
+use texts::TextOut;
 
 fn put_line<T: TextOut>(text: &mut T, kind: &str, value: &str) -> Result<(), T::Fault>
     ensures ok { OnOk result (T.tells → T.written text.new ≡ T.written text.old
@@ -47,25 +47,14 @@ fn put_line<T: TextOut>(text: &mut T, kind: &str, value: &str) -> Result<(), T::
     Ok(())
 }
 
-fn put_kind<T: TextOut, K: Kept>(text: &mut T, kind: &str, values: &[K]) -> Result<(), T::Fault>
+// Writes a line of a kind for each of the texts.
+fn put_texts<T: TextOut, L: TextList>(text: &mut T, kind: &str, texts: &L) -> Result<(), T::Fault>
     ensures ok { OnOk result (T.tells → T.written text.new ≡ T.written text.old
-        ++ kind_lines kind.now (map K.text values.now)) }
+        ++ kind_lines kind.now (L.texts texts.now)) }
     ensures kept { OnErr result (T.tells → Extends (T.written text.old) (T.written text.new)) }
 {
-    for value in values {
-        put_line(text, kind, value.as_text())?;
-    }
-    Ok(())
-}
-
-// Writes a line for each of the texts.
-fn put_texts<T: TextOut>(text: &mut T, kind: &str, texts: &Arena) -> Result<(), T::Fault>
-    ensures ok { OnOk result (T.tells → T.written text.new ≡ T.written text.old
-        ++ kind_lines kind.now texts.now) }
-    ensures kept { OnErr result (T.tells → Extends (T.written text.old) (T.written text.new)) }
-{
-    for i in 0..texts.len() {
-        put_line(text, kind, texts.text(i))?;
+    for i in 0..texts.count() {
+        put_line(text, kind, texts.text_at(i))?;
     }
     Ok(())
 }
@@ -106,15 +95,24 @@ fn put_head<T: TextOut>(text: &mut T, name: &str, verdict: Verdict) -> Result<()
     Ok(())
 }
 
-// Writes the lines of what an entry demands besides versions.
-fn put_sorted<T: TextOut>(text: &mut T, entry: &Entry) -> Result<(), T::Fault>
+// Writes the lines of what is demanded besides versions.
+fn put_others<T: TextOut, E: TextList, L: TextList>(
+    text: &mut T,
+    extras: &E,
+    urls: &L,
+    texts: &L,
+) -> Result<(), T::Fault>
     ensures ok { OnOk result (T.tells → T.written text.new ≡ T.written text.old
-        ++ other_lines (other_parts entry.now)) }
+        ++ other_lines (record {
+          extras = E.texts extras.now;
+          urls = L.texts urls.now;
+          texts = L.texts texts.now;
+        })) }
     ensures kept { OnErr result (T.tells → Extends (T.written text.old) (T.written text.new)) }
 {
-    put_kind(text, "extra", entry.extras().items())?;
-    put_kind(text, "url", entry.urls().items())?;
-    put_kind(text, "text", entry.texts().items())
+    put_texts(text, "extra", extras)?;
+    put_texts(text, "url", urls)?;
+    put_texts(text, "text", texts)
 }
 
 // Writes the lines of an entry under its verdict.
@@ -129,7 +127,7 @@ fn put_lines<T: TextOut>(
     ensures kept { OnErr result (T.tells → Extends (T.written text.old) (T.written text.new)) }
 {
     put_head(text, name.text(), verdict)?;
-    put_sorted(text, entry)?;
+    put_others(text, entry.extras(), entry.urls(), entry.texts())?;
     put_ranges(text, entry.versions().ranges())
 }
 
@@ -160,18 +158,16 @@ pub fn entry_text(alloc: Global, name: &Name, entry: &Entry) -> Result<String, T
     Ok(lines)
 }
 
-// Writes the lines of what is demanded besides versions.
-fn put_others<T: TextOut>(text: &mut T, others: Option<&OtherTexts>) -> Result<(), T::Fault>
+// The same of what is kept of a name, if there is any.
+fn put_kept<T: TextOut>(text: &mut T, others: Option<&OtherTexts>) -> Result<(), T::Fault>
     ensures ok { OnOk result (T.tells → T.written text.new ≡ T.written text.old
         ++ other_lines (kept_others (option_map (λ o. o.now) others.entry))) }
     ensures kept { OnErr result (T.tells → Extends (T.written text.old) (T.written text.new)) }
 {
-    let Some(others) = others else {
-        return Ok(());
-    };
-    put_texts(text, "extra", others.extras())?;
-    put_texts(text, "url", others.urls())?;
-    put_texts(text, "text", others.texts())
+    match others {
+        Some(others) => put_others(text, others.extras(), others.urls(), others.texts()),
+        None => Ok(()),
+    }
 }
 
 /// Writes the lines of a name of which this is demanded, under its verdict.
@@ -186,7 +182,7 @@ pub(crate) fn put_finished<T: TextOut>(
     ensures kept { OnErr result (T.tells → Extends (T.written text.old) (T.written text.new)) }
 {
     put_head(text, name.text(), verdict)?;
-    put_others(text, finished.others())?;
+    put_kept(text, finished.others())?;
     put_ranges(text, finished.versions().ranges())
 }
 

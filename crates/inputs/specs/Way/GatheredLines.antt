@@ -13,7 +13,8 @@ use Rattle.inputs.specs.declared.input.Input.{Input}
 use Rattle.inputs.specs.declared.input.Kind.{Kind}
 use Rattle.inputs.specs.Lists.{HoldsTable, Lists}
 use Rattle.inputs.specs.Refusal.{IsRefused, IsUndefinedAt}
-use Rattle.inputs.specs.Way.Wanted.{TakesWanted, wanted_part}
+use Rattle.pep_table.specs.NamedEntry.{wanted_part}
+use Rattle.inputs.specs.Way.Wanted.{TakesWanted}
 
 -- the table with what the requirements of an input demand, or joined with its table, as far as it
 -- counts

@@ -4,11 +4,9 @@ use Rattle.std.specs.Borrow.{Bor}
 use Rattle.std.specs.Option.{option_map}
 use Rattle.pep_marker.specs.Environment.{EnvironmentParts}
 use Rattle.pep_require.specs.Requirement.{MarkerSays, RequirementParts}
-use Rattle.pep_table.specs.NamedEntry.{entry_alone}
 use Rattle.demands.specs.Demand.{Demands}
 use Rattle.demands.specs.Gathering.{TakesIf}
-use Rattle.demands.specs.Table.{TableParts, entry_at}
-use Rattle.inputs.specs.TableFiles.{IsTableFile}
+use Rattle.demands.specs.Table.{TableParts}
 
 -- the name that is asked for, if there is one, of what the code has of it
 abbrev pub wanted_name : Option (Bor (List ℕ)) → Option (List ℕ)
@@ -31,13 +29,3 @@ TakesWanted e w old [] new = old ≡ new
 TakesWanted e w old (r ∷ rs) new =
     (mid : TableParts) × (taken : Bool) × MarkerSays e r.marker (Some taken)
     × TakesIf (taken && wants w r.name) old r mid × TakesWanted e w mid rs new
-
--- what counts of a table
-abbrev pub wanted_part : Option (List ℕ) → TableParts → TableParts
-wanted_part None t = t
-wanted_part (Some name) t = entry_alone name (entry_at t name)
-
--- what counts of the table that a file holds
-abbrev pub IsPartOfFile : EnvironmentParts → Option (List ℕ) → List ℕ → TableParts → Type 0
-IsPartOfFile e w bytes part =
-    (t : TableParts) × IsTableFile e bytes t × (part ≡ wanted_part w t)

@@ -1,12 +1,11 @@
 -- What stands in front of a table's lines: an entry.
-use Rattle.std.specs.Prelude.{◌≡◌, ◌↔◌, ℕ, codes, List, [], ◌∷◌, ◌++◌, map, Option, Some, None}
-use Rattle.std.specs.Prelude.{bytes_eq, if◌then◌else◌}
+use Rattle.std.specs.Prelude.{◌≡◌, ◌↔◌, ℕ, codes, List, [], ◌∷◌, ◌++◌, map, Option}
 use Rattle.std.specs.Borrow.{Bor}
 use Rattle.std.specs.Option.{option_copied, option_to_list}
 use Rattle.pep_marker.specs.Name.{IsNormalName}
 use Rattle.pep_require.specs.Requirement.{IsAscending}
 use Rattle.demands.specs.declared.verdict.Verdict.{Verdict}
-use Rattle.demands.specs.Table.{EntryParts, IsValidEntry, TableParts, entry_at}
+use Rattle.demands.specs.Table.{EntryParts, IsValidEntry, TableParts}
 use Rattle.pep_table.specs.TableText.{Shows, entry_text, kind_lines, line, range_text}
 use Rattle.demands.specs.Verdict.{verdict_word}
 
@@ -62,15 +61,10 @@ HasOtherVerdict verdict x = (e : EntryParts) × (rest : List ℕ) × (right : Ve
 abbrev pub last_name : Option (Bor (List ℕ)) → List (List ℕ)
 last_name last = option_to_list (option_copied last)
 
--- the entry of the wanted name, where one is wanted
-abbrev pub wanted_entry : TableParts → Option (List ℕ) → Option EntryParts
-wanted_entry t None = None
-wanted_entry t (Some name) = entry_at t name
-
--- what was found before, or this entry where it has the wanted name
-abbrev pub found_with : Option (List ℕ) → List ℕ → EntryParts → Option EntryParts → Option EntryParts
-found_with None name e found = found
-found_with (Some wanted) name e found = if bytes_eq name wanted then Some e else found
+-- what entries make of what was taken before them, one after the other
+abbrev pub TakesEntries : {A : Type 0} → (List ℕ → EntryParts → A → A → Type 0) → TableParts → A → A → Type 0
+TakesEntries takes [] old new = old ≡ new
+TakesEntries {A} takes (p ∷ t) old new = (mid : A) × takes p.0 p.1 old mid × TakesEntries takes t mid new
 
 -- behind both lists stand the same names
 abbrev pub FollowsAlike : List (List ℕ) → List (List ℕ) → Type 0

@@ -3,7 +3,7 @@
 use crate::tests::lines::expect_row;
 use crate::tests::tables::table;
 use pep_marker::{Environment, Name};
-use pep_table::{Table, TableFault};
+use pep_table::{Gathering, Table, TableFault};
 use std::alloc::{AllocError, Global};
 use std::process::Abort;
 use tests_kit::{MACHINE, MACHINE_HEADER};
@@ -42,7 +42,9 @@ fn told(alloc: Global, text: &str, extra: &'static str) -> Result<String, TableF
 
 fn fault_of_name(alloc: Global, text: &str, environment: &Environment) -> Option<TableFault> {
     match Name::read(alloc, "z") {
-        Ok(name) => Table::read_named(alloc, text, environment, &name).err(),
+        Ok(name) => Gathering::new(alloc)
+            .take_text(alloc, text, environment, Some(&name))
+            .err(),
         Err(_) => Some(TableFault::NoMemory),
     }
 }

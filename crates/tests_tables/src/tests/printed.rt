@@ -4,7 +4,7 @@ use crate::tests::lines::{expect, expect_line, expect_same};
 use crate::tests::tables::{lines_of, machine, requirement, table, table_of};
 use pep_marker::Name;
 use pep_require::Requirement;
-use pep_table::{Join, Table, TableFault};
+use pep_table::{Gathering, Join, Table, TableFault};
 use std::alloc::{AllocError, Global};
 use std::process::Abort;
 use tests_kit::{MACHINE, MACHINE_HEADER, Numbers, push_numbered, repeated};
@@ -50,8 +50,9 @@ const HEADER_LINES: usize = MACHINE.len() + 2;
 fn part(alloc: Global, text: &str, name: &str) -> Result<String, TableFault> {
     match Name::read(alloc, name) {
         Ok(name) => {
-            let part = Table::read_named(alloc, text, &machine(alloc)?, &name)?;
-            lines_of(alloc, &part)
+            let environment = machine(alloc)?;
+            let part = Gathering::new(alloc).take_text(alloc, text, &environment, Some(&name))?;
+            lines_of(alloc, &part.finish(alloc)?)
         }
         Err(_) => Err(TableFault::NoMemory),
     }

@@ -1,57 +1,54 @@
-use Rattle.std.proofs.Common.{◌≡◌, [], length, rules, subst, sym}
+use Rattle.std.proofs.Common.{◌≡◌, [], length, rules, subst}
+use Rattle.std.specs.Option.{option_to_list}
 use Rattle.pep_require.proofs.Exits.{further, handed_on}
-use Rattle.pep_table.proofs.ReadTables.{EntriesSoFar, all_read, entry_more, next_alike, no_next}
-use Rattle.pep_table.proofs.ReadTables.{none_alike, stops_next}
-use Rattle.pep_table.specs.Way.EntryReading.{FollowsAlike, last_name}
+use Rattle.pep_table.proofs.ReadTables.{all_taken, none_alike, none_behind, none_taken, stops_next, taken_more}
 use Rattle.demands.specs.Table.{names}
+use Rattle.pep_table.specs.Way.EntryReading.{HasNext, HasNoNext}
 use Rattle.pep_table.proofs.read.read_entries.Goals as goal
 
 pub returns-in_err-name-clause-refused : goal.returns-in_err-name-clause-refused
-returns-in_err-name-clause-refused c =
-    let entries = c.loop-rest.entries.items in
+returns-in_err-name-clause-refused g c =
+    let last = option_to_list c.loop-rest.last in
     let rest = c.loop-rest.rest.now in
     let some : ¬ (rest ≡ []) = search rules in
     handed_on _ c.from_residual.result _ c.from_residual.ensures.1
     (further
-    (λ n. no_next c.args.text.now entries rest c.loop-rest.invariant.1 some
-    (none_alike (names entries) (last_name c.name_of_last-last.result) rest
-    (subst (λ l. FollowsAlike (names l) (last_name c.name_of_last-last.result))
-    c.as_slice.ensures.value c.name_of_last-last.ensures) n))
+    (λ n. none_behind (g.T.EntryTaker.takes c.args.taker.now) c.args.text.now last c.args.taken c.loop-rest.taken rest
+    c.loop-rest.invariant.1 some
+    (subst (λ o. HasNoNext (option_to_list o) rest) c.as_ref.ensures.value n))
     c.in_err-name.ensures.refused)
 
+pub loop-rest-init : goal.loop-rest-init
+loop-rest-init g c = (search rules, none_taken (g.T.EntryTaker.takes c.args.taker.now) c.args.text.now c.args.taken)
+
 pub loop-rest-preserved : goal.loop-rest-preserved
-loop-rest-preserved c =
-    let text = c.args.text.now in
-    let entries = c.loop-rest.entries.items in
+loop-rest-preserved g c =
+    let last = option_to_list c.loop-rest.last in
     let rest = c.loop-rest.rest.now in
     let name = c.in_ok-name.name in
     let entry = c.in_ok-name.entry in
     let behind = c.in_ok-name.behind.now in
     let some : ¬ (rest ≡ []) = search rules in
-    let alike = subst (λ l. FollowsAlike (names l) (last_name c.name_of_last-last.result))
-    c.as_slice.ensures.value c.name_of_last-last.ensures in
-    let found = next_alike (names entries) (last_name c.name_of_last-last.result) rest alike name entry
-    behind c.in_ok-name.ensures.ok in (
+    let next = subst (λ o. HasNext (option_to_list o) rest name entry behind)
+    c.as_ref.ensures.value c.in_ok-name.ensures.ok in (
       search rules,
-      subst (λ l. EntriesSoFar text l behind) (sym c.in_ok-push.ensures.items)
-          (entry_more text entries rest c.loop-rest.invariant.1 name entry behind some found),
+      taken_more (g.T.EntryTaker.takes c.args.taker.now) c.args.text.now last c.args.taken c.loop-rest.taken rest
+          c.loop-rest.invariant.1 name entry behind c.in_ok-taken.taken some next c.in_ok-taken.ensures,
     )
 
 pub returns-clause-ok : goal.returns-clause-ok
-returns-clause-ok c =
-    let empty : length c.loop-rest.rest.now ≡ 0 = search rules in (
-      c.loop-rest.invariant.1.valid,
-      all_read c.args.text.now c.loop-rest.entries.items c.loop-rest.rest.now
-          c.loop-rest.invariant.1 empty,
-    )
+returns-clause-ok g c =
+    let empty : length c.loop-rest.rest.now ≡ 0 = search rules in
+    all_taken (g.T.EntryTaker.takes c.args.taker.now) c.args.text.now (option_to_list c.loop-rest.last)
+    c.args.taken c.loop-rest.taken c.loop-rest.rest.now c.loop-rest.invariant.1 empty
 
 pub returns-in_err-name-clause-stops : goal.returns-in_err-name-clause-stops
-returns-in_err-name-clause-stops c =
-    let entries = c.loop-rest.entries.items in
+returns-in_err-name-clause-stops g c =
+    let so_far = c.loop-rest.invariant.1 in
+    let last = option_to_list c.loop-rest.last in
     let rest = c.loop-rest.rest.now in
-    let alike = subst (λ l. FollowsAlike (names l) (last_name c.name_of_last-last.result))
-    c.as_slice.ensures.value c.name_of_last-last.ensures in
     handed_on _ c.from_residual.result _ c.from_residual.ensures.1
-    (stops_next c.args.text.now entries rest c.loop-rest.invariant.1 c.in_err-name.field-0.0
-    (further (none_alike (names entries) (last_name c.name_of_last-last.result) rest alike)
+    (stops_next c.args.text.now so_far.done rest so_far.entries c.in_err-name.field-0.0
+    (further (λ n. none_alike (names so_far.done) last rest so_far.alike
+    (subst (λ o. HasNoNext (option_to_list o) rest) c.as_ref.ensures.value n))
     c.in_err-name.ensures.refused) c.in_err-name.ensures.stops)

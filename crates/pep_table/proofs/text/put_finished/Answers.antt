@@ -10,11 +10,11 @@ returns-clause-ok g c =
     let written = g.T.TextOut.written in
     let old = written c.args.text.now in
     let w = c.args.verdict in
-    let mid = written c.put_others.new.text in
+    let mid = written c.put_kept.new.text in
     on_ok_weaker c.put_ranges.result (λ last told.
     entry_lines c.args.name.now w c.args.finished.now (kept_others (option_map (λ o. o.now) c.others.result))
     c.others.ensures old (written c.put_head.new.text) mid (written c.put_ranges.new.text)
     (c.in_ok-put_head.ensures.ok told ∙ ap (λ n. old ++ head_line n w) c.text.ensures.text)
-    (c.in_ok-put_others.ensures.ok told)
+    (c.in_ok-put_kept.ensures.ok told)
     (last told ∙ ap (λ r. mid ++ kind_lines (codes "range") (map range_text r)) (c.ranges-2.ensures.ranges ∙ c.versions.ensures)))
     c.put_ranges.ensures.ok

@@ -1,15 +1,14 @@
-use Rattle.pep_table.proofs.NamedEntries.{alone_valid}
 use Rattle.pep_table.proofs.TextFronts.{refused_lines}
 use Rattle.pep_table.proofs.ToldLines.{lines_refused}
-use Rattle.pep_table.proofs.table.Table.read_named.Goals as goal
+use Rattle.pep_table.proofs.read.read_text.Goals as goal
 
-pub alone-requires : goal.alone-requires
-alone-requires c =
-    let (t, text, valid, same) = c.in-Ok.ensures.ok in
-    alone_valid t c.args.name.now c.in-Ok.found same valid
+pub returns-in-Ok-clause-ok : goal.returns-in-Ok-clause-ok
+returns-in-Ok-clause-ok g c =
+    let (t, valid, lines, taken) = c.in-Ok.ensures.ok in
+    (t, valid, c.in_ok-lines.ensures.lines.0 t lines, taken)
 
 pub returns-in-Err-clause-refused : goal.returns-in-Err-clause-refused
-returns-in-Err-clause-refused c =
+returns-in-Err-clause-refused g c =
     let text = c.args.text.now in
     let lines = c.in_ok-lines.lines.now in
     refused_lines c.args.environment.now text lines c.halted.result c.in_ok-lines.ensures.lines

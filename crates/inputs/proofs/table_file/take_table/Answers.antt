@@ -1,0 +1,36 @@
+use Rattle.std.proofs.Common.{◌≡◌, ◌⊎◌, Option, Some, None, refl, subst, sym}
+use Rattle.std.specs.Borrow.{Bor}
+use Rattle.std.specs.Option.{option_copied}
+use Rattle.std.proofs.lemmas.Result.{IfOk-weaker}
+use Rattle.demands.specs.Join.{JoinsTables}
+use Rattle.pep_table.specs.NamedEntry.{wanted_part}
+use Rattle.pep_table.specs.Refused.{IsRefusedAsTable}
+use Rattle.pep_table.specs.TableText.{IsReadAs}
+use Rattle.demands.specs.declared.fault.TableFault.TheVariants.{NoMemory}
+use Rattle.inputs.specs.Way.Wanted.{wanted_name}
+use Rattle.inputs.proofs.TableFileLemmas.{text_refused}
+use Rattle.inputs.proofs.table_file.take_table.Goals as goal
+
+pub returns-in-Ok-clause-ok : goal.returns-in-Ok-clause-ok
+returns-in-Ok-clause-ok c =
+    let e = c.args.environment.now in
+    let (t, valid, text, joined) = c.in-Ok-2.ensures.joined in (
+      t,
+      record {
+        size = c.if-bytes-gt-INPUT_LIMIT.false;
+        encoding = c.in-Ok.ensures.cases.1;
+        valid = valid;
+        text = subst (IsReadAs e t) c.in-Ok.ensures.cases.0 text;
+      },
+      joined,
+    )
+
+pub returns-in-Err-clause-refused : goal.returns-in-Err-clause-refused
+returns-in-Err-clause-refused c =
+    let bytes = c.args.bytes.now in
+    let fault = c.in-Err.fault in
+    text_refused c.args.environment.now bytes fault c.table_cause.result c.if-bytes-gt-INPUT_LIMIT.false
+    c.in-Ok.ensures.cases.1
+    (subst (λ x. (fault ≡ NoMemory) ⊎ IsRefusedAsTable c.args.environment.now x fault) c.in-Ok.ensures.cases.0
+    c.in-Err.ensures.refused)
+    c.table_cause.ensures.line c.table_cause.ensures.environment c.table_cause.ensures.memory
