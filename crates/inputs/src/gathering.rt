@@ -50,10 +50,10 @@ use crate::table_file::take_table;
 use clause_memory::{DemandSink, LineSoFar};
 use documents::ProjectFile;
 use faults::{Cause, Fault, LineFault, Place};
-use pep_marker::{Environment, MarkerFault, Name, WrittenName};
+use pep_marker::{Environment, Name, WrittenName};
 use pep_require::{RequireFault, walk};
 use pep_table::Gathering;
-use std::alloc::Global;
+use std::alloc::{AllocError, Global};
 use std::marker::Model;
 
 // Where what there is of a line is kept. Contracts see nothing of it: each line begins it anew.
@@ -103,12 +103,15 @@ impl Taker for DemandTaker<'_> {
 }
 
 // Whether what is demanded of the package with this name counts.
-fn is_wanted(alloc: Global, wanted: Option<&Name>, name: &WrittenName) -> Result<bool, MarkerFault>
+fn is_wanted(alloc: Global, wanted: Option<&Name>, name: &WrittenName) -> Result<bool, AllocError>
     ensures { IfOk result (λ b. b ≡ wants (wanted_name wanted.entry) name.now) }
 {
-    match wanted {
-        Some(wanted) => Ok(name.kept(alloc)? == *wanted),
-        None => Ok(true),
+    let Some(wanted) = wanted else {
+        return Ok(true);
+    };
+    match name.kept(alloc) {
+        Ok(name) => Ok(name == *wanted),
+        Err(_) => Err(AllocError),
     }
 }
 
@@ -118,7 +121,7 @@ fn counts(
     applies: bool,
     wanted: Option<&Name>,
     name: &WrittenName,
-) -> Result<bool, MarkerFault>
+) -> Result<bool, AllocError>
     ensures { IfOk result (λ b. b ≡ (applies && wants (wanted_name wanted.entry) name.now)) }
 {
     if !applies {
@@ -144,10 +147,10 @@ fn take_walked(
     let Some(applies) = line.applies else {
         return Err(LineFault::Undefined);
     };
-    let Ok(counts) = counts(alloc, applies, wanted, name) else {
+    let Ok(is_counted) = counts(alloc, applies, wanted, name) else {
         return Err(LineFault::Requirement(RequireFault::NoMemory));
     };
-    if !counts {
+    if !is_counted {
         return Ok(gathering);
     }
     match gathering.take_line(alloc, name, &mut line.demands) {

@@ -50,13 +50,3 @@ behind_last text xs x y e h =
           (further.0 (less_told (slice_cmp nat_cmp (text x) y) t)),
       λ g. rw (further.1 (subst (λ l. IsAscending (l ++ y ∷ [])) split g)) refl,
     )
-
-pub last_alike : {X : Type 0} (text : X → List ℕ) (xs : List X) (x : X) →
-    slice_get xs (length xs - 1) ≡ Some x → IsAscending (map text xs) →
-    FollowsAlike (map text xs) (text x ∷ [])
-last_alike text xs x e h =
-    let front = map text (take (length xs - 1) xs) in
-    let split : map text xs ≡ front ++ text x ∷ [] =
-    ap (map text) (last_split xs x e) ∙ map-append text (take (length xs - 1) xs) (x ∷ []) in
-    subst (λ l. FollowsAlike l (text x ∷ [])) (sym split)
-    (behind_one front (text x) (subst IsAscending split h))

@@ -2,7 +2,7 @@
 use Rattle.std.proofs.Common.{◌≡◌, ℕ, zero, suc, ◌+◌, ◌<◌, ◌≤◌, Bool, true, false, List, [], ◌∷◌}
 use Rattle.std.proofs.Common.{◌++◌, length, Option, Some, None, refl, sym, ap, subst, ◌∙◌, inl, inr}
 use Rattle.std.proofs.Common.{arith, get_or, map}
-use Rattle.std.specs.Prelude.{bytes_eq, if◌then◌else◌, nat_lt, slice_index_or}
+use Rattle.std.specs.Prelude.{bytes_eq, nat_lt, slice_index_or}
 use Rattle.std.specs.List.{All}
 use Rattle.std.specs.List.Sorted.{IsNonDecreasingBy, IsPartitionPoint}
 use Rattle.std.specs.Cmp.Lexicographic.{nat_list_cmp_total}
@@ -62,25 +62,6 @@ other_entry (q ∷ t) p n other = by (bytes_eq q.0 n) refl (other_entry t p n ot
         entry_at (q ∷ (t ++ p ∷ [])) n ≡ entry_at (q ∷ t) n
     by true e rest = rw e refl
     by false e rest = rw e rest
-
--- the entry of a name, with one entry more behind the others
-pub found_more : (t : TableParts) (p : Named) (n : List ℕ) (found : Option EntryParts) →
-    IsAscending (names (t ++ p ∷ [])) → found ≡ entry_at t n →
-    (if bytes_eq p.0 n then Some p.1 else found) ≡ entry_at (t ++ p ∷ []) n
-found_more t p n found up is = by (bytes_eq p.0 n) refl
-  where
-    by : (b : Bool) → bytes_eq p.0 n ≡ b →
-        (if bytes_eq p.0 n then Some p.1 else found) ≡ entry_at (t ++ p ∷ []) n
-    by true e =
-        let same : p.0 ≡ n = (bytes_eq-Decides p.0 n).0 e in
-        let last : entry_at (t ++ p ∷ []) n ≡ Some p.1 =
-        ap (entry_at (t ++ p ∷ [])) (sym same) ∙ last_entry t p (behind_apart t p [] up) in
-        rw e (sym last)
-    by false e =
-        let differ : p.0 ≡ n → ⊥ =
-        λ same. let both : true ≡ false = sym (eq_true p.0 n same) ∙ e in cc both in
-        let other : entry_at (t ++ p ∷ []) n ≡ entry_at t n = other_entry t p n differ in
-        rw e (is ∙ sym other)
 
 -- joined with nothing
 pub joins_none : (a : TableParts) → IsValidTable a → JoinsTables a [] a

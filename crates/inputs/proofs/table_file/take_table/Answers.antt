@@ -1,13 +1,7 @@
-use Rattle.std.proofs.Common.{◌≡◌, ◌⊎◌, Option, Some, None, refl, subst, sym}
-use Rattle.std.specs.Borrow.{Bor}
-use Rattle.std.specs.Option.{option_copied}
-use Rattle.std.proofs.lemmas.Result.{IfOk-weaker}
-use Rattle.demands.specs.Join.{JoinsTables}
-use Rattle.pep_table.specs.NamedEntry.{wanted_part}
+use Rattle.std.proofs.Common.{◌≡◌, ◌⊎◌, subst}
 use Rattle.pep_table.specs.Refused.{IsRefusedAsTable}
 use Rattle.pep_table.specs.TableText.{IsReadAs}
 use Rattle.demands.specs.declared.fault.TableFault.TheVariants.{NoMemory}
-use Rattle.inputs.specs.Way.Wanted.{wanted_name}
 use Rattle.inputs.proofs.TableFileLemmas.{text_refused}
 use Rattle.inputs.proofs.table_file.take_table.Goals as goal
 
