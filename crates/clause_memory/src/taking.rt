@@ -126,8 +126,8 @@ impl ClauseMemory {
         take_unplaced(alloc, text, demands)
     }
 
-    // Keeps what the clause demands that the text is, and tells whether it did: not where that is a text, where it is
-    // remembered without packed cuts, or where the text is no clause.
+    // Keeps what the clause demands that the text is, and tells whether it did: not of a demanded text (`===`), of one
+    // that is remembered without packed cuts, or where the text is no clause.
     fn take_piece(
         &mut self,
         alloc: Global,

@@ -19,7 +19,7 @@ use text_memory::{OfText, TextMemory};
 
 // How many names are remembered at most.
 const MOST: usize = 16_384;
-// How many bytes a name has at most, as it is written, that is remembered.
+// How many bytes a remembered name has at most, as it is written.
 const LONGEST: usize = 24;
 
 /// A name as it is written, with the number of the name.
