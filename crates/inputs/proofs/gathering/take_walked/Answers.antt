@@ -5,8 +5,10 @@ use Rattle.inputs.proofs.gathering.take_walked.Goals as goal
 
 pub returns-in_default-clause-refused : goal.returns-in_default-clause-refused
 returns-in_default-clause-refused c =
-    λ e text h. inr (refl,
-    walked_undefined e (wanted_name c.args.wanted) text c.args.name.now c.args.line.now h c.in_default.is)
+    λ e text h. inr (
+      refl,
+      walked_undefined e (wanted_name c.args.wanted) text c.args.name.now c.args.line.now h c.in_default.is,
+    )
 
 pub returns-then-not-is_counted-clause-ok : goal.returns-then-not-is_counted-clause-ok
 returns-then-not-is_counted-clause-ok c =
