@@ -16,7 +16,7 @@ PATHS = {
     "pep_tool": ["inputs", "documents", "reasons", "shards", "command_line", "devices", "faults", "pep_tool"],
     "pep_c": ["pep_c"],
 }
-NOT_NAMED = {"LineSink", "WrittenName", "PackedCut", "Key::with_suffixes", "Key::of_release", "Entry::of", "Gathering::take_line"}
+NOT_NAMED = {"LineSink", "WrittenName", "PackedCut", "Gathering::take_line"}
 # The methods of traits that have a docstring and clauses of their own for each type, by the trait.
 OPERATORS = {("PartialEq", "eq"): "==", ("Ord", "cmp"): "cmp"}
 FUNCTION = re.compile(r'( *)(pub )?(?:extern "C" )?fn (\w+)')
