@@ -1,23 +1,8 @@
 use Rattle.std.proofs.Common.{◌≡◌, ◌⊎◌, subst}
 use Rattle.pep_table.specs.Refused.{IsRefusedAsTable}
-use Rattle.pep_table.specs.TableText.{IsReadAs}
 use Rattle.demands.specs.declared.fault.TableFault.TheVariants.{NoMemory}
 use Rattle.inputs.proofs.TableFileLemmas.{text_refused}
 use Rattle.inputs.proofs.table_file.take_table.Goals as goal
-
-pub returns-in-Ok-clause-ok : goal.returns-in-Ok-clause-ok
-returns-in-Ok-clause-ok c =
-    let e = c.args.environment.now in
-    let (t, valid, text, joined) = c.in-Ok-2.ensures.joined in (
-      t,
-      record {
-        size = c.if-bytes-gt-INPUT_LIMIT.false;
-        encoding = c.in-Ok.ensures.cases.1;
-        valid = valid;
-        text = subst (IsReadAs e t) c.in-Ok.ensures.cases.0 text;
-      },
-      joined,
-    )
 
 pub returns-in-Err-clause-refused : goal.returns-in-Err-clause-refused
 returns-in-Err-clause-refused c =
