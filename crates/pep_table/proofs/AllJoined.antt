@@ -10,28 +10,28 @@ use Rattle.demands.specs.Join.{IsJoin, JoinsAll}
 module _ {X : Type 0} {IsValue : X → Type 0} {Joins : X → X → X → Type 0}
     (laws : IsJoin IsValue Joins) where
   -- the first stands below the second: joined to it, it changes nothing
-  abbrev Below : X → X → Type 0
+  abbrev pub Below : X → X → Type 0
   Below a b = Joins a b b
 
   -- both joined values are below the join
-  first_below : (a x b : X) → IsValue a → IsValue b → Joins a x b → Below a b
+  pub first_below : (a x b : X) → IsValue a → IsValue b → Joins a x b → Below a b
   first_below a x b v w h = laws.associative a a x a b b v w w (laws.idempotent a v) h h
 
-  second_below : (a x b : X) → IsValue x → IsValue b → Joins a x b → Below x b
+  pub second_below : (a x b : X) → IsValue x → IsValue b → Joins a x b → Below x b
   second_below a x b v w h = first_below x a b v w (laws.commutative a x b h)
 
-  below_trans : (a b c : X) → IsValue b → IsValue c → Below a b → Below b c → Below a c
+  pub below_trans : (a b c : X) → IsValue b → IsValue c → Below a b → Below b c → Below a c
   below_trans a b c v w h g = laws.associative a b c b c c v w w h g g
 
   -- and the join is the least such value
-  join_least : (a x b d : X) → IsValue b → IsValue d → Joins a x b → Below a d → Below x d →
+  pub join_least : (a x b d : X) → IsValue b → IsValue d → Joins a x b → Below a d → Below x d →
       Below b d
   join_least a x b d v w h f g =
       laws.commutative d b d
       (laws.associative d x a d b d w v w (laws.commutative x d d g) (laws.commutative a x b h)
       (laws.commutative a d d f))
 
-  one_below : (b c : X) → IsValue b → IsValue c → Below b c → Below c b → b ≡ c
+  pub one_below : (b c : X) → IsValue b → IsValue c → Below b c → Below c b → b ≡ c
   one_below b c v w h g = laws.one c b b c v w g (laws.commutative b c c h)
 
   -- ---- the same of all items

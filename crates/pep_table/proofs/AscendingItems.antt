@@ -23,7 +23,7 @@ last_split xs x e =
     (get_or_from_slice_get xs k x x e) ∙ ap (λ l. x ∷ l) none in
     sym (take-append-drop k xs) ∙ ap (λ l. take k xs ++ l) one
 
-rises_further : (fs : List (List ℕ)) (a b : List ℕ) → IsAscending (fs ++ a ∷ []) →
+pub rises_further : (fs : List (List ℕ)) (a b : List ℕ) → IsAscending (fs ++ a ∷ []) →
     (slice_cmp nat_cmp a b ≡ Less) ↔ IsAscending ((fs ++ a ∷ []) ++ b ∷ [])
 rises_further [] a b h = (λ e. (e, tt), λ g. g.0)
 rises_further (x ∷ []) a b h = (λ e. (h.0, (e, tt)), λ g. g.1.0)

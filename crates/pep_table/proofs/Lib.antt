@@ -1,9 +1,11 @@
 pub mod NamedEntries
-pub mod NamePlaces
-pub mod Placed
 pub mod EntryPlaces
 pub mod FirstFault
 pub mod AllJoined
+pub mod PutEntries
+pub mod LogTables
+pub mod LogOrder
+pub mod JoinedRepeats
 pub mod AdmittedPoints
 pub mod JoinedDemands
 pub mod NameDemands

@@ -1,84 +1,65 @@
 //! What is gathered of each name.
 
-ghost use Rattle.std.specs.Prelude.{◌≡◌, ◌<◌, ◌∷◌, [], IfOk, OnOk, length};
+ghost use Rattle.std.specs.Prelude.{◌≡◌, ◌<◌, ◌∷◌, [], IfOk, IfSome, List, OnOk, length, ℕ};
 ghost use Rattle.std.specs.Iterator.{YieldsFirst, item_count};
+ghost use Rattle.pep_marker.specs.Name.{normalized};
 ghost use Rattle.demands.specs.Join.{JoinsTables};
-ghost use Rattle.demands.specs.Table.{IsValidTable};
-ghost use Rattle.pep_table.specs.Way.Gathered.{ArePlaces, HasRoom, OpensPlace, table_of};
+ghost use Rattle.demands.specs.Table.{IsValidEntry, names};
+ghost use Rattle.pep_table.specs.Way.Gathered.{IsAt, IsValidNamed, OpensPlace, log_table};
 
-use crate::places::Places;
+use crate::ordered::{is_ascending, ordered};
+use arrayvec::ArrayString;
 use demands::{Entry, LineDemands, PackageDemands};
 use pep_marker::{Name, WrittenName};
 use std::alloc::{AllocError, Global};
-use std::collections::btree_map;
 use std::marker::Model;
-use std::mem;
+use std::{mem, vec};
+use text_memory::{OfText, TextMemory};
 
-/// What is demanded of each name. Clauses see the table of it.
+// How many names are remembered at most.
+const MOST: usize = 65_536;
+// How many bytes a remembered name has at most, as it is written.
+const LONGEST: usize = 40;
+// The log isn't put in order before there are so many entries.
+const FEWEST: usize = 32_768;
+
+/// A name as it is written, with the place of an entry of the name.
+#[derive(Drop)]
+struct KnownName {
+    text: ArrayString<LONGEST>,
+    place: usize,
+}
+
+impl OfText for KnownName {
+    ghost text = { λ k. k.text.bytes };
+
+    fn text(&self) -> &[u8] {
+        self.text.as_str().as_bytes()
+    }
+}
+
+/// A log of what is demanded. A name that is remembered goes on in its entry, and another one begins a new entry, even
+/// where the name has one. When the log has doubled, it is put in order, and the entries of a name are joined. So names
+/// that fall together in the memory cost no more than that. Clauses see the list of the entries.
 #[derive(Drop)]
 pub(crate) struct Gathered {
-    places: Places,
-    // By the numbers of names.
-    demands: Vec<PackageDemands>,
+    log: Vec<(Name, PackageDemands)>,
+    known: TextMemory<KnownName>,
+    // At this length, the log is put in order.
+    room: usize,
 }
 
 impl Model for Gathered {
-    ghost use Rattle.demands.specs.Table.{TableParts};
-    ghost use Rattle.pep_table.specs.Way.Gathered.{HasRoom, table_of};
+    ghost use Rattle.std.specs.Prelude.{All};
+    ghost use Rattle.demands.specs.Table.{TableParts, names};
+    ghost use Rattle.pep_table.specs.Way.Gathered.{IsValidLog};
+    ghost use Rattle.pep_table.specs.Way.KnownNames.{IsKnown};
 
     ghost Value = { TableParts };
 
-    ghost view = { λ g. table_of g.places g.demands.items };
+    ghost view = { λ g. g.log.items };
 
-    ghost invariant = { λ g. HasRoom g.places g.demands.items };
-}
-
-// Keeps what is demanded of a name to come, which is nothing.
-fn make_room(places: &Places, demands: &mut Vec<PackageDemands>) -> Result<(), AllocError>
-    requires { HasRoom places.now demands.old.items }
-    ensures room { HasRoom places.now demands.new.items }
-    ensures more { OnOk result (length places.now < length demands.new.items) }
-    ensures same { table_of places.now demands.new.items ≡ table_of places.now demands.old.items }
-    ensures places { ArePlaces places.now }
-{
-    if places.len() == demands.len() {
-        demands.push(PackageDemands::bare())?;
-    }
-    Ok(())
-}
-
-// The number of the name, by which what is demanded of it is kept: nothing, where the name is new.
-fn place_of(
-    places: &mut Places,
-    demands: &mut Vec<PackageDemands>,
-    name: Name,
-) -> Result<usize, AllocError>
-    requires { HasRoom places.old demands.old.items }
-    ensures opened { IfOk result (OpensPlace (table_of places.old demands.old.items) name places.new
-        demands.new.items) }
-    ensures room { HasRoom places.new demands.new.items }
-    ensures places { ArePlaces places.new }
-{
-    make_room(places, demands)?;
-    places.mapped_place(name)
-}
-
-// The same of the name of a line, which may come often: it is remembered, if it is short.
-#[inline(always)]
-fn line_place(
-    alloc: Global,
-    places: &mut Places,
-    demands: &mut Vec<PackageDemands>,
-    name: &WrittenName,
-) -> Result<usize, AllocError>
-    requires { HasRoom places.old demands.old.items }
-    ensures opened { IfOk result (OpensPlace (table_of places.old demands.old.items) name.now
-        places.new demands.new.items) }
-    ensures room { HasRoom places.new demands.new.items }
-    ensures places { ArePlaces places.new }
-{
-    make_room(places, demands)?;
-    places.place(alloc, name)
+    ghost invariant = { λ g. IsValidLog g.log.items × All (IsKnown (names g.log.items)) g.known };
 }
 
 impl Gathered {
@@ -87,29 +68,183 @@ impl Gathered {
         ensures { result ≡ [] }
     {
         Gathered {
-            places: Places::new(alloc),
-            demands: Vec::new(alloc),
+            log: Vec::new(alloc),
+            known: TextMemory::new(alloc, MOST),
+            room: FEWEST,
         }
     }
 
-    /// How many names there are.
-    pub(crate) fn len(&self) -> usize
-        ensures { result ≡ length self.now }
+    // The place of an entry of the name, if it is remembered as it is written.
+    fn known_place(&self, name: &WrittenName) -> Option<usize>
+        ensures { IfSome result (IsAt (names self.now) name.now) }
     {
-        self.places.len()
+        let known = self.known.find(name.text().as_bytes())?;
+        Some(known.place)
+    }
+
+    // Remembers a text, whose name has an entry at the place.
+    fn remember_text(
+        &mut self,
+        alloc: Global,
+        text: ArrayString<LONGEST>,
+        place: usize,
+    ) -> Result<(), AllocError>
+        requires { IsAt (names self.old) (normalized text.bytes) place }
+        ensures { self.new ≡ self.old }
+    {
+        self.known.put(alloc, KnownName { text, place })
+    }
+
+    // Remembers the name as it is written with the place of its entry, if that is short.
+    fn remember(
+        &mut self,
+        alloc: Global,
+        name: &WrittenName,
+        place: usize,
+    ) -> Result<(), AllocError>
+        requires { IsAt (names self.old) name.now place }
+        ensures { self.new ≡ self.old }
+    {
+        match ArrayString::from(name.text()) {
+            Ok(text) => self.remember_text(alloc, text, place),
+            Err(_) => Ok(()),
+        }
+    }
+
+    // Puts the log in order, with one entry a name. The places are others then, so no name is remembered.
+    fn join_log(&mut self, alloc: Global) -> Result<(), AllocError>
+        ensures { OnOk result (log_table self.new ≡ log_table self.old) }
+    {
+        self.known = TextMemory::new(alloc, MOST);
+        let log = mem::replace(&mut self.log, Vec::new(alloc));
+        self.log = ordered(alloc, log)?;
+        Ok(())
+    }
+
+    // Puts the log in order, if it has doubled.
+    fn make_room(&mut self, alloc: Global) -> Result<(), AllocError>
+        ensures { OnOk result (log_table self.new ≡ log_table self.old) }
+    {
+        if self.log.len() < self.room {
+            return Ok(());
+        }
+        if !is_ascending(self.log.as_slice()) {
+            self.join_log(alloc)?;
+        }
+        self.room = FEWEST.max(self.log.len().saturating_mul(2));
+        Ok(())
+    }
+
+    // Puts an entry behind the others, and gives its place.
+    fn append(&mut self, name: Name, demands: PackageDemands) -> Result<usize, AllocError>
+        requires { IsValidNamed (name, demands) }
+        ensures joined { IfOk result (λ _.
+            JoinsTables (log_table self.old) ((name, demands) ∷ []) (log_table self.new)) }
+        ensures place { IfOk result (IsAt (names self.new) name) }
+    {
+        let place = self.log.len();
+        self.log.push((name, demands))?;
+        Ok(place)
+    }
+
+    // The same of a log that is put in order first, if it has doubled.
+    fn push(
+        &mut self,
+        alloc: Global,
+        name: Name,
+        demands: PackageDemands,
+    ) -> Result<usize, AllocError>
+        requires { IsValidNamed (name, demands) }
+        ensures joined { IfOk result (λ _.
+            JoinsTables (log_table self.old) ((name, demands) ∷ []) (log_table self.new)) }
+        ensures place { IfOk result (IsAt (names self.new) name) }
+    {
+        self.make_room(alloc)?;
+        self.append(name, demands)
+    }
+
+    // Begins an entry that demands nothing of the name, remembers the name as it is normalized, and gives the place.
+    fn begin(&mut self, alloc: Global, name: Name) -> Result<usize, AllocError>
+        ensures { IfOk result (OpensPlace self.old name self.new) }
+    {
+        let text = ArrayString::from(name.text()).ok();
+        let place = self.push(alloc, name, PackageDemands::bare())?;
+        if let Some(text) = text {
+            self.remember_text(alloc, text, place)?;
+        }
+        Ok(place)
+    }
+
+    // The place of an entry of a name in its normalized form.
+    fn normal_place(&mut self, alloc: Global, name: Name) -> Result<usize, AllocError>
+        ensures { IfOk result (OpensPlace self.old name self.new) }
+    {
+        match self.known_place(&name.written()) {
+            Some(place) => Ok(place),
+            None => self.begin(alloc, name),
+        }
+    }
+
+    // The place of an entry of a name that isn't remembered as it is written.
+    fn other_place(&mut self, alloc: Global, name: &WrittenName) -> Result<usize, AllocError>
+        ensures { IfOk result (OpensPlace self.old name.now self.new) }
+    {
+        let Ok(kept) = name.kept(alloc) else {
+            return Err(AllocError);
+        };
+        if kept.text() == name.text() {
+            return self.begin(alloc, kept);
+        }
+        let place = self.normal_place(alloc, kept)?;
+        self.remember(alloc, name, place)?;
+        Ok(place)
+    }
+
+    // The place of an entry of the name of a line.
+    #[inline(always)]
+    fn place(&mut self, alloc: Global, name: &WrittenName) -> Result<usize, AllocError>
+        ensures { IfOk result (OpensPlace self.old name.now self.new) }
+    {
+        if let Some(place) = self.known_place(name) {
+            return Ok(place);
+        }
+        self.other_place(alloc, name)
+    }
+
+    // Takes what a line demands into the entry at a place.
+    #[inline(always)]
+    fn narrow(
+        &mut self,
+        alloc: Global,
+        place: usize,
+        line: &mut LineDemands,
+    ) -> Result<(), AllocError>
+        requires { place < length self.old }
+        ensures joined { OnOk result ((name : List ℕ) → IsAt (names self.old) name place
+            → JoinsTables (log_table self.old) ((name, line.old) ∷ []) (log_table self.new)) }
+        ensures valid { IsValidEntry line.old }
+    {
+        let demands = &mut self.log[place].1;
+        let Ok(()) = demands.take_line(alloc, line) else {
+            // They may lack what they had.
+            *demands = PackageDemands::bare();
+            return Err(AllocError);
+        };
+        Ok(())
     }
 
     /// Takes what an entry demands of the package with this name.
     pub(crate) fn join(&mut self, alloc: Global, name: Name, entry: Entry) -> Result<(), AllocError>
-        requires { IsValidTable self.old }
-        ensures { OnOk result (JoinsTables self.old ((name, entry) ∷ []) self.new) }
+        ensures { OnOk result
+            (JoinsTables (log_table self.old) ((name, entry) ∷ []) (log_table self.new)) }
     {
         // Its clause tells that the name is in its normalized form.
         let _ = name.text();
-        let place = place_of(&mut self.places, &mut self.demands, name)?;
-        let Ok(()) = self.demands[place].join(alloc, entry) else {
+        let mut demands = PackageDemands::bare();
+        let Ok(()) = demands.join(alloc, entry) else {
             return Err(AllocError);
         };
+        self.push(alloc, name, demands)?;
         Ok(())
     }
 
@@ -121,47 +256,56 @@ impl Gathered {
         name: &WrittenName,
         line: &mut LineDemands,
     ) -> Result<(), AllocError>
-        requires { IsValidTable self.old }
-        ensures { OnOk result (JoinsTables self.old ((name.now, line.old) ∷ []) self.new) }
+        ensures { OnOk result
+            (JoinsTables (log_table self.old) ((name.now, line.old) ∷ []) (log_table self.new)) }
     {
         // Its clause tells that the name is in its normalized form.
         let _ = name.text();
-        let place = line_place(alloc, &mut self.places, &mut self.demands, name)?;
-        let Ok(()) = self.demands[place].take_line(alloc, line) else {
-            return Err(AllocError);
-        };
-        Ok(())
+        let place = self.place(alloc, name)?;
+        self.narrow(alloc, place, line)
     }
 
     /// The names in order, with what is demanded of them.
-    pub(crate) fn into_entries(self) -> GatheredEntries
-        ensures { result ≡ self }
+    pub(crate) fn into_entries(self, alloc: Global) -> Result<GatheredEntries, AllocError>
+        ensures { IfOk result (λ entries. entries ≡ log_table self) }
     {
-        let Gathered { places, demands } = self;
-        GatheredEntries {
-            places: places.into_places(),
-            demands,
-        }
+        let Gathered {
+            log,
+            known: _,
+            room: _,
+        } = self;
+        let log = ordered(alloc, log)?;
+        Ok(GatheredEntries {
+            left: log.into_iter(),
+        })
     }
 }
 
 /// The names that are left, in order, each with what is demanded of it. Clauses see the list of them.
 #[derive(Drop)]
 pub(crate) struct GatheredEntries {
-    places: btree_map::IntoIter<Name, usize>,
-    demands: Vec<PackageDemands>,
+    left: vec::IntoIter<(Name, PackageDemands)>,
 }
 
 impl Model for GatheredEntries {
-    ghost use Rattle.std.specs.Prelude.{length};
+    ghost use Rattle.std.specs.Prelude.{◌≡◌, length};
+    ghost use Rattle.std.specs.Vec.Iter.{into_iter_items, into_iter_len};
     ghost use Rattle.demands.specs.Table.{TableParts};
-    ghost use Rattle.pep_table.specs.Way.Gathered.{AreApart, table_of};
 
     ghost Value = { TableParts };
 
-    ghost view = { λ g. table_of g.places g.demands.items };
+    ghost view = { λ g. into_iter_items g.left };
 
-    ghost invariant = { λ g. AreApart g.places (length g.demands.items) };
+    ghost invariant = { λ g. into_iter_len g.left ≡ length (into_iter_items g.left) };
+}
+
+impl GatheredEntries {
+    /// How many are left.
+    pub(crate) fn len(&self) -> usize
+        ensures { result ≡ length self.now }
+    {
+        self.left.len()
+    }
 }
 
 impl Iterator for GatheredEntries {
@@ -172,8 +316,6 @@ impl Iterator for GatheredEntries {
     ghost remaining = { item_count (λ left. left) };
 
     fn next(&mut self) -> Option<(Name, PackageDemands)> {
-        let (name, place) = self.places.next()?;
-        let gathered = mem::replace(&mut self.demands[place], PackageDemands::bare());
-        Some((name, gathered))
+        self.left.next()
     }
 }

@@ -1,6 +1,6 @@
 //! What requirements and tables demand, gathered one by one.
 
-ghost use Rattle.std.specs.Prelude.{◌≡◌, ◌⊎◌, ◌++◌, ◌∷◌, [], IfErr, IfOk, OnOk, length, string_bytes};
+ghost use Rattle.std.specs.Prelude.{◌≡◌, ◌⊎◌, ◌++◌, ◌∷◌, [], IfErr, IfOk, OnOk, string_bytes};
 ghost use Rattle.std.specs.Option.{option_copied};
 ghost use Rattle.pep_require.specs.Requirement.{HasUndefinedMarker, RequirementParts};
 ghost use Rattle.pep_require.specs.View.{requirement_parts};
@@ -11,6 +11,7 @@ ghost use Rattle.demands.specs.Table.{IsValidEntry, IsValidTable, TableParts};
 ghost use Rattle.demands.specs.declared.verdict.Verdict.{Verdict};
 ghost use Rattle.pep_table.specs.NamedEntry.{wanted_part};
 ghost use Rattle.pep_table.specs.Refused.{IsRefusedAsTable};
+ghost use Rattle.pep_table.specs.Way.Gathered.{log_table};
 ghost use Rattle.pep_table.specs.TableText.{IsReadAs, IsTableText, Shows, entry_text};
 
 use crate::gathered::{Gathered, GatheredEntries};
@@ -99,19 +100,9 @@ impl Gathering {
         Gathering { gathered: None }
     }
 
-    // How many names there are.
-    fn len(&self) -> usize
-        ensures { result ≡ length self.now }
-    {
-        match &self.gathered {
-            Some(gathered) => gathered.len(),
-            None => 0,
-        }
-    }
-
     // What is demanded so far, to be changed.
     fn opened(self, alloc: Global) -> Result<Box<Gathered>, AllocError>
-        ensures same { IfOk result (λ b. b.value ≡ self) }
+        ensures same { IfOk result (λ b. log_table b.value ≡ self) }
         ensures valid { IsValidTable self }
     {
         match self.gathered {
@@ -121,13 +112,13 @@ impl Gathering {
     }
 
     // The names in order, with what is demanded of them.
-    fn into_entries(self, alloc: Global) -> GatheredEntries
-        ensures same { result ≡ self }
+    fn into_entries(self, alloc: Global) -> Result<GatheredEntries, AllocError>
+        ensures same { IfOk result (λ entries. entries ≡ self) }
         ensures valid { IsValidTable self }
     {
         match self.gathered {
-            Some(gathered) => Box::into_inner(gathered).into_entries(),
-            None => Gathered::new(alloc).into_entries(),
+            Some(gathered) => Box::into_inner(gathered).into_entries(alloc),
+            None => Gathered::new(alloc).into_entries(alloc),
         }
     }
 
@@ -246,8 +237,9 @@ impl Gathering {
         ensures same { IfOk result (λ table. table ≡ self) }
         ensures faults { IfErr result (λ e. e ≡ TableFault.NoMemory) }
     {
-        let mut entries = Vec::with_capacity(alloc, self.len())?;
-        for (name, gathered) in self.into_entries(alloc) {
+        let left = self.into_entries(alloc)?;
+        let mut entries = Vec::with_capacity(alloc, left.len())?;
+        for (name, gathered) in left {
             entries.push((name, gathered.entry(alloc)?))?;
         }
         Ok(Table::of_entries(entries))
@@ -259,8 +251,9 @@ impl Gathering {
         ensures text { IfOk result (λ text. IsTableText environment.now self (string_bytes text)) }
         ensures faults { IfErr result (λ e. e ≡ TableFault.NoMemory) }
     {
+        let left = self.into_entries(alloc)?;
         let mut text = header_of(alloc, environment)?;
-        for (name, gathered) in self.into_entries(alloc) {
+        for (name, gathered) in left {
             push_gathered(alloc, &mut text, name, gathered)?;
         }
         Ok(text)
@@ -272,9 +265,10 @@ impl Gathering {
         ensures text { IfOk result (IsTableText environment.now self) }
         ensures faults { IfErr result (λ e. e ≡ TableFault.NoMemory) }
     {
+        let left = self.into_entries(alloc)?;
         let header = header_of(alloc, environment)?;
         let mut rows = Rows::new(alloc)?;
-        for (name, gathered) in self.into_entries(alloc) {
+        for (name, gathered) in left {
             let row = Row::of(alloc, name, gathered)?;
             rows.put(alloc, row)?;
         }

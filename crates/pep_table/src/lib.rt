@@ -4,7 +4,7 @@
 mod gathered;
 mod gathering;
 pub mod laws;
-mod places;
+mod ordered;
 mod printout;
 mod read;
 mod same;

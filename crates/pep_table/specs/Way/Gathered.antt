@@ -1,66 +1,59 @@
--- What is gathered of each name: a number for each name, and by these numbers what is demanded.
-use Rattle.std.specs.Prelude.{◌≡◌, ◌≢◌, ℕ, ◌+◌, ◌<◌, ◌≤◌, List, [], ◌∷◌, length, map, Option, Some, None, ⊤, bytes_eq, false}
-use Rattle.std.specs.Prelude.{slice_index_or, unwrap_or}
-use Rattle.std.specs.BTreeMap.{is_at}
-use Rattle.std.specs.List.{AllByRecursion}
-use Rattle.std.specs.List.Sorted.{IsStrictlySortedBy}
-use Rattle.std.specs.Map.{keys_of, lookup}
-use Rattle.pep_marker.specs.Name.{name_cmp}
+-- What is gathered, as a log of entries, and the table of it.
+use Rattle.std.specs.Prelude.{◌≡◌, ◌⊎◌, ℕ, ◌<◌, Bool, List, [], ◌∷◌, ◌++◌, All, length, Option, Some, None, get_or}
+use Rattle.std.specs.Ordering.{is_lt, match_ordering}
+use Rattle.pep_clause.specs.Way.Joined.{joined}
+use Rattle.pep_marker.specs.Name.{IsNormalName, name_cmp}
 use Rattle.demands.specs.Gathering.{bare_entry}
-use Rattle.demands.specs.Table.{EntryParts, TableParts, entry_at}
+use Rattle.demands.specs.Join.{JoinsTables}
+use Rattle.demands.specs.Way.Collected.{collected_texts}
+use Rattle.demands.specs.Table.{EntryParts, IsValidEntry, TableParts, names}
 
--- names with their numbers, in order
-abbrev pub PlaceParts : Type 0
-PlaceParts = List (List ℕ × ℕ)
+-- what both entries demand
+abbrev pub join_entries : EntryParts → EntryParts → EntryParts
+join_entries a b = record {
+  extras = collected_texts (a.extras ++ b.extras);
+  urls = collected_texts (a.urls ++ b.urls);
+  texts = collected_texts (a.texts ++ b.texts);
+  versions = joined a.versions b.versions;
+}
 
--- the number of a name
-abbrev pub place_at : PlaceParts → List ℕ → Option ℕ
-place_at ps q = lookup (is_at (name_cmp q)) ps
+-- a name with an entry
+abbrev pub Named : Type 0
+Named = List ℕ × EntryParts
 
--- the names ascend, and each has a number of its own, of so many as there are names
-pub record ArePlaces (ps : PlaceParts) : Type 0 where
-  pub ordered : IsStrictlySortedBy name_cmp (keys_of ps)
-  pub within : (q : List ℕ) (i : ℕ) → place_at ps q ≡ Some i → i < length ps
-  pub apart : (q r : List ℕ) (i : ℕ) → place_at ps q ≡ Some i → place_at ps r ≡ Some i → q ≡ r
+-- the table with what an entry demands of its name besides
+abbrev pub put_entry : TableParts → Named → TableParts
+put_entry [] p = p ∷ []
+put_entry (q ∷ t) p = match_ordering (name_cmp p.0 q.0) (p ∷ q ∷ t) ((q.0, join_entries q.1 p.1) ∷ t) (q ∷ put_entry t p)
 
--- no more than one name is new
-pub record AddsAtMostOne (old new : PlaceParts) : Type 0 where
-  pub least : length old ≤ length new
-  pub most : length new ≤ length old + 1
+-- the table of all that the entries of a log demand, where a name may have several
+abbrev pub log_table : TableParts → TableParts
+log_table [] = []
+log_table (p ∷ log) = put_entry (log_table log) p
 
--- the name has this number: its own, or if it had none, the next one
-pub record TakesPlace (old : PlaceParts) (name : List ℕ) (new : PlaceParts) (i : ℕ) : Type 0 where
-  pub own : place_at new name ≡ Some i
-  pub is : i ≡ unwrap_or (place_at old name) (length old)
-  pub others : (q : List ℕ) → bytes_eq name q ≡ false → place_at new q ≡ place_at old q
+-- it may stand in a table
+abbrev pub IsValidNamed : Named → Type 0
+IsValidNamed p = IsNormalName p.0 × IsValidEntry p.1
 
--- what is demanded by this number: nothing, where nothing is kept of it
-abbrev pub demands_at : List EntryParts → ℕ → EntryParts
-demands_at ds i = slice_index_or ds i bare_entry
+abbrev pub IsValidLog : TableParts → Type 0
+IsValidLog log = All IsValidNamed log
 
--- the table of what is kept of the names
-abbrev pub table_of : PlaceParts → List EntryParts → TableParts
-table_of ps ds = map (λ p. (p.0, demands_at ds p.1)) ps
+-- the name stands at this place
+pub record IsAt (ns : List (List ℕ)) (n : List ℕ) (i : ℕ) : Type 0 where
+  pub within : i < length ns
+  pub named : get_or ns i [] ≡ n
 
--- what is kept of numbers that no name has yet is nothing
-pub record HasRoom (ps : PlaceParts) (ds : List EntryParts) : Type 0 where
-  pub enough : length ps ≤ length ds
-  pub bare : (i : ℕ) → length ps ≤ i → demands_at ds i ≡ bare_entry
+-- The name stands at this place of the new log, which has the same table as the old one, but for a new entry of the name
+-- that demands nothing.
+pub record OpensPlace (old : TableParts) (n : List ℕ) (new : TableParts) (i : ℕ) : Type 0 where
+  pub at : IsAt (names new) n i
+  pub table : (log_table new ≡ log_table old) ⊎ JoinsTables (log_table old) ((n, bare_entry) ∷ []) (log_table new)
 
--- the number is that of the name, by which what is demanded of it is kept; of other names it is as before
-pub record OpensPlace (old : TableParts) (name : List ℕ) (ps : PlaceParts) (ds : List EntryParts) (i : ℕ) :
-    Type 0 where
-  pub within : i < length ds
-  pub own : place_at ps name ≡ Some i
-  pub kept : demands_at ds i ≡ unwrap_or (entry_at old name) bare_entry
-  pub others : (q : List ℕ) → bytes_eq name q ≡ false → entry_at (table_of ps ds) q ≡ entry_at old q
-
--- each number is below the bound, and stands once
-abbrev pub AreApart : PlaceParts → ℕ → Type 0
-AreApart [] n = ⊤
-AreApart (p ∷ ps) n = (p.1 < n) × AllByRecursion (λ r. r.1 ≢ p.1) ps × AreApart ps n
+-- the name stands in front of the other one
+abbrev pub goes_before : Named → Named → Bool
+goes_before p q = is_lt (name_cmp p.0 q.0)
 
 -- the table of what is gathered: nothing, where there is none
 abbrev pub gathered_table : Option TableParts → TableParts
 gathered_table None = []
-gathered_table (Some t) = t
+gathered_table (Some log) = log_table log

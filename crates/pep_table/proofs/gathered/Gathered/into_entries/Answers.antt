@@ -1,11 +1,12 @@
-use Rattle.std.proofs.Common.{length, subst, sym}
-use Rattle.pep_table.specs.Way.Gathered.{AreApart, PlaceParts}
-use Rattle.pep_table.proofs.Placed.{below_more}
+use Rattle.std.proofs.Common.{◌≡◌, ◌∙◌, ap, rules, sym}
+use Rattle.std.specs.Vec.Iter.{into_iter_items}
+use Rattle.pep_table.specs.Way.Gathered.{log_table}
+use Rattle.pep_table.proofs.LogTables.{own_table}
 use Rattle.pep_table.proofs.gathered.Gathered.into_entries.Goals as goal
 
-pub invariant_of-result : goal.invariant_of-result
-invariant_of-result c =
-    let ps : PlaceParts = c.self.inside.places in
-    let n = length c.self.inside.demands.items in
-    subst (λ (l : PlaceParts). AreApart l n) (sym c.into_places.ensures.same)
-    (below_more ps (length ps) n c.self.invariant.enough c.into_places.ensures.apart)
+pub returns : goal.returns
+returns c =
+    let new = c.in_ok-log.log.items in
+    let all : into_iter_items c.into_iter.result ≡ new = search rules in
+    all ∙ sym (own_table new c.in_ok-log.ensures.ascending) ∙ c.in_ok-log.ensures.table
+    ∙ ap log_table c.self.view_is

@@ -1,18 +1,22 @@
-use Rattle.pep_table.proofs.Placed.{placed_joins, room_written}
+use Rattle.std.proofs.Common.{◌≡◌, ◌∷◌, [], subst, sym}
+use Rattle.demands.specs.Join.{JoinsEntries, JoinsTables}
+use Rattle.demands.specs.Table.{EntryParts, IsValidEntry}
+use Rattle.pep_table.specs.Way.Gathered.{log_table}
+use Rattle.pep_table.proofs.LogTables.{bare_joined}
 use Rattle.pep_table.proofs.gathered.Gathered.join.Goals as goal
+use Rattle.pep_table.proofs.gathered.Gathered.join.Goals.{In-Ok}
+
+-- what an entry alone demands is the entry
+same : (c : In-Ok) → c.join.new.self ≡ c.args.entry
+same c =
+    bare_joined c.args.entry c.join.new.self c.in-Ok.ensures.valid
+    (subst (λ (b : EntryParts). JoinsEntries b c.args.entry c.join.new.self) c.bare-demands.ensures c.in-Ok.ensures.joined)
+
+pub push-requires : goal.push-requires
+push-requires c =
+    (c.text.ensures.normal, subst IsValidEntry (sym (same (goal.at.push-requires c).In-Ok)) c.in-Ok.ensures.valid)
 
 pub returns : goal.returns
 returns c =
-    placed_joins c.args.self.now c.place_of.new.places c.place_of.new.demands.items c.args.name c.in_ok-place.place
-    c.args.entry c.join.new.self _ _ _ c.self.view_is c.requires c.text.ensures.normal c.in-Ok.ensures.valid
-    c.place_of.ensures.places c.in_ok-place.ensures.opened c.index_mut.ensures.value c.in-Ok.ensures.joined
-
-pub invariant_of-self-in_default : goal.invariant_of-self-in_default
-invariant_of-self-in_default c =
-    room_written c.place_of.new.places c.place_of.new.demands.items c.args.name c.in_ok-place.place
-    c.join.new.self c.place_of.ensures.room c.place_of.ensures.places c.in_ok-place.ensures.opened.own
-
-pub invariant_of-self-2 : goal.invariant_of-self-2
-invariant_of-self-2 c =
-    room_written c.place_of.new.places c.place_of.new.demands.items c.args.name c.in_ok-place.place
-    c.join.new.self c.place_of.ensures.room c.place_of.ensures.places c.in_ok-place.ensures.opened.own
+    subst (λ (e : EntryParts). JoinsTables (log_table c.args.self.now) ((c.args.name, e) ∷ []) (log_table c.push.new.self))
+    (same (goal.at.returns c).In-Ok) c.in_ok-push.ensures.joined

@@ -5,13 +5,14 @@ use Rattle.std.specs.Vec.Iter.{into_iter_items}
 use Rattle.pep_require.specs.Requirement.{IsAscending}
 use Rattle.demands.specs.Join.{JoinsTables}
 use Rattle.demands.specs.Table.{EntryParts, IsValidTable, TableParts, names}
+use Rattle.pep_table.specs.Way.Gathered.{log_table}
 use Rattle.pep_table.proofs.EntryPlaces.{joins_next, joins_none}
 use Rattle.pep_table.proofs.gathering.Gathering.take_table.Goals as goal
 
 pub loop-name-init : goal.loop-name-init
 loop-name-init c = (
   refl,
-  joins_none c.in_ok-gathered.gathered.value
+  joins_none (log_table c.in_ok-gathered.gathered.value)
       (subst IsValidTable (sym c.in_ok-gathered.ensures.same) c.opened.ensures.valid),
   search rules,
 )
@@ -27,10 +28,10 @@ loop-name-preserved c =
     let whole : done ++ p ∷ more ≡ c.args.table =
     ap (λ (l : TableParts). done ++ l) (sym steps) ∙ at.invariant.0 ∙ search rules in (
       append_assoc done (p ∷ []) more ∙ ap (λ (l : TableParts). done ++ l) (sym steps) ∙ at.invariant.0,
-      joins_next c.in_ok-gathered.gathered.value at.gathered.value c.join.new.self done (done ++ p ∷ []) more p
-          at.invariant.1
-          (subst (λ (t : TableParts). JoinsTables t (p ∷ []) c.join.new.self) c.deref_mut.ensures.value
-          c.in_ok-join.ensures) refl
+      joins_next (log_table c.in_ok-gathered.gathered.value) (log_table at.gathered.value) (log_table c.join.new.self)
+          done (done ++ p ∷ []) more p at.invariant.1
+          (subst (λ (l : TableParts). JoinsTables (log_table l) (p ∷ []) (log_table c.join.new.self))
+          c.deref_mut.ensures.value c.in_ok-join.ensures) refl
           (subst (λ (s : TableParts). IsAscending (names s)) (sym whole)
           c.entries.ensures.valid.names.0),
       let was = at.invariant.2 in
@@ -48,5 +49,6 @@ returns-clause-joined c =
     let all : done ≡ c.args.table =
     sym (append-nil done) ∙ ap (λ (l : TableParts). done ++ l) (sym none) ∙ at.invariant.0
     ∙ search rules in
-    subst (λ (t : TableParts). JoinsTables c.args.self t at.gathered.value) all
-    (subst (λ (t : TableParts). JoinsTables t done at.gathered.value) c.in_ok-gathered.ensures.same at.invariant.1)
+    let new : TableParts = log_table at.gathered.value in
+    subst (λ (t : TableParts). JoinsTables c.args.self t new) all
+    (subst (λ (t : TableParts). JoinsTables t done new) c.in_ok-gathered.ensures.same at.invariant.1)
