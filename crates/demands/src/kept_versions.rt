@@ -4,6 +4,7 @@ ghost use Rattle.std.specs.Prelude.{
   ◌≡◌,
   ◌++◌,
   IfOk,
+  IfSome,
   List,
   OnOk,
   Some,
@@ -201,6 +202,29 @@ impl KeptVersions {
         };
         self.beside = Some(beside);
         Ok(())
+    }
+
+    // The packed cuts, if the versions are all that lie between them.
+    fn plain_bounds(&self) -> Option<PackedRange>
+        ensures { IfSome result (λ b. range b.low b.high ≡ self.now) }
+    {
+        match self.beside {
+            Some(_) => None,
+            None => Some(self.bounds),
+        }
+    }
+
+    /// Keeps the versions that are kept by the other ones too. Where these are between two packed cuts, nothing is
+    /// allocated.
+    pub(crate) fn meet_kept(&mut self, alloc: Global, other: KeptVersions) -> Result<(), AllocError>
+        ensures { OnOk result (IsIntersection self.old other self.new) }
+    {
+        if let Some(bounds) = other.plain_bounds() {
+            self.narrow_to(bounds);
+            return Ok(());
+        }
+        let versions = other.finish(alloc)?;
+        self.meet(alloc, versions)
     }
 
     /// The set of the versions. Where there are packed cuts alone, nothing is allocated.

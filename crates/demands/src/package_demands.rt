@@ -4,7 +4,7 @@ ghost use Rattle.std.specs.Prelude.{◌≡◌, [], IfErr, IfOk, IsOk, OnOk, leng
 ghost use Rattle.pep_require.specs.View.{requirement_parts};
 ghost use Rattle.demands.specs.Gathering.{HasValidParts, TakesEntry, bare_entry};
 ghost use Rattle.demands.specs.Join.{JoinsEntries};
-ghost use Rattle.demands.specs.Way.Others.{JoinsOthers, kept_others};
+ghost use Rattle.demands.specs.Way.Others.{JoinsOthers, entry_with, kept_others};
 ghost use Rattle.demands.specs.Way.Judged.{TellsTexts};
 ghost use Rattle.demands.specs.Way.Finished.{other_parts, ranges_entry};
 ghost use Rattle.demands.specs.Table.{EntryDemands, IsValidEntry};
@@ -74,11 +74,44 @@ fn join_line(
         in_order(others);
         return Ok(());
     }
+    join_more(alloc, others, &line.others)
+}
+
+// Takes what another entry demands besides versions.
+fn join_kept(
+    alloc: Global,
+    others: &mut Option<Box<Others>>,
+    more: Option<Box<Others>>,
+) -> Result<(), AllocError>
+    ensures { OnOk result (JoinsOthers
+        (kept_others (option_map (λ b. b.value) others.old))
+        (entry_with (kept_others (option_map (λ b. b.value) more)) [])
+        (kept_others (option_map (λ b. b.value) others.new))) }
+{
+    match more {
+        Some(more) => join_more(alloc, others, &more),
+        None => {
+            in_order(others);
+            Ok(())
+        }
+    }
+}
+
+// Takes these.
+fn join_more(
+    alloc: Global,
+    others: &mut Option<Box<Others>>,
+    more: &Others,
+) -> Result<(), AllocError>
+    ensures { OnOk result (JoinsOthers
+        (kept_others (option_map (λ b. b.value) others.old)) (entry_with more.now [])
+        (kept_others (option_map (λ b. b.value) others.new))) }
+{
     let mut kept = match others.take() {
         Some(kept) => kept,
         None => Box::new(alloc, Others::new(alloc))?,
     };
-    kept.join_others(&line.others)?;
+    kept.join_others(more)?;
     *others = Some(kept);
     Ok(())
 }
@@ -172,6 +205,18 @@ impl PackageDemands {
         line.as_entry();
         join_line(alloc, &mut self.others, line)?;
         self.versions.meet_line(alloc, line)?;
+        Ok(())
+    }
+
+    /// Takes what is gathered of the package elsewhere, which is moved. The only fault is `NoMemory`, 42; what is
+    /// gathered is then of no more use: it may lack what it had.
+    pub fn join_demands(&mut self, alloc: Global, more: PackageDemands) -> Result<(), TableFault>
+        ensures joined { OnOk result (JoinsEntries self.old more self.new) }
+        ensures faults { IfErr result (λ e. e ≡ TableFault.NoMemory) }
+    {
+        let PackageDemands { versions, others } = more;
+        join_kept(alloc, &mut self.others, others)?;
+        self.versions.meet_kept(alloc, versions)?;
         Ok(())
     }
 

@@ -7,7 +7,7 @@ ghost use Rattle.demands.specs.Join.{JoinsTables};
 ghost use Rattle.demands.specs.Table.{IsValidEntry, names};
 ghost use Rattle.pep_table.specs.Way.Gathered.{IsAt, IsValidNamed, OpensPlace, log_table};
 
-use crate::ordered::{is_ascending, ordered};
+use crate::ordered::{is_ascending, ordered, put_in_order};
 use arrayvec::ArrayString;
 use demands::{Entry, LineDemands, PackageDemands};
 use pep_marker::{Name, WrittenName};
@@ -117,7 +117,7 @@ impl Gathered {
     {
         self.known = TextMemory::new(alloc, MOST);
         let log = mem::replace(&mut self.log, Vec::new(alloc));
-        self.log = ordered(alloc, log)?;
+        self.log = put_in_order(alloc, log)?;
         Ok(())
     }
 
