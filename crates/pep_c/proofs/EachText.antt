@@ -2,7 +2,7 @@
 use Rattle.std.proofs.Common.{◌≡◌, ℕ, suc, ◌++◌, List, [], ◌∷◌, Option, Some, None, append_assoc, append-nil, length, refl, subst, sym, ◌∙◌}
 use Rattle.std.specs.Borrow.{Bor}
 use Rattle.std.specs.List.{AllZip}
-use Rattle.shards.proofs.SplitLines.{zip-push}
+use Rattle.std.proofs.lemmas.Slice.Zip.{all_zipped_more}
 
 -- how much is left of a text that is taken part by part
 abbrev pub left_len : Option (Bor (List ℕ)) → ℕ
@@ -30,7 +30,7 @@ pub answered_more : (R : List ℕ → ℕ → Type 0) (texts ahead : List (List 
 answered_more R texts ahead answers more text answer w a e = record {
   taken = w.taken ++ text ∷ [];
   whole = append_assoc w.taken (text ∷ []) ahead ∙ w.whole;
-  each = subst (AllZip R (w.taken ++ text ∷ [])) (sym e) (zip-push R w.taken answers text answer w.each a);
+  each = subst (AllZip R (w.taken ++ text ∷ [])) (sym e) (all_zipped_more R w.taken answers text answer w.each a);
 }
 
 pub all_answered : (R : List ℕ → ℕ → Type 0) (texts : List (List ℕ)) (answers : List ℕ) →

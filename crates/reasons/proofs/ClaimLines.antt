@@ -1,6 +1,6 @@
 -- The lines and texts of which inputs have their requirements, by their numbers; and where the
 -- entries of a table file begin.
-use Rattle.std.proofs.Common.{◌≡◌, ℕ, ◌+◌, ◌⊎◌, Bool, true, false, List, [], ◌∷◌, ◌++◌}
+use Rattle.std.proofs.Common.{◌≡◌, ℕ, ◌+◌, Bool, true, false, List, [], ◌∷◌, ◌++◌}
 use Rattle.std.proofs.Common.{append_assoc, length, refl, sym, ap, subst, ◌∙◌, inl, inr}
 use Rattle.std.proofs.Common.{Option, Ok, Some}
 use Rattle.std.specs.Prelude.{Contains, bytes_eq}
@@ -9,7 +9,6 @@ use Rattle.pep_marker.specs.Environment.{EnvironmentParts}
 use Rattle.pep_marker.specs.Header.{header}
 use Rattle.pep_require.proofs.Ascending.{rest_ascends}
 use Rattle.pep_require.proofs.LineLaws.{one_requirement}
-use Rattle.pep_require.proofs.Members.{in_either, in_first, in_none, in_rest}
 use Rattle.pep_require.specs.Reads.{Reads}
 use Rattle.pep_require.specs.Requirement.{IsAscending, RequirementParts}
 use Rattle.demands.specs.Table.{EntryParts, TableParts, entry_at, names}
@@ -19,67 +18,12 @@ use Rattle.documents.specs.RefusedProject.{IsNumbered}
 use Rattle.pep_table.proofs.EntryPlaces.{behind_apart}
 use Rattle.pep_table.specs.OneText.{entry_first, entry_other}
 use Rattle.pep_table.specs.TableText.{AreTableLines, IsReadAs, entry_text}
+use Rattle.inputs.proofs.ListTexts.{kept_in, kept_of}
 use Rattle.inputs.specs.declared.input.Kind.{Kind}
 use Rattle.inputs.specs.declared.input.Kind.TheVariants as kind
-use Rattle.inputs.specs.Lists.{HoldsTable, Lists, content, is_skipped, lines_of, requirement_lines}
-use Rattle.inputs.specs.Lists.{requirements_among}
+use Rattle.inputs.specs.Lists.{HoldsTable, Lists, content, lines_of, requirement_lines}
 use Rattle.inputs.specs.TableFiles.{IsTableFile}
 use Rattle.reasons.specs.Places.{BeginsOn, EntersAt, RequiresAt}
-
--- ---- lines that are kept
-
-kept_in : (lines : List (List ℕ)) (line : List ℕ) → Contains lines line →
-    is_skipped (content line) ≡ false → Contains (requirements_among lines) (content line)
-kept_in [] line m kept = absurd (in_none line m)
-kept_in (l ∷ lines) line m kept =
-    by (is_skipped (content l)) refl (in_either l lines line m) (λ more. kept_in lines line more kept)
-  where
-    by : (b : Bool) → is_skipped (content l) ≡ b → (l ≡ line) ⊎ Contains lines line →
-        (Contains lines line → Contains (requirements_among lines) (content line)) →
-        Contains (requirements_among (l ∷ lines)) (content line)
-    by true seen (inl same) rest =
-        let both : true ≡ false = sym seen ∙ ap (λ x. is_skipped (content x)) same ∙ kept in cc both
-    by true seen (inr more) rest = rw seen (rest more)
-    by false seen (inl same) rest =
-        rw seen (in_first (content l) (requirements_among lines) (content line) (ap content same))
-    by false seen (inr more) rest =
-        rw seen (in_rest (content l) (requirements_among lines) (content line) (rest more))
-
--- a line of which the text is one of the requirements'
-pub record IsKept (lines : List (List ℕ)) (x : List ℕ) : Type 0 where
-  pub line : List ℕ
-  pub among : Contains lines line
-  pub kept : is_skipped (content line) ≡ false
-  pub text : content line ≡ x
-
-kept_of : (lines : List (List ℕ)) (x : List ℕ) → Contains (requirements_among lines) x →
-    IsKept lines x
-kept_of [] x m = absurd (in_none x m)
-kept_of (l ∷ lines) x m = by (is_skipped (content l)) refl (kept_of lines x)
-  where
-    further : IsKept lines x → IsKept (l ∷ lines) x
-    further found = record {
-      line = found.line;
-      among = in_rest l lines found.line found.among;
-      kept = found.kept;
-      text = found.text;
-    }
-
-    first : is_skipped (content l) ≡ false → (Contains (requirements_among lines) x → IsKept lines x) →
-        (content l ≡ x) ⊎ Contains (requirements_among lines) x → IsKept (l ∷ lines) x
-    first seen rest (inl same) = record {
-      line = l;
-      among = in_first l lines l refl;
-      kept = seen;
-      text = same;
-    }
-    first seen rest (inr more) = further (rest more)
-
-    by : (b : Bool) → is_skipped (content l) ≡ b →
-        (Contains (requirements_among lines) x → IsKept lines x) → IsKept (l ∷ lines) x
-    by true seen rest = further (rest (rw seen at m))
-    by false seen rest =
-        first seen rest (in_either (content l) (requirements_among lines) x (rw seen at m))
 
 number_of : {A : Type 0} (xs : List A) (x : A) → Contains xs x → (n : ℕ) × IsNumbered xs n x
 number_of xs x m = (m.0 + 1, numbered xs m.0 m.0 x m.1 (sym m.2) refl)

@@ -7,20 +7,13 @@ use Rattle.pep_require.proofs.LineLaws.{read_parts}
 use Rattle.pep_require.specs.Faults.{after_name}
 use Rattle.pep_require.specs.Reads.{Reads}
 use Rattle.pep_require.specs.Requirement.{Applies, RequirementParts}
-use Rattle.demands.specs.Demand.{Demand, RequirementDemands, clause, extra, presence, ranges, url}
+use Rattle.demands.specs.Demand.{Demand, RequirementDemands}
+use Rattle.pep_table.proofs.Taking.{demand_name}
 use Rattle.inputs.proofs.SameInputs.{ByOne, demanded_by, demands_of, read_too, text_of}
 use Rattle.inputs.specs.declared.input.Input.{Input}
 use Rattle.inputs.specs.Gathered.{Gathered, HasLine, HasRequirement, IsAccepted}
 use Rattle.inputs.specs.Lists.{content, lines_of}
 use Rattle.shards.specs.Shards.{AreShards, HaveShard, IsInShard, IsShardOf, IsShardOfLine, shard_of}
-
-named_as : (r : RequirementParts) (name : List ℕ) (d : Demand) → RequirementDemands r name d →
-    name ≡ r.name
-named_as r name presence h = h
-named_as r name (extra x) h = h.0
-named_as r name (url x) h = h.0
-named_as r name (clause c) h = h.0
-named_as r name (ranges l) h = h.0
 
 -- the line of a requirement is in the shard of its name ..
 line_in_shard : (count shard : ℕ) (x : List ℕ) (r : RequirementParts) → Reads x r →
@@ -59,7 +52,7 @@ module _ (e : EnvironmentParts) (count shard : ℕ) (all part : List Input)
       let (x, line, reads) = line_of e part r has in
       let there = (h.lines x).0 line in
       let own = shard_of_line count shard x r reads there.1 in (
-        ap (shard_of count) (named_as r name d demands) ∙ own,
+        ap (shard_of count) (demand_name r name d demands) ∙ own,
         demanded_too e all r name d (read_too e all x r all_accepted there.0 reads) applies demands,
       )
   in_all (inr (t, has, demands)) = absurd (h.no_tables_in_part t has)
@@ -67,7 +60,7 @@ module _ (e : EnvironmentParts) (count shard : ℕ) (all part : List Input)
   in_part : shard_of count name ≡ shard → ByOne e all name d → Gathered e part name d
   in_part is (inl (r, has, applies, demands)) =
       let (x, line, reads) = line_of e all r has in
-      let own = ap (shard_of count) (sym (named_as r name d demands)) ∙ is in
+      let own = ap (shard_of count) (sym (demand_name r name d demands)) ∙ is in
       let there = (h.lines x).1 (line, line_in_shard count shard x r reads own) in
       demanded_too e part r name d (read_too e part x r part_accepted there reads) applies demands
   in_part is (inr (t, has, demands)) = absurd (h.no_tables t has)

@@ -5,6 +5,7 @@ use Rattle.std.proofs.lemmas.List.{length-append}
 use Rattle.std.specs.List.{AllZip}
 use Rattle.std.specs.Prelude.{All, max}
 use Rattle.std.proofs.lemmas.List.Elements.{All-cons, All-nil}
+use Rattle.std.proofs.lemmas.Slice.Zip.{all_zipped_more}
 use Rattle.pep_require.specs.Faults.{beginning_fault}
 use Rattle.pep_require.specs.LineParts.{StartsLine}
 use Rattle.pep_require.specs.declared.fault.RequireFault.{RequireFault}
@@ -24,14 +25,6 @@ use Rattle.shards.specs.Shards.{AreShards, HasNoShard, HasNoShards, IsShardOfLin
 
 no_memory_fault : (x : List ℕ) (f : RequireFault) → beginning_fault x ≡ Some f → f ≢ require.NoMemory
 no_memory_fault x f e = grind (arith)
-
--- one text more with its number
-pub zip-push : (R : List ℕ → ℕ → Type 0) (xs : List (List ℕ)) (ys : List ℕ) (x : List ℕ) (y : ℕ) →
-    AllZip R xs ys → R x y → AllZip R (xs ++ x ∷ []) (ys ++ y ∷ [])
-zip-push R [] [] x y z r = (r, tt)
-zip-push R [] (b ∷ ys) x y z r = absurd z
-zip-push R (a ∷ xs) [] x y z r = absurd z
-zip-push R (a ∷ xs) (b ∷ ys) x y z r = (z.0, zip-push R xs ys x y z.1 r)
 
 -- none of the lines that have shards is refused
 none_refused : (count : ℕ) (lines : List (List ℕ)) (shards : List ℕ) →
@@ -68,7 +61,7 @@ split_more count lines number line ahead shards more shard h is e = record {
   whole = append_assoc h.taken (line ∷ []) ahead ∙ h.whole;
   counted = length-append h.taken (line ∷ []) ∙ ap (λ n. n + 1) h.counted;
   each = subst (AllZip (IsShardOfLine count) (h.taken ++ line ∷ [])) (sym e)
-      (zip-push (IsShardOfLine count) h.taken shards line shard h.each is);
+      (all_zipped_more (IsShardOfLine count) h.taken shards line shard h.each is);
 }
 
 pub all_split : (count number : ℕ) (bytes shards : List ℕ) →

@@ -1,6 +1,5 @@
 -- Lists that are made of the lines with one shard, as it is told of them, are that shard of the lists.
-use Rattle.std.proofs.Common.{◌≡◌, ℕ, ◌⊎◌, ◌∙◌, List, [], ◌∷◌, Bool, true, false, Option, refl, subst, sym}
-use Rattle.std.proofs.Common.{ap, inl, inr}
+use Rattle.std.proofs.Common.{◌≡◌, ℕ, ◌⊎◌, ◌∙◌, List, [], ◌∷◌, true, false, Option, subst, sym, inl, inr}
 use Rattle.std.specs.List.{AllZip}
 use Rattle.std.specs.Prelude.{All, Contains, zip}
 use Rattle.std.proofs.lemmas.List.Elements.{All-contains}
@@ -8,65 +7,13 @@ use Rattle.pep_marker.specs.Environment.{EnvironmentParts, extra_in}
 use Rattle.pep_require.proofs.Members.{in_either, in_first, in_none, in_rest}
 use Rattle.demands.specs.Table.{TableParts}
 use Rattle.inputs.specs.Gathered.{HasLine, HasTable}
+use Rattle.inputs.proofs.ListTexts.{IsKept, kept_in, kept_of}
 use Rattle.inputs.specs.Lists.{HoldsTable, IsInputText, content, is_skipped, lines_of, requirement_lines}
-use Rattle.inputs.specs.Lists.{requirements_among}
 use Rattle.inputs.specs.declared.input.Input.{Input}
 use Rattle.inputs.specs.declared.input.Kind.{Kind}
 use Rattle.inputs.specs.declared.input.Kind.TheVariants as kind
 use Rattle.shards.proofs.ShardLaws.{one_shard}
 use Rattle.shards.specs.Shards.{AreListsOfShard, AreShards, HasToldLine, HaveShard, IsInShard, IsShardOfLine}
-
--- ---- lines and their texts
-
--- a line that isn't skipped gives its content ..
-text_of_line : (lines : List (List ℕ)) (line : List ℕ) → Contains lines line →
-    is_skipped (content line) ≡ false → Contains (requirements_among lines) (content line)
-text_of_line [] line has kept = absurd (in_none line has)
-text_of_line (l ∷ lines) line has kept = elim (in_either l lines line has) [
-  | inl same ↦
-      let here : is_skipped (content l) ≡ false = subst (λ t. is_skipped (content t) ≡ false) (sym same) kept in
-      rw here (in_first (content l) (requirements_among lines) (content line) (ap content same))
-  | inr more ↦ further l lines (content line) (is_skipped (content l)) refl (text_of_line lines line more kept)
-]
-  where
-    further : (l : List ℕ) (lines : List (List ℕ)) (x : List ℕ) (b : Bool) → is_skipped (content l) ≡ b →
-        Contains (requirements_among lines) x → Contains (requirements_among (l ∷ lines)) x
-    further l lines x true e m = rw e m
-    further l lines x false e m = rw e (in_rest (content l) (requirements_among lines) x m)
-
--- .. and each of the texts is that of such a line
-record IsTextOf (lines : List (List ℕ)) (x : List ℕ) : Type 0 where
-  pub line : List ℕ
-  pub has : Contains lines line
-  pub is : content line ≡ x
-  pub kept : is_skipped x ≡ false
-
-line_of_text : (lines : List (List ℕ)) (x : List ℕ) → Contains (requirements_among lines) x →
-    IsTextOf lines x
-line_of_text [] x has = absurd (in_none x has)
-line_of_text (l ∷ lines) x has = by (is_skipped (content l)) refl (line_of_text lines x)
-  where
-    later : IsTextOf lines x → IsTextOf (l ∷ lines) x
-    later t = record { line = t.line; has = in_rest l lines t.line t.has; is = t.is; kept = t.kept }
-
-    by : (b : Bool) → is_skipped (content l) ≡ b →
-        (Contains (requirements_among lines) x → IsTextOf lines x) → IsTextOf (l ∷ lines) x
-    by true e rest = later (rest (rw e at has))
-    by false e rest = elim (in_either (content l) (requirements_among lines) x (rw e at has)) [
-      | inl same ↦ record {
-        line = l;
-        has = in_first l lines l refl;
-        is = same;
-        kept = subst (λ t. is_skipped t ≡ false) same e;
-      }
-      | inr more ↦ later (rest more)
-    ]
-
-not_skipped : (line x : List ℕ) → content line ≡ x → is_skipped (content line) ≡ true →
-    is_skipped x ≡ false → ⊥
-not_skipped line x is skipped kept =
-    let own : is_skipped x ≡ true = subst (λ t. is_skipped t ≡ true) is skipped in
-    let both : true ≡ false = sym own ∙ kept in cc both
 
 -- ---- lines and their shards
 
@@ -136,11 +83,10 @@ module _ (e : EnvironmentParts) (count shard : ℕ) (all part : List Input)
 
   -- a line that is told to have the shard is one of all, and has it
   from_told : (line x : List ℕ) → HasToldLine count shard all line → content line ≡ x →
-      is_skipped x ≡ false → HasLine e all x × IsInShard count shard x
+      is_skipped (content line) ≡ false → HasLine e all x × IsInShard count shard x
   from_told line x (i, among, (shards, are, has)) is kept =
       let pair = pair_in count (lines_of i.bytes.items) shards line shard are has in
-      let own : is_skipped (content line) ≡ false = subst (λ t. is_skipped t ≡ false) (sym is) kept in
-      let text = text_of_line (lines_of i.bytes.items) line pair.0 own in
+      let text = kept_in (lines_of i.bytes.items) line pair.0 kept in
       let found : HasLine e all (content line) = (
         i,
         among,
@@ -148,22 +94,22 @@ module _ (e : EnvironmentParts) (count shard : ℕ) (all part : List Input)
             (All-contains IsList all i h.lists among) text,
       ) in (
         subst (HasLine e all) is found,
-        subst (IsInShard count shard) is (names_shard count shard line pair.1 own),
+        subst (IsInShard count shard) is (names_shard count shard line pair.1 kept),
       )
 
-  from_line : (x : List ℕ) (i : Input) → Contains part i → IsTextOf (lines_of i.bytes.items) x →
+  from_line : (x : List ℕ) (i : Input) → Contains part i → IsKept (lines_of i.bytes.items) x →
       HasLine e all x × IsInShard count shard x
-  from_line x i among l = by (h.no_others l.line (i, among, l.has))
+  from_line x i among l = by (h.no_others l.line (i, among, l.among))
     where
       by : HasToldLine count shard all l.line ⊎ (is_skipped (content l.line) ≡ true) →
           HasLine e all x × IsInShard count shard x
-      by (inl told) = from_told l.line x told l.is l.kept
-      by (inr skipped) = absurd (not_skipped l.line x l.is skipped l.kept)
+      by (inl told) = from_told l.line x told l.text l.kept
+      by (inr skipped) = let both : true ≡ false = sym skipped ∙ l.kept in cc both
 
   in_all : (x : List ℕ) → HasLine e part x → HasLine e all x × IsInShard count shard x
   in_all x (i, among, has) =
       from_line x i among
-      (line_of_text (lines_of i.bytes.items) x
+      (kept_of (lines_of i.bytes.items) x
       (text_from (extra_in e) i.kind i.group i.bytes.items x
       (All-contains IsList part i h.lists_in_part among) has))
 
@@ -171,14 +117,12 @@ module _ (e : EnvironmentParts) (count shard : ℕ) (all part : List Input)
   in_part x ((i, among, has), in_shard) =
       let text = text_from (extra_in e) i.kind i.group i.bytes.items x
       (All-contains IsList all i h.lists among) has in
-      let l = line_of_text (lines_of i.bytes.items) x text in
+      let l = kept_of (lines_of i.bytes.items) x text in
       let split =
       All-contains (λ j. (shards : List ℕ) × AreShards count j.bytes.items shards) all i h.split among in
-      let told = told_of count (lines_of i.bytes.items) split.0 l.line split.1 l.has in
-      let own : is_skipped (content l.line) ≡ false =
-      subst (λ t. is_skipped t ≡ false) (sym l.is) l.kept in
+      let told = told_of count (lines_of i.bytes.items) split.0 l.line split.1 l.among in
       let same : told.0 ≡ shard = one_shard count (content l.line) told.0 shard
-      (names_shard count told.0 l.line told.2 own) (subst (IsInShard count shard) (sym l.is) in_shard) in
+      (names_shard count told.0 l.line told.2 l.kept) (subst (IsInShard count shard) (sym l.text) in_shard) in
       let there = h.given l.line (
         i,
         among,
@@ -193,9 +137,9 @@ module _ (e : EnvironmentParts) (count shard : ℕ) (all part : List Input)
         there.1,
         text_in (extra_in e) there.0.kind there.0.group there.0.bytes.items (content l.line)
             (All-contains IsList part there.0 h.lists_in_part there.1)
-            (text_of_line (lines_of there.0.bytes.items) l.line there.2 own),
+            (kept_in (lines_of there.0.bytes.items) l.line there.2 l.kept),
       ) in
-      subst (HasLine e part) l.is found
+      subst (HasLine e part) l.text found
 
 pub told_shard : (e : EnvironmentParts) (count shard : ℕ) (all part : List Input) →
     AreListsOfShard count shard all part → HaveShard e count shard all part
