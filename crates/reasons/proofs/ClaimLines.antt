@@ -2,7 +2,8 @@
 -- entries of a table file begin.
 use Rattle.std.proofs.Common.{◌≡◌, ℕ, ◌+◌, Bool, true, false, List, [], ◌∷◌, ◌++◌}
 use Rattle.std.proofs.Common.{append_assoc, length, refl, sym, ap, subst, ◌∙◌, inl, inr}
-use Rattle.std.proofs.Common.{Option, Ok, Some}
+use Rattle.std.proofs.Common.{Option, Ok, Some, arith}
+use Rattle.std.specs.List.{AllZip}
 use Rattle.std.specs.Prelude.{Contains, bytes_eq}
 use Rattle.std.proofs.lemmas.Slice.Eq.{bytes_eq-Decides}
 use Rattle.pep_marker.specs.Environment.{EnvironmentParts}
@@ -14,6 +15,7 @@ use Rattle.pep_require.specs.Requirement.{IsAscending, RequirementParts}
 use Rattle.demands.specs.Table.{EntryParts, TableParts, entry_at, names}
 use Rattle.documents.proofs.GroupEnds.{one_texts}
 use Rattle.documents.proofs.ReadTexts.{numbered, numbered_in, zip_line, zip_read}
+use Rattle.documents.specs.ProjectRequirements.{IsProjectOf}
 use Rattle.documents.specs.RefusedProject.{IsNumbered}
 use Rattle.pep_table.proofs.EntryPlaces.{behind_apart}
 use Rattle.pep_table.specs.OneText.{entry_first, entry_other}
@@ -23,10 +25,68 @@ use Rattle.inputs.specs.declared.input.Kind.{Kind}
 use Rattle.inputs.specs.declared.input.Kind.TheVariants as kind
 use Rattle.inputs.specs.Lists.{HoldsTable, Lists, content, lines_of, requirement_lines}
 use Rattle.inputs.specs.TableFiles.{IsTableFile}
-use Rattle.reasons.specs.Places.{BeginsOn, EntersAt, RequiresAt}
+use Rattle.reasons.specs.Places.{BeginsOn, EntersAt, IsOfText, RequiresAt}
 
 number_of : {A : Type 0} (xs : List A) (x : A) → Contains xs x → (n : ℕ) × IsNumbered xs n x
 number_of xs x m = (m.0 + 1, numbered xs m.0 m.0 x m.1 (sym m.2) refl)
+
+-- ---- requirements of a project file and their texts, at one number
+
+-- what stands beside a numbered element has its number
+beside : {A B : Type 0} (R : A → B → Type 0) (xs : List A) (before : List B) (y : B)
+    (behind : List B) → AllZip R xs (before ++ y ∷ behind) →
+    (x : A) × IsNumbered xs (length before + 1) x × R x y
+beside R [] [] y behind z = absurd z
+beside R [] (b ∷ before) y behind z = absurd z
+beside R (x ∷ xs) [] y behind z =
+    (x, record { before = []; behind = xs; whole = refl; counted = refl }, z.0)
+beside R (x ∷ xs) (b ∷ before) y behind z =
+    let found = beside R xs before y behind z.1 in
+    let at = found.1 in
+    let count = at.counted in (
+      found.0,
+      record {
+        before = x ∷ at.before;
+        behind = at.behind;
+        whole = ap (λ l. x ∷ l) at.whole;
+        counted = omega (arith, count);
+      },
+      found.2,
+    )
+
+turned : {A B : Type 0} (R : A → B → Type 0) (xs : List A) (ys : List B) → AllZip R xs ys →
+    AllZip (λ y x. R x y) ys xs
+turned R [] [] z = tt
+turned R [] (y ∷ ys) z = absurd z
+turned R (x ∷ xs) [] z = absurd z
+turned R (x ∷ xs) (y ∷ ys) z = (z.0, turned R xs ys z.1)
+
+-- a requirement stands beside a text with its number ..
+pub of_text : (extra : List ℕ) (group : Option (List ℕ)) (bytes : List ℕ)
+    (rs : List RequirementParts) (n : ℕ) (r : RequirementParts) → IsProjectOf extra group bytes rs →
+    IsNumbered rs n r → IsOfText extra group bytes n r
+of_text extra group bytes rs n r h at =
+    let found = beside Reads h.0 at.before r at.behind
+    (subst (λ (l : List RequirementParts). AllZip Reads h.0 l) at.whole h.2) in
+    record {
+      texts = h.0;
+      asked = h.1;
+      text = found.0;
+      numbered = subst (λ k. IsNumbered h.0 k found.0) (sym at.counted) found.1;
+      reads = found.2;
+    }
+
+-- .. and a text beside a requirement
+pub of_number : (extra : List ℕ) (group : Option (List ℕ)) (bytes : List ℕ)
+    (rs : List RequirementParts) (n : ℕ) (r : RequirementParts) → IsProjectOf extra group bytes rs →
+    IsOfText extra group bytes n r → IsNumbered rs n r
+of_number extra group bytes rs n r h at =
+    let same : h.0 ≡ at.texts =
+    cc (one_texts extra group bytes (Ok h.0) (Ok at.texts) h.1 at.asked) in
+    let found = beside (λ q x. Reads x q) rs at.numbered.before at.text at.numbered.behind
+    (subst (AllZip (λ q x. Reads x q) rs) (same ∙ at.numbered.whole) (turned Reads h.0 rs h.2)) in
+    subst (IsNumbered rs n) (one_requirement at.text found.0 r found.2 at.reads)
+    (subst (λ k. IsNumbered rs k found.0) (sym at.numbered.counted) found.1)
 
 -- ---- requirements of an input
 
@@ -39,10 +99,7 @@ required_in extra kind.List group bytes rs number r h at =
     (kept_in (lines_of bytes) at.line (numbered_in (lines_of bytes) number at.line at.numbered) at.kept) in
     subst (Contains rs) (one_requirement (content at.line) found.0 r found.2 at.reads) found.1
 required_in extra kind.Project group bytes rs number r h at =
-    let same : at.texts ≡ h.0 = cc (one_texts extra group bytes (Ok at.texts) (Ok h.0) at.asked h.1) in
-    let found = zip_read h.0 rs at.text h.2
-    (subst (λ l. Contains l at.text) same (numbered_in at.texts number at.text at.numbered)) in
-    subst (Contains rs) (one_requirement at.text found.0 r found.2 at.reads) found.1
+    numbered_in rs number r (of_number extra group bytes rs number r h at)
 required_in extra kind.Table group bytes rs number r h at = absurd at
 
 -- .. and each of them stands at one
@@ -62,17 +119,7 @@ required_at extra kind.List group bytes rs r h has =
       },
     )
 required_at extra kind.Project group bytes rs r h has =
-    let found = zip_line h.0 rs r h.2 has in
-    let at = number_of h.0 found.0 found.1 in (
-      at.0,
-      record {
-        texts = h.0;
-        asked = h.1;
-        text = found.0;
-        numbered = at.1;
-        reads = found.2;
-      },
-    )
+    let at = number_of rs r has in (at.0, of_text extra group bytes rs at.0 r h at.1)
 required_at extra kind.Table group bytes rs r h has = absurd h
 
 -- a table has no requirements

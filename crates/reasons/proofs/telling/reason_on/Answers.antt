@@ -33,21 +33,12 @@ unreachable-requires c =
     let count = reasons.ok.0 in
     let never : false ≡ true = c.in_default.ensures.variant.1 (omega (arith, some, count)) in cc never
 
-pub returns-clause-reason : goal.returns-clause-reason
-returns-clause-reason c =
+pub returns : goal.returns
+returns c =
     let e = c.args.environment.now in
     let inputs = c.args.inputs.now in
     let reasons = c.in_ok-reasons.reasons.items in
-    (only_reason e inputs _ reasons (one_explained c.new-asked.result.items c.push.new.self.items _
+    let one = only_reason e inputs _ reasons (one_explained c.new-asked.result.items c.push.new.self.items _
     c.new-asked.ensures.items c.in_ok-push.ensures.items e inputs reasons
-    c.in_ok-reasons.ensures.reasons) c.pop.new.self.items c.in-Some.reason c.in-Some.ensures.items).reason
-
-pub returns-clause-name : goal.returns-clause-name
-returns-clause-name c =
-    let e = c.args.environment.now in
-    let inputs = c.args.inputs.now in
-    let reasons = c.in_ok-reasons.reasons.items in
-    (only_reason e inputs _ reasons (one_explained c.new-asked.result.items c.push.new.self.items _
-    c.new-asked.ensures.items c.in_ok-push.ensures.items e inputs reasons
-    c.in_ok-reasons.ensures.reasons) c.pop.new.self.items c.in-Some.reason
-    c.in-Some.ensures.items).name_is
+    c.in_ok-reasons.ensures.reasons) c.pop.new.self.items c.in-Some.reason c.in-Some.ensures.items in
+    record { reason = one.reason; name = one.name_is; faults = tt }
