@@ -29,37 +29,20 @@ impl Hint {
     }
 }
 
-// All versions, and none, between two packed cuts.
-fn all_versions() -> PackedRange {
-    PackedRange {
-        low: PackedCut::least(),
-        high: PackedCut::end(),
-    }
-}
-
-fn no_version() -> PackedRange {
-    PackedRange {
-        low: PackedCut::end(),
-        high: PackedCut::least(),
-    }
-}
-
-// The packed cuts between which the versions lie that are in the set too, as far as packed cuts tell.
-fn narrowed(bounds: PackedRange, versions: &VersionSet) -> PackedRange {
+// Moves the bounds inwards, to the versions that lie in the set too, as far as packed cuts tell.
+fn narrow(bounds: &mut PackedRange, versions: &VersionSet) {
     match PackedSet::of(versions) {
-        Some(set) if !set.outside => PackedRange {
-            low: bounds.low.later(set.bounds.low),
-            high: bounds.high.earlier(set.bounds.high),
-        },
-        _ => bounds,
+        Some(set) if !set.outside => bounds.meet(set.bounds),
+        _ => {}
     }
 }
 
 // The packed cuts between which all clauses admit versions, as far as packed cuts tell.
 fn between(alloc: Global, clauses: &[Clause]) -> Result<PackedRange, ClauseFault> {
-    let mut bounds = all_versions();
+    let mut bounds = PackedRange::all();
     for clause in clauses {
-        bounds = narrowed(bounds, &VersionSet::of(alloc, clause)?);
+        let versions = VersionSet::of(alloc, clause)?;
+        narrow(&mut bounds, &versions);
     }
     Ok(bounds)
 }
@@ -69,10 +52,10 @@ fn bounds_of(alloc: Global, claim: &Claim) -> Result<PackedRange, ClauseFault> {
     match claim {
         Claim::Required(requirement) => match requirement.target() {
             Target::Bounds(clauses) => between(alloc, clauses.as_slice()),
-            Target::Direct(_) => Ok(all_versions()),
+            Target::Direct(_) => Ok(PackedRange::all()),
         },
-        Claim::Entered(_, entry) if entry.versions().is_empty() => Ok(no_version()),
-        Claim::Entered(..) => Ok(all_versions()),
+        Claim::Entered(_, entry) if entry.versions().is_empty() => Ok(PackedRange::none()),
+        Claim::Entered(..) => Ok(PackedRange::all()),
     }
 }
 
