@@ -2,6 +2,7 @@
 use Rattle.std.proofs.Common.{◌≡◌, ◌⊎◌, ℕ, List, Result, Ok, Err, IfOk, IfErr, inl, inr, subst}
 use Rattle.std.proofs.Common.{Global, IsErrAnd, String, codes, refl, string_bytes, sym, ℤ, of_z, to_z, w32}
 use Rattle.std.specs.Fmt.{digits}
+use Rattle.std.proofs.lemmas.Result.{IfErr-weaker}
 use Rattle.faults.specs.FaultLine.{fault_line}
 use Rattle.faults.specs.NoMemory.{no_memory}
 use Rattle.faults.specs.declared.fault.Fault.{Fault}
@@ -22,10 +23,10 @@ pub gives_text : (r : Result (String Global) Fault) (Is : List ℕ → Type 0) (
 gives_text r Is size old new h (text, same, out) =
     (string_bytes text, subst (λ x. IfOk x (λ t. Is (string_bytes t))) same h, out)
 
--- the number that it gives is answered
-pub answers : {A : Type 0} (r : Result A Fault) (Is : A → Type 0) (a : A) → IfOk r Is → r ≡ Ok a →
-    Is a
-answers r Is a h same = subst (λ x. IfOk x Is) same h
+-- the number that it gives is answered, and nothing goes out
+pub answers : {A B C : Type 0} {r : Result A Fault} (Is : A → Type 0) {a : A} → IfOk r Is →
+    (B → r ≡ Ok a) → (B → C) → B → Is a × C
+answers Is h same nothing e = (subst (λ x. IfOk x Is) (same e) h, nothing e)
 
 -- its refusal is told
 pub tells : {A : Type 0} (r : Result A Fault) (refuses : Fault → Type 0) (size : ℕ)
@@ -36,11 +37,12 @@ tells r refuses size old new h (fault, inr same, out) =
     (fault, subst (λ x. IfErr x (λ f. (f ≡ no_memory) ⊎ refuses f)) same h, out)
 
 -- .. in other words
-pub told_so : (refuses others : Fault → Type 0) (size : ℕ) (old new : List ℕ) →
-    ((fault : Fault) → refuses fault → others fault) → TellsRefusal refuses size old new →
-    TellsRefusal others size old new
-told_so refuses others size old new f (fault, inl memory, out) = (fault, inl memory, out)
-told_so refuses others size old new f (fault, inr h, out) = (fault, inr (f fault h), out)
+pub told_so : {A : Type 0} (r : Result A Fault) (refuses others : Fault → Type 0) (size : ℕ)
+    (old new : List ℕ) → IfErr r (λ fault. (fault ≡ no_memory) ⊎ refuses fault) →
+    ((fault : Fault) → refuses fault → others fault) →
+    TellsRefusal (λ fault. r ≡ Err fault) size old new → TellsRefusal others size old new
+told_so r refuses others size old new h f told =
+    tells r others size old new (IfErr-weaker r _ _ (λ fault. further (f fault)) h) told
 
 -- what is true of a fault that a `?` hands on, in other words
 pub handed : {A B : Type 0} (refuses : Fault → Type 0) (r : Result A Fault) {fault : Fault} →

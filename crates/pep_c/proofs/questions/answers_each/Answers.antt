@@ -2,18 +2,17 @@ use Rattle.std.proofs.Common.{true, subst, sym}
 use Rattle.demands.specs.Table.{IsTable, TableDemands}
 use Rattle.inputs.specs.Gathered.{Gathered}
 use Rattle.inputs.specs.Origins.{inputs}
-use Rattle.pep_require.proofs.Exits.{further, handed_on}
 use Rattle.pep_c.specs.Inputs.{by_input}
 use Rattle.pep_c.specs.Questions.{AnswersQuestion}
+use Rattle.pep_c.proofs.CallLemmas.{handed}
 use Rattle.pep_c.proofs.EachText.{in_other_words}
 use Rattle.pep_c.proofs.QuestionLemmas.{says_the_same}
 use Rattle.pep_c.proofs.questions.answers_each.Goals as goal
 
 pub returns-in_err-gathering-clause-refused : goal.returns-in_err-gathering-clause-refused
 returns-in_err-gathering-clause-refused c =
-    let exit = c.from_residual-in_err-gathering in
-    handed_on _ exit.result _ exit.ensures.1
-    (further (by_input _ c.in_ok-environment.ensures.ok) c.in_err-gathering.ensures.refused)
+    handed _ _ c.from_residual-in_err-gathering.ensures.1 (by_input _ c.in_ok-environment.ensures.ok)
+    c.in_err-gathering.ensures.refused
 
 pub returns-in-Ok-answers_on-clause-answers : goal.returns-in-Ok-answers_on-clause-answers
 returns-in-Ok-answers_on-clause-answers c =

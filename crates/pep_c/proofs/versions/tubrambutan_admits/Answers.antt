@@ -1,13 +1,8 @@
-use Rattle.pep_c.specs.Versions.{AdmitsVersion}
 use Rattle.pep_c.proofs.CallLemmas.{answers, tells}
 use Rattle.pep_c.proofs.versions.tubrambutan_admits.Goals as goal
 
 pub returns-clause-admits : goal.returns-clause-admits
-returns-clause-admits c = λ e. (
-  answers c.admitted.result (AdmitsVersion c.args.clause.now c.args.version.now)
-      c.give_answer.result.answer c.admitted.ensures.admitted (c.give_answer.ensures.answer e),
-  c.give_answer.ensures.nothing e,
-)
+returns-clause-admits c = answers _ c.admitted.ensures.admitted c.give_answer.ensures.answer c.give_answer.ensures.nothing
 
 pub returns-clause-refused : goal.returns-clause-refused
 returns-clause-refused c = λ e.

@@ -1,13 +1,8 @@
-use Rattle.pep_c.specs.Versions.{IsOrder}
 use Rattle.pep_c.proofs.CallLemmas.{answers, tells}
 use Rattle.pep_c.proofs.versions.tubrambutan_compare.Goals as goal
 
 pub returns-clause-order : goal.returns-clause-order
-returns-clause-order c = λ e. (
-  answers c.order.result (IsOrder c.args.first.now c.args.second.now) c.give_answer.result.answer
-      c.order.ensures.order (c.give_answer.ensures.answer e),
-  c.give_answer.ensures.nothing e,
-)
+returns-clause-order c = answers _ c.order.ensures.order c.give_answer.ensures.answer c.give_answer.ensures.nothing
 
 pub returns-clause-refused : goal.returns-clause-refused
 returns-clause-refused c = λ e.

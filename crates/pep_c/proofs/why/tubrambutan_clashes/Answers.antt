@@ -1,12 +1,10 @@
 use Rattle.std.proofs.Common.{inr}
-use Rattle.pep_c.specs.Inputs.{RefusesInputs, RefusesMerge}
-use Rattle.pep_c.proofs.CallLemmas.{tells, told_so}
+use Rattle.pep_c.specs.Inputs.{RefusesInputs}
+use Rattle.pep_c.proofs.CallLemmas.{told_so}
 use Rattle.pep_c.proofs.why.tubrambutan_clashes.Goals as goal
 
 pub returns-in-Ok-clause-refused : goal.returns-in-Ok-clause-refused
 returns-in-Ok-clause-refused c = λ e.
-    told_so (RefusesInputs c.args.environment.now c.in-Ok.inputs.items)
-    (RefusesMerge c.args.environment.now c.args.parts.now c.args.bytes.now) _ _ _
-    (λ fault h. inr (c.in-Ok.inputs.items, c.in-Ok.ensures.inputs, h))
-    (tells c.told_all.result _ _ _ _ (rw c.as_slice.ensures.value at c.told_all.ensures.refused)
-    (c.give_text.ensures.refused e))
+    told_so c.told_all.result (RefusesInputs c.args.environment.now c.in-Ok.inputs.items) _ _ _ _
+    (rw c.as_slice.ensures.value at c.told_all.ensures.refused)
+    (λ fault h. inr (c.in-Ok.inputs.items, c.in-Ok.ensures.inputs, h)) (c.give_text.ensures.refused e)

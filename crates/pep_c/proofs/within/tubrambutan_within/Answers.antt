@@ -1,13 +1,8 @@
-use Rattle.pep_c.specs.Within.{IsWithin}
 use Rattle.pep_c.proofs.CallLemmas.{answers, tells}
 use Rattle.pep_c.proofs.within.tubrambutan_within.Goals as goal
 
 pub returns-clause-within : goal.returns-clause-within
-returns-clause-within c = λ e. (
-  answers c.compared.result (IsWithin c.args.bytes.now c.args.others.now) c.give_answer.result.answer
-      c.compared.ensures.within (c.give_answer.ensures.answer e),
-  c.give_answer.ensures.nothing e,
-)
+returns-clause-within c = answers _ c.compared.ensures.within c.give_answer.ensures.answer c.give_answer.ensures.nothing
 
 pub returns-clause-refused : goal.returns-clause-refused
 returns-clause-refused c = λ e.
