@@ -8,11 +8,13 @@ are_asked : (c : In_ok-name) →
 are_asked c = record { reads = c.in_ok-version.ensures.version; is_name = c.in_ok-name.ensures.name }
 
 pub returns-in_err-version-clause-refused : goal.returns-in_err-version-clause-refused
-returns-in_err-version-clause-refused c = handed _ _ c.from_residual.ensures.1 by_version c.in_err-version.ensures.refused
+returns-in_err-version-clause-refused c =
+    handed _ _ c.from_residual.ensures.1 by_version c.in_err-version.ensures.refused
 
 pub returns-in_err-name-clause-refused : goal.returns-in_err-name-clause-refused
 returns-in_err-name-clause-refused c =
-    handed _ _ c.from_residual-in_err-name.ensures.1 (by_name _ c.in_ok-version.ensures.version) c.in_err-name.ensures.refused
+    handed _ _ c.from_residual-in_err-name.ensures.1 (by_name _ c.in_ok-version.ensures.version)
+    c.in_err-name.ensures.refused
 
 pub returns-in_err-environment-clause-refused : goal.returns-in_err-environment-clause-refused
 returns-in_err-environment-clause-refused c =
