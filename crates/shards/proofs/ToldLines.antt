@@ -62,6 +62,9 @@ names_shard count shard line h kept = elim h.is [
 
 -- ---- inputs that are lists
 
+never_both : (x : List ℕ) → is_skipped x ≡ true → is_skipped x ≡ false → ⊥
+never_both x skipped kept = let both : true ≡ false = sym skipped ∙ kept in cc both
+
 text_in : (extra : List ℕ) (k : Kind) (group : Option (List ℕ)) (bytes x : List ℕ) → k ≡ kind.List →
     Contains (requirement_lines bytes) x → IsInputText extra k group bytes x
 text_in extra k group bytes x is has = subst (λ j. IsInputText extra j group bytes x) (sym is) has
@@ -104,7 +107,7 @@ module _ (e : EnvironmentParts) (count shard : ℕ) (all part : List Input)
       by : HasToldLine count shard all l.line ⊎ (is_skipped (content l.line) ≡ true) →
           HasLine e all x × IsInShard count shard x
       by (inl told) = from_told l.line x told l.text l.kept
-      by (inr skipped) = let both : true ≡ false = sym skipped ∙ l.kept in cc both
+      by (inr skipped) = absurd (never_both (content l.line) skipped l.kept)
 
   in_all : (x : List ℕ) → HasLine e part x → HasLine e all x × IsInShard count shard x
   in_all x (i, among, has) =
