@@ -7,6 +7,5 @@ mod memory;
 mod plain;
 mod sink;
 mod taking;
-mod text;
 
 pub use crate::sink::{DemandSink, LineSoFar};

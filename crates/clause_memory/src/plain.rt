@@ -2,9 +2,9 @@
 
 ghost use Rattle.std.specs.Prelude.{◌≡◌, ◌≤◌, ◌++◌, ◌∷◌, IfSome, List, ℕ, false, length};
 ghost use Rattle.texts.specs.Runs.{begins, without_leading_blanks};
-ghost use Rattle.clause_memory.specs.Way.Taken.{DemandsFront, goes_on};
-ghost use Rattle.packed_cuts.specs.Way.PackedSet.{ranges_in};
-ghost use Rattle.clause_memory.specs.Way.Plain.{MakesDemand, ReadsOperand};
+ghost use Rattle.clause_memory.specs.Way.Taken.{goes_on};
+ghost use Rattle.specifiers.specs.Front.{OperatorFrom};
+ghost use Rattle.clause_memory.specs.Way.Plain.{MakesDemand, PlainlyDemands, ReadsOperand};
 
 use crate::taking::goes_on;
 use packed_cuts::{PackedRange, PackedSet};
@@ -108,7 +108,6 @@ fn left_behind<'a>(text: &'a str, last: &[u8]) -> Option<&'a str>
     requires { (front : List ℕ) × (text.now ≡ front ++ last.now) }
     ensures left { IfSome result (λ rest. rest.now ≡ without_leading_blanks last.now) }
     ensures ends { IfSome result (λ rest. begins goes_on rest.now ≡ false) }
-    ensures shorter { IfSome result (λ rest. length rest.now ≤ length text.now) }
 {
     let last = without_leading_blanks(last);
     if is_open(last) {
@@ -118,29 +117,35 @@ fn left_behind<'a>(text: &'a str, last: &[u8]) -> Option<&'a str>
     Some(rest)
 }
 
-/// What the clause demands that stands in front of the text, where its version is a release (PEP 440, "Final
-/// releases"), perhaps with `.*` behind it, and what stands behind it. No demand where the clause's packed
-/// cuts, if it has some, are not told at once, or where it may be none: its line goes the whole way.
-/// `None` where nothing is told of the text.
-pub(crate) fn plain_demand(text: &str) -> Option<(Option<PackedSet>, &str)>
-    ensures demand { IfSome result (λ found. IfSome found.0 (λ demand.
-        DemandsFront text.now (ranges_in demand) found.1.now)) }
-    ensures shorter { IfSome result (λ found. length found.1.now ≤ length text.now) }
+/// What is told of a clause at once.
+pub(crate) enum Plain<'a> {
+    /// What it demands, and what stands behind it.
+    Demand(PackedSet, &'a str),
+    /// Packed cuts of it are not told.
+    Unpacked,
+    /// Nothing.
+    Unknown,
+}
+
+/// What the clause demands that stands in front of the text, with this operator and what stands behind it, where its
+/// version is a release (PEP 440, "Final releases"), perhaps with `.*` behind it. It may be no clause where no packed
+/// cuts are told.
+pub(crate) fn plain_demand<'a>(text: &'a str, operator: Op, operand: &str) -> Plain<'a>
+    requires { OperatorFrom text.now operator operand.now }
+    ensures { PlainlyDemands text.now result }
 {
-    let bytes = without_leading_blanks(text.as_bytes());
-    let operator = Op::at_front(bytes)?;
-    // A demanded text is kept as it is, and goes the whole way.
-    if operator == Op::Exact {
-        return Some((None, text));
-    }
-    let (_, operand) = bytes.split_at(operator.text().len());
-    match operand_at(without_leading_blanks(operand)) {
+    match operand_at(operand.as_bytes()) {
         Operand::Release(release) => {
-            let rest = left_behind(text, release.rest)?;
+            let Some(rest) = left_behind(text, release.rest) else {
+                return Plain::Unknown;
+            };
             let numbers = &release.numbers[..release.count];
-            Some((release_demand(operator, numbers, release.starred), rest))
+            match release_demand(operator, numbers, release.starred) {
+                Some(demand) => Plain::Demand(demand, rest),
+                None => Plain::Unpacked,
+            }
         }
-        Operand::Long => Some((None, text)),
-        Operand::Other => None,
+        Operand::Long => Plain::Unpacked,
+        Operand::Other => Plain::Unknown,
     }
 }

@@ -7,27 +7,23 @@ ghost use Rattle.std.specs.Prelude.{
   ◌++◌,
   IfErr,
   IfOk,
-  IsTrue,
-  OnOk,
+  List,
   false,
   length,
+  ℕ,
 };
 ghost use Rattle.std.specs.List.{prefix_len};
 ghost use Rattle.texts.specs.Runs.{begins};
-ghost use Rattle.specifiers.specs.Clause.{Clause};
+ghost use Rattle.specifiers.specs.Front.{OperatorFrom};
 ghost use Rattle.pep_require.specs.LineParts.{RefusesBound};
-ghost use Rattle.demands.specs.Way.LineDemands.{AddsClause, DemandsRanges};
-ghost use Rattle.packed_cuts.specs.Way.PackedSet.{ranges_in};
-ghost use Rattle.clause_memory.specs.Way.Taken.{TakesFront, TakesWhole, goes_on};
+ghost use Rattle.clause_memory.specs.Way.Taken.{TakesFront, goes_on};
 
 use crate::memory::{ClauseMemory, Known};
-use crate::plain::plain_demand;
-use crate::text::text_at;
+use crate::plain::{Plain, plain_demand};
 use demands::LineDemands;
-use packed_cuts::PackedSet;
-use pep_clause::{Clause, ClauseFault, VersionSet};
+use pep_clause::{Clause, ClauseFault, Op, is_demanded_text, operand_in_front};
 use pep_require::RequireFault;
-use std::alloc::{AllocError, Global};
+use std::alloc::Global;
 
 // How many bytes stand before a `,`, a `;` or a `)`.
 fn piece_run(text: &[u8]) -> usize
@@ -52,34 +48,26 @@ pub(crate) fn goes_on(b: u8) -> bool
     b != b',' && b != b';' && b != b')'
 }
 
-// Keeps what a clause demands.
-fn keep(demand: PackedSet, demands: &mut LineDemands) -> Result<(), AllocError>
-    requires { (c : Clause) × DemandsRanges c (ranges_in demand) }
-    ensures { OnOk result ((c : Clause) → DemandsRanges c (ranges_in demand)
-        → AddsClause c demands.old demands.new) }
-{
-    if demand.outside {
-        return demands.leave_out(demand.bounds);
-    }
-    demands.meet(demand.bounds);
-    Ok(())
-}
-
-// Keeps what the clause in front of the text demands, of which no packed cuts were told, and gives what is behind it.
-fn take_unplaced<'a>(
+// Keeps what the clause demands that this operator makes with the run in front of the operand, as it is written. What
+// stands behind it is given.
+fn take_behind<'a>(
     alloc: Global,
-    text: &'a str,
+    operator: Op,
+    operand: &'a str,
     demands: &mut LineDemands,
 ) -> Result<&'a str, RequireFault>
-    ensures taken { IfOk result (λ rest. TakesFront text.now rest.now demands.old demands.new) }
-    ensures refused { IfErr result (λ e. (e ≡ RequireFault.NoMemory) ⊎ RefusesBound text.now e) }
+    ensures taken { IfOk result (λ rest. (x : List ℕ) → OperatorFrom x operator operand.now
+        → TakesFront x rest.now demands.old demands.new) }
+    ensures refused { IfErr result (λ e. (x : List ℕ) → OperatorFrom x operator operand.now
+        → (e ≡ RequireFault.NoMemory) ⊎ RefusesBound x e) }
 {
-    let Some((run, rest)) = text_at(text) else {
-        let (clause, rest) = Clause::at_front(alloc, text)?;
-        demands.put_clause(alloc, &clause)?;
+    let (run, rest) = operand_in_front(operand);
+    if operator == Op::Exact && is_demanded_text(run) {
+        demands.put_text(run)?;
         return Ok(rest);
-    };
-    demands.put_text(run)?;
+    }
+    let clause = Clause::of(alloc, operator, run)?;
+    demands.put_clause(alloc, &clause)?;
     Ok(rest)
 }
 
@@ -95,79 +83,54 @@ impl ClauseMemory {
         ensures taken { IfOk result (λ rest. TakesFront text.now rest.now demands.old demands.new) }
         ensures refused { IfErr result (λ e. (e ≡ RequireFault.NoMemory) ⊎ RefusesBound text.now e) }
     {
-        let Some((found, rest)) = plain_demand(text) else {
-            return self.take_remembered(alloc, text, demands);
+        let Some((operator, operand)) = Op::in_front(text) else {
+            return Err(RequireFault::BadClause(ClauseFault::NoOperator));
         };
-        match found {
-            Some(demand) => {
-                keep(demand, demands)?;
-                Ok(rest)
+        if operator != Op::Exact {
+            match plain_demand(text, operator, operand) {
+                Plain::Demand(demand, rest) => {
+                    demands.admit_packed(&demand)?;
+                    return Ok(rest);
+                }
+                Plain::Unpacked => {}
+                Plain::Unknown => return self.take_remembered(
+                    alloc, text, operator, operand, demands,
+                ),
             }
-            None => take_unplaced(alloc, text, demands),
         }
+        take_behind(alloc, operator, operand, demands)
     }
 
-    // The same of a clause that is cut out, up to the byte that ends it, and looked up by its text.
+    // The same of a clause that is looked up by its text, up to the byte that ends it. If it isn't remembered and is
+    // short, it is from then on.
     fn take_remembered<'a>(
         &mut self,
         alloc: Global,
         text: &'a str,
+        operator: Op,
+        operand: &'a str,
         demands: &mut LineDemands,
     ) -> Result<&'a str, RequireFault>
+        requires { OperatorFrom text.now operator operand.now }
         ensures taken { IfOk result (λ rest. TakesFront text.now rest.now demands.old demands.new) }
         ensures refused { IfErr result (λ e. (e ≡ RequireFault.NoMemory) ⊎ RefusesBound text.now e) }
     {
-        let (piece, rest) = cut_piece(text);
-        let kept = self.take_piece(alloc, piece, demands)?;
-        if kept {
-            return Ok(rest);
-        }
-        // Where the line is refused, the whole text tells how.
-        take_unplaced(alloc, text, demands)
-    }
-
-    // Keeps what the clause demands that the text is, and tells whether it did: not of a demanded text (`===`), of one
-    // that is remembered without packed cuts, or where the text is no clause.
-    fn take_piece(
-        &mut self,
-        alloc: Global,
-        piece: &str,
-        demands: &mut LineDemands,
-    ) -> Result<bool, AllocError>
-        ensures kept { IfOk result (λ kept. IsTrue kept
-            → TakesWhole piece.now demands.old demands.new) }
-        ensures same { IfOk result (λ kept. kept ≡ false → demands.new ≡ demands.old) }
-    {
+        let (piece, end) = cut_piece(text);
         match self.known(piece) {
             Known::Packed(demand) => {
-                keep(demand, demands)?;
-                Ok(true)
+                demands.admit_packed(&demand)?;
+                return Ok(end);
             }
-            Known::Unpacked => Ok(false),
-            Known::Nothing => self.take_new(alloc, piece, demands),
+            Known::Unpacked => return take_behind(alloc, operator, operand, demands),
+            Known::Nothing => {}
         }
-    }
-
-    // The same of a clause that isn't remembered. If it is short, it is remembered then.
-    fn take_new(
-        &mut self,
-        alloc: Global,
-        piece: &str,
-        demands: &mut LineDemands,
-    ) -> Result<bool, AllocError>
-        ensures kept { IfOk result (λ kept. IsTrue kept
-            → TakesWhole piece.now demands.old demands.new) }
-        ensures same { IfOk result (λ kept. kept ≡ false → demands.new ≡ demands.old) }
-    {
-        match Clause::at_front(alloc, piece) {
-            Ok((clause, left)) if left.is_empty() && clause.exact_text().is_none() => {
-                let versions = VersionSet::of(alloc, &clause).map_err(|_| AllocError)?;
-                self.remember(alloc, piece, &PackedSet::of(&versions))?;
-                demands.admit(versions)?;
-                Ok(true)
-            }
-            Err(ClauseFault::NoMemory) => Err(AllocError),
-            _ => Ok(false),
+        let (run, rest) = operand_in_front(operand);
+        let clause = Clause::of(alloc, operator, run)?;
+        let found = demands.put_clause(alloc, &clause)?;
+        // Else a byte follows that doesn't end a clause.
+        if rest.len() == end.len() {
+            self.remember(alloc, piece, &found)?;
         }
+        Ok(rest)
     }
 }

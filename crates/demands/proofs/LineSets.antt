@@ -1,21 +1,27 @@
 -- The versions that the clauses of a line admit: with one clause more, and met with those of a package.
-use Rattle.std.proofs.Common.{◌≡◌, ◌&&◌, ℕ, List, [], ◌∷◌, ◌++◌, Result, Ok, Err, map, sym, ap, subst, ◌∙◌}
-use Rattle.std.specs.Prelude.{OnErr, OnOk}
+use Rattle.std.proofs.Common.{◌≡◌, ◌&&◌, ℕ, List, [], ◌∷◌, ◌++◌, Result, Ok, Err, Option, Some, None}
+use Rattle.std.proofs.Common.{false, map, refl, sym, ap, subst, true, ◌∙◌}
+use Rattle.std.specs.Prelude.{IfSome, OnErr, OnOk}
 use Rattle.std.specs.List.{All}
 use Rattle.std.proofs.lemmas.List.Elements.{All-nil, All-push}
 use Rattle.std.proofs.Math.Bool.{and_assoc}
 use Rattle.std.proofs.Common.{append_assoc}
 use Rattle.std.proofs.lemmas.List.{map_push}
 use Rattle.texts.proofs.Connectives.{and_given}
+use Rattle.specifiers.specs.Clause.{Clause}
 use Rattle.pep_clause.specs.Cut.{end, least}
+use Rattle.pep_clause.specs.OperatorTable.{outside, range}
 use Rattle.pep_clause.specs.Way.Joined.{joined}
 use Rattle.pep_clause.specs.VersionSet.{IsNormal, Range, all_versions, is_point}
 use Rattle.pep_clause.proofs.JoinedPoints.{is_point-joined}
 use Rattle.pep_clause.proofs.LeastCut.{point-all_versions}
+use Rattle.packed_cuts.specs.Way.PackedSet.{ranges_in}
 use Rattle.packed_cuts.specs.declared.packed_range.PackedRange.{PackedRange}
+use Rattle.packed_cuts.specs.declared.packed_set.PackedSet.{PackedSet}
 use Rattle.pep_require.specs.Requirement.{IsAscending}
 use Rattle.demands.specs.Gathering.{bare_entry}
 use Rattle.demands.specs.Join.{IsIntersection, IsUnion}
+use Rattle.demands.specs.Way.LineDemands.{DemandsRanges}
 use Rattle.demands.specs.Way.LineSets.{AreLineSets, AreValidOthers, left_by, line_sets, line_versions}
 use Rattle.demands.specs.Way.Others.{OtherParts, entry_with, no_others}
 use Rattle.demands.specs.Way.PartialJoins.{AreNormal, joined_sets, kept_versions}
@@ -171,3 +177,18 @@ pub put_holds : {A E : Type 0} (r : Result A E) (P : List ℕ → Type 0) (xs zs
     OnOk r (IsUnion xs (y ∷ []) zs) → OnErr r (zs ≡ xs) → All P xs → P y → All P zs
 put_holds (Ok a) P xs zs y u k h p = union_holds P xs (y ∷ []) zs u h (All-push P [] y (All-nil P) p)
 put_holds (Err e) P xs zs y u k h p = subst (All P) (sym k) h
+
+-- ---- a packed set
+
+-- the ranges of one that leaves versions out, and of one that doesn't
+pub outside_ranges : (d : PackedSet) → d.outside ≡ true → ranges_in d ≡ outside d.bounds.low d.bounds.high
+outside_ranges d e = rw e refl
+
+pub inside_ranges : (d : PackedSet) → d.outside ≡ false → ranges_in d ≡ range d.bounds.low d.bounds.high
+inside_ranges d e = rw e refl
+
+-- a clause that demands the versions of a set demands those of its packed set
+pub found_ranges : (c : Clause) (versions : List Range) (found : Option PackedSet) → DemandsRanges c versions →
+    IfSome found (λ d. ranges_in d ≡ versions) → IfSome found (λ d. DemandsRanges c (ranges_in d))
+found_ranges c versions None h is = tt
+found_ranges c versions (Some d) h is = subst (DemandsRanges c) (sym is) h

@@ -1,9 +1,10 @@
 //! What one line demands of its package.
 
-ghost use Rattle.std.specs.Prelude.{◌≡◌, [], IfOk, IsTrue, OnOk};
+ghost use Rattle.std.specs.Prelude.{◌≡◌, [], IfOk, IfSome, IsTrue, OnOk};
 ghost use Rattle.specifiers.specs.Clause.{Clause, demanded, is_demanded_text};
 ghost use Rattle.pep_clause.specs.OperatorTable.{outside, range};
 ghost use Rattle.pep_clause.specs.VersionSet.{IsNormal};
+ghost use Rattle.packed_cuts.specs.Way.PackedSet.{ranges_in};
 ghost use Rattle.pep_require.specs.Requirement.{UrlParts};
 ghost use Rattle.pep_require.specs.View.{requirement_parts, target_parts};
 ghost use Rattle.pep_require.specs.Way.Sink.{Adds, AddsClauses, AddsTarget, with_named};
@@ -89,7 +90,7 @@ impl LineDemands {
 
     /// The versions between the bounds are demanded, by a clause that admits just these.
     #[inline(always)]
-    pub fn meet(&mut self, bounds: PackedRange)
+    pub(crate) fn meet(&mut self, bounds: PackedRange)
         ensures { (c : Clause) → DemandsRanges c (range bounds.low bounds.high)
             → AddsClause c self.old self.new }
     {
@@ -98,7 +99,7 @@ impl LineDemands {
 
     /// The versions that don't lie between the bounds are demanded, by a clause with `!=` that admits just these (PEP
     /// 440, "Version exclusion").
-    pub fn leave_out(&mut self, bounds: PackedRange) -> Result<(), AllocError>
+    pub(crate) fn leave_out(&mut self, bounds: PackedRange) -> Result<(), AllocError>
         requires { IsNormal (outside bounds.low bounds.high) }
         ensures { OnOk result ((c : Clause) → DemandsRanges c (outside bounds.low bounds.high)
             → AddsClause c self.old self.new) }
@@ -107,20 +108,38 @@ impl LineDemands {
         Ok(())
     }
 
-    /// The versions of the set are demanded, by a clause that admits just these.
-    pub fn admit(&mut self, versions: VersionSet) -> Result<(), AllocError>
-        ensures { OnOk result ((c : Clause) → DemandsRanges c versions
+    /// The versions of a packed set are demanded, by a clause that admits just these.
+    #[inline(always)]
+    pub fn admit_packed(&mut self, versions: &PackedSet) -> Result<(), AllocError>
+        requires { IsNormal (ranges_in versions.now) }
+        ensures { OnOk result ((c : Clause) → DemandsRanges c (ranges_in versions.now)
             → AddsClause c self.old self.new) }
+    {
+        if versions.outside {
+            return self.leave_out(versions.bounds);
+        }
+        self.meet(versions.bounds);
+        Ok(())
+    }
+
+    // The versions of the set are demanded, by a clause that admits just these. Its packed set is given, if one is
+    // told.
+    fn admit(&mut self, versions: VersionSet) -> Result<Option<PackedSet>, AllocError>
+        ensures added { IfOk result (λ _. (c : Clause) → DemandsRanges c versions
+            → AddsClause c self.old self.new) }
+        ensures found { IfOk result (λ found. IfSome found (λ d. ranges_in d ≡ versions)) }
     {
         // Its clause tells that the ranges are a normal list.
         let _ = versions.ranges();
         match PackedSet::of(&versions) {
-            Some(set) if set.outside => self.leave_out(set.bounds),
             Some(set) => {
-                self.meet(set.bounds);
-                Ok(())
+                self.admit_packed(&set)?;
+                Ok(Some(set))
             }
-            None => self.push_set(versions),
+            None => {
+                self.push_set(versions)?;
+                Ok(None)
+            }
         }
     }
 
@@ -135,14 +154,22 @@ impl LineDemands {
         Ok(())
     }
 
-    /// A clause is demanded: the versions that it admits, or the text of `===`.
-    pub fn put_clause(&mut self, alloc: Global, clause: &Clause) -> Result<(), AllocError>
-        ensures { OnOk result (AddsClause clause.now self.old self.new) }
+    /// A clause is demanded: the versions that it admits, or the text of `===`. The packed set of these versions is
+    /// given, if one is told.
+    pub fn put_clause(
+        &mut self,
+        alloc: Global,
+        clause: &Clause,
+    ) -> Result<Option<PackedSet>, AllocError>
+        ensures added { IfOk result (λ _. AddsClause clause.now self.old self.new) }
+        ensures found { IfOk result (λ found. IfSome found (λ d.
+            DemandsRanges clause.now (ranges_in d))) }
     {
         // Its clause tells that the clause is valid.
         let _ = clause.op();
         if let Some(text) = clause.exact_text() {
-            return self.put_text(text);
+            self.put_text(text)?;
+            return Ok(None);
         }
         match VersionSet::of(alloc, clause) {
             Ok(versions) => self.admit(versions),

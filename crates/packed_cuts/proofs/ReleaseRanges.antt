@@ -1,8 +1,8 @@
 -- Clauses between the packed cuts of their ends.
-use Rattle.std.proofs.Common.{◌≡◌, ◌⊎◌, ◌∙◌, Bool, ℕ, List, Option, Some, None, Ok, Err, IfSome, true, false, length, nat_lt, refl, inl, inr, subst, sym}
+use Rattle.std.proofs.Common.{◌≡◌, ◌∙◌, Bool, ℕ, List, Option, Some, None, Ok, Err, IfSome, true, false, length, nat_lt, refl}
 use Rattle.std.specs.Prelude.{IsOk, if◌then◌else◌}
 use Rattle.pep_version.specs.Version.{Version}
-use Rattle.specifiers.specs.Clause.{Prefix, compatible, excluding_prefix, matching_prefix, version_clause}
+use Rattle.specifiers.specs.Clause.{Prefix, compatible, prefix_clause, version_clause}
 use Rattle.specifiers.specs.Operator.{begin_of, end_of, leaves_out, of_prefix, of_version}
 use Rattle.specifiers.specs.declared.fault.ClauseFault.TheVariants as fault
 use Rattle.specifiers.specs.declared.op.Op.{Op}
@@ -51,17 +51,13 @@ holds_release o r (Some b) made low high = record {
   between = holds_version o (release_alone r) (Some b) low high;
 }
 
-pub holds_release_prefix : (o : Op) (r : List ℕ) (found : Option PackedRange) → (o ≡ op.Equal) ⊎ (o ≡ op.NotEqual) →
+pub holds_release_prefix : (o : Op) (r : List ℕ) (found : Option PackedRange) →
+    prefix_clause o (release_prefix r) ≡ Ok (of_prefix o (release_prefix r)) →
     IfSome found (λ b. b.low ≡ before_prefix (release_prefix r)) →
     IfSome found (λ b. b.high ≡ prefix_end (release_prefix r)) → IfSome found (HoldsPrefix o r)
-holds_release_prefix o r None e low high = tt
-holds_release_prefix o r (Some b) (inl e) low high = subst (λ o. HoldsPrefix o r b) (sym e) (record {
-  clause = matching_prefix (release_prefix r);
-  made = refl;
-  between = holds_prefix op.Equal (release_prefix r) (Some b) low high;
-})
-holds_release_prefix o r (Some b) (inr e) low high = subst (λ o. HoldsPrefix o r b) (sym e) (record {
-  clause = excluding_prefix (release_prefix r);
-  made = refl;
-  between = holds_prefix op.NotEqual (release_prefix r) (Some b) low high;
-})
+holds_release_prefix o r None made low high = tt
+holds_release_prefix o r (Some b) made low high = record {
+  clause = of_prefix o (release_prefix r);
+  made = made;
+  between = holds_prefix o (release_prefix r) (Some b) low high;
+}

@@ -80,12 +80,9 @@ impl PackedRange {
         ensures exactly { IsSome result
             ↔ ((0 < length release.now) × PrefixHasRange operator release.now) }
     {
-        if release.is_empty() {
+        if release.is_empty() || !operator.takes_prefix() {
             return None;
         }
-        match operator {
-            Op::Equal | Op::NotEqual => prefix_ends(release),
-            _ => None,
-        }
+        prefix_ends(release)
     }
 }

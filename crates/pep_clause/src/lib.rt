@@ -16,5 +16,7 @@ pub use crate::packed_cut::{CUT_ROOM, PackedCut};
 pub use crate::range::Range;
 pub use crate::set::VersionSet;
 pub use crate::turns::Turns;
-pub use specifiers::{Begin, Clause, ClauseFault, End, Op, Operand, is_demanded_text};
+pub use specifiers::{
+    Begin, Clause, ClauseFault, End, Op, Operand, is_demanded_text, operand_in_front,
+};
 pub use texts::TextOut;

@@ -42,7 +42,6 @@ ghost use Rattle.pep_clause.specs.PackedCut.{
   right_behind,
   word_before,
 };
-ghost use Rattle.texts.specs.Lists.{is_empty};
 ghost use Rattle.texts.specs.TextOut.{Extends};
 
 use crate::packed_cut::parts::{front_text, is_past, key_bytes_at, past_bytes_at, put_version_at};
@@ -100,13 +99,6 @@ impl Model for PackedCut {
     } };
 }
 
-// Whether the version has no local version label.
-fn is_public(version: &Version) -> bool
-    ensures { result ≡ is_empty version.now.label }
-{
-    version.label().is_empty()
-}
-
 // The number of the cut directly before the version with these suffixes in place of its own, where it has one.
 fn word_before(
     version: &Version,
@@ -118,7 +110,7 @@ fn word_before(
         w ≡ word_before (with_suffixes version.now pre post dev)) }
     ensures exactly { IsSome result ↔ IsShortVersion (with_suffixes version.now pre post dev) }
 {
-    if version.epoch() != 0 || !is_public(version) {
+    if version.epoch() != 0 || !version.label().is_empty() {
         return None;
     }
     let release = word_of(four(version.release())?)?;

@@ -18,6 +18,7 @@ ghost use Rattle.std.specs.Prelude.{
   IsTrue,
   None,
   length,
+  not,
   OnErr,
   OnOk,
   option_map,
@@ -31,7 +32,7 @@ ghost use Rattle.specifiers.specs.Admits.{admits};
 ghost use Rattle.specifiers.specs.Clause.{demanded_text, prefix_of};
 ghost use Rattle.specifiers.specs.ClauseView.{IsStored, clause_of};
 ghost use Rattle.specifiers.specs.Operator.{of_prefix, of_version};
-ghost use Rattle.pep_clause.specs.Cut.{Cut, IsCut, cut_cmp};
+ghost use Rattle.pep_clause.specs.Cut.{Cut, IsCut, cut_cmp, is_under};
 ghost use Rattle.pep_clause.specs.Inhabited.{HasVersionUnlessEmpty};
 ghost use Rattle.pep_clause.specs.Way.Joined.{all_within, are_within, joined};
 ghost use Rattle.pep_clause.specs.OperatorTable.{outside, range, set_of};
@@ -162,6 +163,7 @@ impl VersionSet {
     /// allocated.
     pub fn between(alloc: Global, low: Cut, high: Cut) -> VersionSet
         ensures ranges { result ≡ range low high }
+        ensures versions { (v : Version) → is_in result v ≡ (is_under high v && not (is_under low v)) }
     {
         VersionSet {
             ranges: Ranges::of_option(alloc, Range::of(low, high)),

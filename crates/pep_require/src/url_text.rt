@@ -44,12 +44,6 @@ fn is_run(text: &str) -> bool
     text.as_bytes().iter().all(|b| *b > 32)
 }
 
-fn is_printable(text: &str) -> bool
-    ensures { result ≡ list_all is_url_byte text.now }
-{
-    text.as_bytes().iter().all(|b| 33 <= *b && *b <= 126)
-}
-
 impl UrlText {
     /// Reads a URL, as the crate `url` does by the URL Standard: a text without white space and without
     /// characters U+0000 to U+001F, which the crate prints with the characters U+0021 to U+007E
@@ -77,7 +71,7 @@ impl UrlText {
             Err(_) => return Err(RequireFault::BadUrl),
         };
         let text = url.as_str();
-        if !is_printable(text) {
+        if !UrlText::is_printable(text) {
             return Err(RequireFault::BadUrl);
         }
         Ok(UrlText {
@@ -100,6 +94,14 @@ impl UrlText {
         ensures bytes { IsTrue result → IsTrue (list_all is_url_byte written.now) }
     {
         is_common(written)
+    }
+
+    /// Whether the text has no other characters than those with which URLs are printed: U+0021 to U+007E (URL Standard,
+    /// "URL serializing").
+    pub fn is_printable(text: &str) -> bool
+        ensures { result ≡ list_all is_url_byte text.now }
+    {
+        text.as_bytes().iter().all(|b| 33 <= *b && *b <= 126)
     }
 
     // A URL of the common form, which is printed as it is written.

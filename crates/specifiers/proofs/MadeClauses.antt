@@ -1,18 +1,21 @@
 -- The clause that an operator makes with a version or a prefix.
-use Rattle.std.proofs.Common.{◌≡◌, ◌≢◌, ◌⊎◌, ◌∙◌, Bool, Some, None, Ok, Err, ap, inl, inr, refl, sym, subst}
+use Rattle.std.proofs.Common.{◌≡◌, ◌≢◌, ◌&&◌, ◌∙◌, Bool, Some, None, Ok, Err, ap, false, not, refl, sym, subst, true}
 use Rattle.std.specs.Prelude.{IsTrue}
+use Rattle.texts.proofs.Connectives.{and-true}
 use Rattle.pep_version.specs.Version.{IsVersion, Version}
 use Rattle.specifiers.proofs.FinalVersion.{IsVersion-prefix_of}
 use Rattle.specifiers.proofs.WrittenLemmas.{version-valid}
 use Rattle.specifiers.specs.Admits.{admits, has_prefix, says}
-use Rattle.specifiers.specs.Clause.{Prefix, prefix_of, version_clause}
+use Rattle.specifiers.specs.Clause.{Prefix, prefix_answer, prefix_clause, prefix_of, version_clause}
 use Rattle.pep_version.specs.Final.{is_final}
 use Rattle.specifiers.specs.ClauseView.{IsStored, clause_of, operand_parts}
-use Rattle.specifiers.specs.Operator.{of_prefix, of_version, operand, operator, prefix_part, version_part}
+use Rattle.specifiers.specs.Operator.{leaves_out, of_prefix, of_version, operand, operator, prefix_part, takes_prefix}
+use Rattle.specifiers.specs.Operator.{version_part}
 use Rattle.specifiers.specs.Valid.{IsValidClause}
 use Rattle.specifiers.specs.declared.clause.Operand.{Operand}
 use Rattle.specifiers.specs.declared.clause.Operand.TheVariants as stored
 use Rattle.specifiers.specs.declared.fault.ClauseFault.{ClauseFault}
+use Rattle.specifiers.specs.declared.fault.ClauseFault.TheVariants as fault
 use Rattle.specifiers.specs.declared.op.Op.{Op}
 use Rattle.specifiers.specs.declared.op.Op.TheVariants as op
 
@@ -30,18 +33,34 @@ stored-version o v h made = record {
   operand = tt;
 }
 
-pub stored-prefix : (o : Op) (v : Version) → (o ≡ op.Equal) ⊎ (o ≡ op.NotEqual) → IsVersion v →
+pub stored-prefix : (o : Op) (v : Version) → takes_prefix o ≡ true → IsVersion v →
     IsTrue (is_final v) → IsStored o (stored.Prefix v)
-stored-prefix o v (inl e) h final = subst (λ o. IsStored o (stored.Prefix v)) (sym e) (record {
-  operator = refl;
-  valid = IsVersion-prefix_of v h;
-  operand = final;
-})
-stored-prefix o v (inr e) h final = subst (λ o. IsStored o (stored.Prefix v)) (sym e) (record {
-  operator = refl;
-  valid = IsVersion-prefix_of v h;
-  operand = final;
-})
+stored-prefix op.Equal v e h final = record { operator = refl; valid = IsVersion-prefix_of v h; operand = final }
+stored-prefix op.NotEqual v e h final = record { operator = refl; valid = IsVersion-prefix_of v h; operand = final }
+stored-prefix o v e h final = cc e
+
+-- the operators that take a prefix make their clause of it, and no others
+prefix-made : (o : Op) (p : Prefix) → takes_prefix o ≡ true → prefix_clause o p ≡ Ok (of_prefix o p)
+prefix-made op.Equal p e = refl
+prefix-made op.NotEqual p e = refl
+prefix-made o p e = cc e
+
+prefix-refused : (o : Op) (p : Prefix) → takes_prefix o ≡ false → prefix_clause o p ≡ Err fault.StarNotAllowed
+prefix-refused op.Equal p e = cc e
+prefix-refused op.NotEqual p e = cc e
+prefix-refused o p e = refl
+
+pub answer-made : (o : Op) (v : Version) → takes_prefix o ≡ true → is_final v ≡ true →
+    Ok (of_prefix o (prefix_of v)) ≡ prefix_answer o (Ok v)
+answer-made o v takes final = rw final (sym (prefix-made o (prefix_of v) takes))
+
+pub answer-refused : (o : Op) (v : Version) → takes_prefix o && is_final v ≡ false →
+    Err fault.StarNotAllowed ≡ prefix_answer o (Ok v)
+answer-refused o v h = by (is_final v) refl
+  where
+    by : (b : Bool) → is_final v ≡ b → Err fault.StarNotAllowed ≡ prefix_answer o (Ok v)
+    by false e = rw e refl
+    by true e = rw e (sym (prefix-refused o (prefix_of v) (sym (and-true (takes_prefix o)) ∙ rw e at h)))
 
 -- ---- its operand
 
@@ -74,8 +93,20 @@ pub says-refused : (o : Op) (w v : Version) (e : ClauseFault) → version_clause
     None ≡ says (version_clause o w) v
 says-refused o w v e made = ap (λ answer. says answer v) (sym made)
 
--- every operator but `!=` admits what has the prefix
-pub admits-of_prefix : (o : Op) (p : Prefix) (v : Version) → ¬ (o ≡ op.NotEqual) →
+-- a clause that leaves out what its operand matches admits what hasn't the prefix, and each other one what has it
+pub admits-inside : (o : Op) (p : Prefix) (v : Version) → leaves_out o ≡ false →
     has_prefix p v ≡ admits (of_prefix o p) v
-admits-of_prefix op.NotEqual p v n = absurd (n refl)
-admits-of_prefix o p v n = refl
+admits-inside op.NotEqual p v e = cc e
+admits-inside o p v e = refl
+
+pub admits-outside : (o : Op) (p : Prefix) (v : Version) → leaves_out o ≡ true →
+    not (has_prefix p v) ≡ admits (of_prefix o p) v
+admits-outside op.NotEqual p v e = refl
+admits-outside o p v e = cc e
+
+pub prefix-says : (o : Op) (p : Prefix) (v : Version) (b : Bool) → takes_prefix o ≡ true →
+    b ≡ admits (of_prefix o p) v → Some b ≡ says (prefix_clause o p) v
+prefix-says o p v b takes told = ap (λ t. Some t) told ∙ ap (λ answer. says answer v) (sym (prefix-made o p takes))
+
+pub prefix-silent : (o : Op) (p : Prefix) (v : Version) → takes_prefix o ≡ false → None ≡ says (prefix_clause o p) v
+prefix-silent o p v takes = ap (λ answer. says answer v) (sym (prefix-refused o p takes))

@@ -19,6 +19,11 @@ clause_run x = take_while is_clause_byte x
 abbrev pub after_run : List ℕ → List ℕ
 after_run x = without_leading_blanks (drop (length (clause_run x)) x)
 
+-- the text begins with the operator, white space before and behind it, and this stands behind that
+pub record OperatorFrom (x : List ℕ) (o : Op) (rest : List ℕ) : Type 0 where
+  pub found : operator_of (without_leading_blanks x) ≡ Some o
+  pub left : rest ≡ after_operator o (without_leading_blanks x)
+
 -- the text begins with the clause: white space, an operator, white space, and the longest run
 pub record ClauseFrom (x : List ℕ) (c : Clause) (rest : List ℕ) : Type 0 where
   pub operator : Op

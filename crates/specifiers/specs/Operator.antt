@@ -64,6 +64,12 @@ abbrev pub leaves_out : Op → Bool
 leaves_out op.NotEqual = true
 leaves_out o = false
 
+-- `.*` may stand behind its release ("Version matching", "Version exclusion")
+abbrev pub takes_prefix : Op → Bool
+takes_prefix op.Equal = true
+takes_prefix op.NotEqual = true
+takes_prefix o = false
+
 -- its version may have a local version label ("Version matching", "Version exclusion")
 abbrev pub takes_label : Op → Bool
 takes_label op.Equal = true

@@ -4,7 +4,7 @@ mod admits;
 mod read;
 mod text;
 
-pub use crate::clause::read::is_demanded_text;
+pub use crate::clause::read::{is_demanded_text, operand_in_front};
 use crate::fault::ClauseFault;
 use crate::op::Op;
 use pep_version::Version;

@@ -6,6 +6,6 @@ mod fault;
 pub mod laws;
 mod op;
 
-pub use crate::clause::{Clause, Operand, is_demanded_text};
+pub use crate::clause::{Clause, Operand, is_demanded_text, operand_in_front};
 pub use crate::fault::ClauseFault;
 pub use crate::op::{Begin, End, Op};

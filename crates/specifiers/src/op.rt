@@ -1,4 +1,5 @@
 use pep_version::Version;
+use texts::stripped;
 
 /// An operator of a version specifier clause (PEP 440, "Version specifiers"): `~=`, `==`, `!=`,
 /// `<=`, `>=`, `<`, `>` and `===`, in this order.
@@ -42,11 +43,42 @@ pub enum End {
 }
 
 impl Op {
-    ghost use Rattle.std.specs.Prelude.{◌≡◌, ◌≢◌, ◌≤◌, ◌<◌, ◌↔◌, ◌||◌, [], IsOk, length};
+    ghost use Rattle.std.specs.Prelude.{
+      ◌≡◌,
+      ◌≢◌,
+      ◌≤◌,
+      ◌<◌,
+      ◌↔◌,
+      ◌||◌,
+      [],
+      IfNone,
+      IfSome,
+      IsOk,
+      IsTrue,
+      None,
+      Ok,
+      length,
+    };
     ghost use Rattle.pep_version.specs.Version.{Version};
-    ghost use Rattle.specifiers.specs.Clause.{operator_of, operator_text, version_clause};
-    ghost use Rattle.specifiers.specs.Operator.{begin_of, end_of, least_numbers, leaves_out, takes_label};
+    ghost use Rattle.specifiers.specs.Clause.{
+      Prefix,
+      operator_of,
+      operator_text,
+      prefix_clause,
+      version_clause,
+    };
+    ghost use Rattle.specifiers.specs.Front.{OperatorFrom};
+    ghost use Rattle.specifiers.specs.Operator.{
+      begin_of,
+      end_of,
+      least_numbers,
+      leaves_out,
+      of_prefix,
+      takes_label,
+      takes_prefix,
+    };
     ghost use Rattle.texts.specs.Lists.{is_empty};
+    ghost use Rattle.texts.specs.Runs.{without_leading_blanks};
 
     /// The longest operator that the text begins with (PEP 440, "Version specifiers").
     #[inline(always)]
@@ -64,6 +96,19 @@ impl Op {
             [b'>', ..] => Some(Op::More),
             _ => None,
         }
+    }
+
+    /// The longest operator in front of a text, and what stands behind it (PEP 440, "Version specifiers"). Spaces and
+    /// tabs may stand before and behind the operator (PEP 508, "Grammar"), and are left out.
+    #[inline(always)]
+    pub fn in_front(text: &str) -> Option<(Op, &str)>
+        ensures found { IfSome result (λ found. OperatorFrom text.now found.0 found.1.now) }
+        ensures none { IfNone result (operator_of (without_leading_blanks text.now) ≡ None) }
+    {
+        let text = stripped(text);
+        let operator = Op::at_front(text.as_bytes())?;
+        let (_, operand) = text.split_at(operator.text().len());
+        Some((operator, stripped(operand)))
     }
 
     /// The operator as it is written (PEP 440, "Version specifiers").
@@ -117,6 +162,19 @@ impl Op {
         ensures { result ≡ leaves_out self }
     {
         self == Op::NotEqual
+    }
+
+    /// Whether a clause with this operator may have `.*` behind its release (PEP 440, "Version matching", "Version
+    /// exclusion").
+    #[inline(always)]
+    pub fn takes_prefix(self) -> bool
+        ensures prefix { result ≡ takes_prefix self }
+        ensures clause { (p : Prefix) → (IsTrue result ↔ prefix_clause self p ≡ Ok (of_prefix self p)) }
+    {
+        match self {
+            Op::Equal | Op::NotEqual => true,
+            Op::Compatible | Op::AtMost | Op::AtLeast | Op::Less | Op::More | Op::Exact => false,
+        }
     }
 
     /// Whether the version has no local version label, or the operator takes one (PEP 440, "Version matching", "Version

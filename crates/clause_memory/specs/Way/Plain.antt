@@ -13,7 +13,10 @@ use Rattle.packed_cuts.specs.Way.PackedSet.{ranges_in}
 use Rattle.packed_cuts.specs.declared.packed_set.PackedSet.{PackedSet}
 use Rattle.clause_memory.specs.declared.plain.Operand.{Operand}
 use Rattle.clause_memory.specs.declared.plain.Operand.TheVariants as operand
+use Rattle.clause_memory.specs.declared.plain.Plain.{Plain}
+use Rattle.clause_memory.specs.declared.plain.Plain.TheVariants as plain
 use Rattle.clause_memory.specs.declared.plain.Release.{Release}
+use Rattle.clause_memory.specs.Way.Taken.{DemandsFront}
 
 -- a digit, or the dot between two numbers
 abbrev pub is_release_byte : ℕ → Bool
@@ -49,3 +52,8 @@ pub record MakesDemand (o : Op) (r : List ℕ) (starred : Bool) (d : PackedSet) 
   pub clause : Clause
   pub made : MakesClause o r starred clause
   pub versions : ranges_in d ≡ set_of clause
+
+-- what is told of the clause in front of the text is so
+abbrev pub PlainlyDemands : List ℕ → Plain → Type 0
+PlainlyDemands x (plain.Demand d rest) = DemandsFront x (ranges_in d) rest.now
+PlainlyDemands x _ = Unit {0}

@@ -4,7 +4,7 @@ use Rattle.specifiers.specs.Clause.{Clause}
 use Rattle.pep_clause.specs.VersionSet.{Range}
 use Rattle.pep_marker.specs.Environment.{EnvironmentParts}
 use Rattle.specifiers.specs.Front.{ClauseFrom}
-use Rattle.pep_require.specs.Reads.{IsBound, ReadsUrl}
+use Rattle.pep_require.specs.Reads.{ReadsUrl}
 use Rattle.pep_require.specs.Requirement.{MarkerSays, RequirementParts, UrlParts}
 use Rattle.demands.specs.Way.LineDemands.{AddsClause, AddsUrl, DemandsEntry, DemandsRanges}
 use Rattle.demands.specs.Table.{EntryParts}
@@ -28,12 +28,6 @@ pub record HoldsLine (e : EnvironmentParts) (line : LineSoFar) (p : RequirementP
   pub marker : MarkerSays e p.marker line.applies
 
 -- ---- the code's way
-
--- all of the text is a clause, with white space round it; of the line's demands the new ones are with it besides
-pub record TakesWhole (x : List ℕ) (old new : EntryParts) : Type 0 where
-  pub clause : Clause
-  pub read : IsBound x clause
-  pub adds : AddsClause clause old new
 
 -- the byte ends no clause
 abbrev pub goes_on : ℕ → Bool

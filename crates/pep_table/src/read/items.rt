@@ -5,7 +5,6 @@ ghost use Rattle.std.specs.Prelude.{
   ◌⊎◌,
   ◌↔◌,
   ◌++◌,
-  ◌&&◌,
   ◌∷◌,
   [],
   IfErr,
@@ -16,26 +15,20 @@ ghost use Rattle.std.specs.Prelude.{
   None,
   codes,
   map,
-  not,
   ℕ,
 };
-ghost use Rattle.std.specs.Char.{is_ascii_uppercase};
-ghost use Rattle.std.specs.List.{list_all};
-ghost use Rattle.texts.specs.Bytes.{is_clause_byte};
-ghost use Rattle.specifiers.specs.Clause.{is_demanded_text};
-ghost use Rattle.pep_require.specs.Reads.{is_url_byte};
 ghost use Rattle.pep_marker.specs.Name.{IsNormalName};
 ghost use Rattle.pep_require.specs.Requirement.{IsAscending};
-ghost use Rattle.demands.specs.Table.{is_url_text};
 ghost use Rattle.pep_table.specs.Way.TableReading.{AreItems, Front, HasNoFront, kind_front};
 ghost use Rattle.pep_table.specs.Way.ReadText.{AreKindLines, HaltsAt, IsBehind};
 ghost use Rattle.pep_table.specs.Way.TextLines.{may_stand};
 
 use crate::read::Halt;
 use demands::{Kept, Sorted};
+use pep_clause::is_demanded_text;
 use pep_marker::{MarkerFault, Name};
+use pep_require::UrlText;
 use std::alloc::{AllocError, Global};
-use texts::is_clause_byte;
 
 /// A kind of lines.
 pub(crate) trait LineKind {
@@ -105,39 +98,13 @@ impl LineKind for Extras {
     }
 }
 
-fn has_url_bytes(text: &str) -> bool
-    ensures { result ≡ list_all is_url_byte text.now }
-{
-    text.as_bytes().iter().all(|b| 33 <= *b && *b <= 126)
-}
-
-fn is_url_text(text: &str) -> bool
-    ensures { result ≡ is_url_text text.now }
-{
-    !text.is_empty() && has_url_bytes(text)
-}
-
-fn has_demanded_bytes(text: &str) -> bool
-    ensures { result ≡ list_all (λ b. is_clause_byte b && not (is_ascii_uppercase b)) text.now }
-{
-    text.as_bytes()
-        .iter()
-        .all(|b| is_clause_byte(*b) && !b.is_ascii_uppercase())
-}
-
-fn is_demanded_text(text: &str) -> bool
-    ensures { result ≡ is_demanded_text text.now }
-{
-    !text.is_empty() && has_demanded_bytes(text)
-}
-
 impl TextLines {
     // Whether the text may stand on such a line.
     fn may_stand(&self, text: &str) -> bool
         ensures { result ≡ may_stand self.now text.now }
     {
         match self {
-            TextLines::Urls => is_url_text(text),
+            TextLines::Urls => !text.is_empty() && UrlText::is_printable(text),
             TextLines::Demanded => is_demanded_text(text),
         }
     }

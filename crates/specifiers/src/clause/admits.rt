@@ -2,7 +2,6 @@
 
 ghost use Rattle.std.specs.Prelude.{◌≡◌, ◌≢◌};
 ghost use Rattle.pep_version.specs.Order.{public_version, version_cmp};
-ghost use Rattle.texts.specs.Lists.{is_empty};
 ghost use Rattle.specifiers.specs.Admits.{
   admits,
   begins_padded,
@@ -31,13 +30,6 @@ use crate::op::Op;
 use pep_version::Version;
 use std::alloc::Global;
 use std::cmp::Ordering;
-
-// Whether the version has no local version label.
-fn is_public(version: &Version) -> bool
-    ensures { result ≡ is_empty version.now.label }
-{
-    version.label().is_empty()
-}
 
 // How the version without its local version label stands to the other.
 fn public_order(version: &Version, other: &Version) -> Ordering
@@ -97,7 +89,7 @@ fn has_prefix(epoch: u64, numbers: &[u64], version: &Version) -> bool
 fn matches(wanted: &Version, version: &Version) -> bool
     ensures { result ≡ matches wanted.now version.now }
 {
-    if is_public(wanted) {
+    if wanted.label().is_empty() {
         public_order(version, wanted) == Ordering::Equal
     } else {
         version.order_to(wanted) == Ordering::Equal
@@ -182,9 +174,11 @@ fn admitted_by(op: Op, wanted: &Version, version: &Version) -> Option<bool>
 fn admits_prefix(op: Op, prefix: &Version, version: &Version) -> bool
     ensures { result ≡ admits (of_prefix op (prefix_of prefix.now)) version.now }
 {
-    match op {
-        Op::NotEqual => !matches_prefix(prefix, version),
-        _ => matches_prefix(prefix, version),
+    let has_prefix = matches_prefix(prefix, version);
+    if op.leaves_out() {
+        !has_prefix
+    } else {
+        has_prefix
     }
 }
 
@@ -192,11 +186,10 @@ fn admits_prefix(op: Op, prefix: &Version, version: &Version) -> bool
 fn admitted_by_prefix(op: Op, prefix: &Version, version: &Version) -> Option<bool>
     ensures { result ≡ says (prefix_clause op (prefix_of prefix.now)) version.now }
 {
-    match op {
-        Op::Equal => Some(matches_prefix(prefix, version)),
-        Op::NotEqual => Some(!matches_prefix(prefix, version)),
-        _ => None,
+    if !op.takes_prefix() {
+        return None;
     }
+    Some(admits_prefix(op, prefix, version))
 }
 
 impl Clause {

@@ -15,6 +15,7 @@ ghost use Rattle.specifiers.specs.Clause.{
   version_answer,
   version_clause,
 };
+ghost use Rattle.specifiers.specs.Front.{after_run, clause_run};
 ghost use Rattle.specifiers.specs.Operator.{of_version};
 ghost use Rattle.texts.specs.Bytes.{is_clause_byte};
 
@@ -59,6 +60,17 @@ pub fn is_demanded_text(text: &str) -> bool
     !text.is_empty() && are_lower(text.as_bytes())
 }
 
+/// The longest run in front of a text of the bytes that may stand behind a clause's operator, which are letters,
+/// digits and bytes of `-_.*+!` (PEP 508, "Grammar"), and what stands behind that, without white space before it.
+#[inline(always)]
+pub fn operand_in_front(text: &str) -> (&str, &str)
+    ensures run { result.0.now ≡ clause_run text.now }
+    ensures left { result.1.now ≡ after_run text.now }
+{
+    let (run, rest) = text.split_at(clause_run(text.as_bytes()));
+    (run, stripped(rest))
+}
+
 // `===` and the text behind it.
 fn demanded_clause(alloc: Global, text: &str) -> Result<Clause, ClauseFault>
     ensures { TargetAnswers Op.Exact text.now result }
@@ -75,12 +87,10 @@ fn prefix_clause(operator: Op, version: Version) -> Result<Clause, ClauseFault>
     requires { IsVersion version }
     ensures { result ≡ prefix_answer operator (Ok version) }
 {
-    match operator {
-        Op::Equal | Op::NotEqual if version.is_final() => {
-            Ok(Clause::made(operator, Operand::Prefix(version)))
-        }
-        _ => Err(ClauseFault::StarNotAllowed),
+    if operator.takes_prefix() && version.is_final() {
+        return Ok(Clause::made(operator, Operand::Prefix(version)));
     }
+    Err(ClauseFault::StarNotAllowed)
 }
 
 /// Why the operator and the version make no clause, if they make none.
@@ -184,14 +194,11 @@ impl Clause {
         ensures valid { IfOk result (λ found. IsValidClause found.0) }
         ensures refused { IfErr result (λ e. (e ≡ ClauseFault.NoMemory) ⊎ RefusesFront text.now e) }
     {
-        let text = stripped(text);
-        let Some(operator) = Op::at_front(text.as_bytes()) else {
+        let Some((operator, operand)) = Op::in_front(text) else {
             return Err(ClauseFault::NoOperator);
         };
-        let (_, operand) = text.split_at(operator.text().len());
-        let operand = stripped(operand);
-        let (run, rest) = operand.split_at(clause_run(operand.as_bytes()));
+        let (run, rest) = operand_in_front(operand);
         let clause = Clause::of(alloc, operator, run)?;
-        Ok((clause, stripped(rest)))
+        Ok((clause, rest))
     }
 }

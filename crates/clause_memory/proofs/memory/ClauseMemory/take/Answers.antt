@@ -1,15 +1,22 @@
 use Rattle.std.proofs.Common.{subst}
-use Rattle.std.specs.Prelude.{IfSome}
 use Rattle.packed_cuts.specs.Way.PackedSet.{ranges_in}
+use Rattle.clause_memory.specs.Way.Plain.{PlainlyDemands}
 use Rattle.clause_memory.specs.Way.Taken.{DemandsFront}
-use Rattle.clause_memory.proofs.FrontClauses.{front_taken}
+use Rattle.clause_memory.proofs.FrontClauses.{demanded_normal, front_taken}
 use Rattle.clause_memory.proofs.memory.ClauseMemory.take.Goals as goal
+use Rattle.clause_memory.proofs.memory.ClauseMemory.take.Goals.{In-Demand}
 
-pub returns-in_ok-keep-in-Some-found-clause-taken : goal.returns-in_ok-keep-in-Some-found-clause-taken
-returns-in_ok-keep-in-Some-found-clause-taken c =
-    let x = c.args.text.now in
-    let rest = c.in-Some.rest.now in
-    let front = subst (λ o. IfSome o (λ d. DemandsFront x (ranges_in d) rest)) c.in-Some-found.is
-    c.in-Some.ensures.demand in
-    front_taken x rest c.args.demands.now c.keep.new.demands (ranges_in c.in-Some-found.demand) front
-    c.in_ok-keep-in-Some-found.ensures
+-- what is told of the clause at once
+told : (c : In-Demand) → DemandsFront c.args.text.now (ranges_in c.in-Demand.demand) c.in-Demand.rest.now
+told c = subst (PlainlyDemands c.args.text.now) c.in-Demand.is c.plain_demand.ensures
+
+pub admit_packed-requires : goal.admit_packed-requires
+admit_packed-requires c =
+    let told = told (goal.at.admit_packed-requires c).In-Demand in
+    demanded_normal told.clause (ranges_in c.in-Demand.demand) told.demands
+
+pub returns-in-Demand-clause-taken : goal.returns-in-Demand-clause-taken
+returns-in-Demand-clause-taken c =
+    front_taken c.args.text.now c.in-Demand.rest.now c.args.demands.now c.admit_packed.new.self
+    (ranges_in c.in-Demand.demand) (told (goal.at.returns-in-Demand-clause-taken c).In-Demand)
+    c.in_ok-admit_packed-in-Demand.ensures

@@ -1,17 +1,12 @@
-use Rattle.std.proofs.Common.{◌≡◌, rules, subst}
-use Rattle.std.proofs.lemmas.Result.{on_ok_weaker}
-use Rattle.pep_clause.specs.OperatorTable.{outside, range}
+use Rattle.std.proofs.Common.{subst, sym}
+use Rattle.pep_clause.specs.VersionSet.{IsNormal}
 use Rattle.demands.specs.Way.LineDemands.{DemandsRanges}
 use Rattle.demands.proofs.line_demands.LineDemands.admit.Goals as goal
 
-pub returns-in-Some : goal.returns-in-Some
-returns-in-Some c =
-    let b = c.in-Some.set.bounds in
-    let ranges : c.args.versions ≡ outside b.low b.high = search rules in
-    on_ok_weaker c.leave_out.result (λ h clause d. h clause (subst (DemandsRanges clause) ranges d)) c.leave_out.ensures
+pub admit_packed-requires : goal.admit_packed-requires
+admit_packed-requires c = subst IsNormal (sym c.in-Some.ensures.ranges) c.ranges-2.ensures.normal
 
-pub returns-in-Some-2 : goal.returns-in-Some-2
-returns-in-Some-2 c =
-    let b = c.in-Some.set.bounds in
-    let ranges : c.args.versions ≡ range b.low b.high = search rules in
-    λ clause d. c.meet.ensures clause (subst (DemandsRanges clause) ranges d)
+pub returns-in_ok-admit_packed-in-Some-clause-added : goal.returns-in_ok-admit_packed-in-Some-clause-added
+returns-in_ok-admit_packed-in-Some-clause-added c =
+    λ clause d. c.in_ok-admit_packed-in-Some.ensures clause
+    (subst (DemandsRanges clause) (sym c.in-Some.ensures.ranges) d)

@@ -18,7 +18,7 @@ loop-clause-preserved c =
     subst (AddsClauses (λ r. DemandsEntry r c.args.self.now) (λ r. DemandsEntry r c.put_clause.new.self)) (sym step)
     (and_more (λ r. DemandsEntry r c.args.self.now) (λ r. DemandsEntry r c.loop-clause.self)
     (λ r. DemandsEntry r c.put_clause.new.self) (take i clauses) (clause ∷ []) c.loop-clause.invariant
-    c.in_ok-put_clause.ensures)
+    c.in_ok-put_clause.ensures.added)
 
 pub returns : goal.returns
 returns c =
