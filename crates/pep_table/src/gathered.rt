@@ -7,7 +7,7 @@ ghost use Rattle.demands.specs.Join.{JoinsTables};
 ghost use Rattle.demands.specs.Table.{IsValidEntry, names};
 ghost use Rattle.pep_table.specs.Way.Gathered.{IsAt, IsValidNamed, OpensPlace, log_table};
 
-use crate::ordered::{is_ascending, ordered, put_in_order};
+use crate::ordered::{is_ascending, ordered, place_among, put_in_order};
 use arrayvec::ArrayString;
 use demands::{Entry, LineDemands, PackageDemands};
 use pep_marker::{Name, WrittenName};
@@ -39,11 +39,14 @@ impl OfText for KnownName {
 }
 
 /// A log of what is demanded. A name that is remembered goes on in its entry, and another one begins a new entry, even
-/// where the name has one. When the log has doubled, it is put in order, and the entries of a name are joined. So names
-/// that fall together in the memory cost no more than that. Clauses see the list of the entries.
+/// where the name has one. When the log has doubled, it is put in order, and the entries of a name are joined. If a
+/// quarter of them had one already, names are also looked for among those in order from then on. So names that fall
+/// together in the memory cost no more than that. Clauses see the list of the entries.
 #[derive(Drop)]
 pub(crate) struct Gathered {
     log: Vec<(Name, PackageDemands)>,
+    // Among so many at the front, which are in order, names are looked for.
+    ordered: usize,
     known: TextMemory<KnownName>,
     // At this length, the log is put in order.
     room: usize,
@@ -69,6 +72,7 @@ impl Gathered {
     {
         Gathered {
             log: Vec::new(alloc),
+            ordered: 0,
             known: TextMemory::new(alloc, MOST),
             room: FEWEST,
         }
@@ -116,8 +120,12 @@ impl Gathered {
         ensures { OnOk result (log_table self.new ≡ log_table self.old) }
     {
         self.known = TextMemory::new(alloc, MOST);
+        let most = self.log.len() / 4 * 3;
         let log = mem::replace(&mut self.log, Vec::new(alloc));
         self.log = put_in_order(alloc, log)?;
+        if self.ordered > 0 || self.log.len() <= most {
+            self.ordered = self.log.len();
+        }
         Ok(())
     }
 
@@ -163,12 +171,31 @@ impl Gathered {
         self.append(name, demands)
     }
 
-    // Begins an entry that demands nothing of the name, remembers the name as it is normalized, and gives the place.
+    // The place of an entry of the name, if it is found among those in order.
+    fn ordered_place(&self, name: &Name) -> Option<usize>
+        ensures { IfSome result (IsAt (names self.now) name.now) }
+    {
+        let count = self.ordered.min(self.log.len());
+        let (front, _) = self.log.as_slice().split_at(count);
+        place_among(front, name)
+    }
+
+    // The place of an entry of the name: one in order, or else a new one that demands nothing.
+    fn found_or_begun(&mut self, alloc: Global, name: Name) -> Result<usize, AllocError>
+        ensures { IfOk result (OpensPlace self.old name self.new) }
+    {
+        if let Some(place) = self.ordered_place(&name) {
+            return Ok(place);
+        }
+        self.push(alloc, name, PackageDemands::bare())
+    }
+
+    // The place of an entry of a name that isn't remembered. If it is short, it is from then on, as it is normalized.
     fn begin(&mut self, alloc: Global, name: Name) -> Result<usize, AllocError>
         ensures { IfOk result (OpensPlace self.old name self.new) }
     {
         let text = ArrayString::from(name.text()).ok();
-        let place = self.push(alloc, name, PackageDemands::bare())?;
+        let place = self.found_or_begun(alloc, name)?;
         if let Some(text) = text {
             self.remember_text(alloc, text, place)?;
         }
@@ -271,6 +298,7 @@ impl Gathered {
     {
         let Gathered {
             log,
+            ordered: _,
             known: _,
             room: _,
         } = self;
