@@ -1,19 +1,22 @@
 -- The clause in front of a text, and where it ends.
-use Rattle.std.proofs.Common.{◌≡◌, ℕ, ◌<◌, false, List, [], ◌∷◌, ◌++◌, Option, Some, None, refl, sym, subst, ap, ◌∙◌}
+use Rattle.std.proofs.Common.{◌≡◌, ℕ, ◌<◌, true, false, List, [], ◌∷◌, ◌++◌, Option, Some, None, refl, sym, subst, ap, ◌∙◌}
 use Rattle.std.proofs.Common.{◌-◌, append_assoc, arith, length, length-append, take, drop}
-use Rattle.std.proofs.Math.Seq.{drop-append_seam, take-append_seam}
-use Rattle.std.specs.List.{prefix_len}
+use Rattle.std.proofs.Math.Seq.{drop-append_seam}
+use Rattle.std.specs.List.{list_all, prefix_len}
+use Rattle.std.proofs.lemmas.List.Folds.{list_all-append}
+use Rattle.pep_version.proofs.NormalTexts.{list_all-weaker}
 use Rattle.std.specs.Prelude.{IfSome}
 use Rattle.std.proofs.lemmas.Bool.Decides.{nat_tests}
 use Rattle.std.proofs.lemmas.List.{take-append-drop}
-use Rattle.specifiers.specs.Clause.{Clause, IsClauseOf}
+use Rattle.specifiers.specs.Clause.{Clause, operator_text}
 use Rattle.pep_clause.specs.VersionSet.{IsNormal, Range}
 use Rattle.pep_clause.proofs.SetLemmas.{IsNormal-set_of}
 use Rattle.texts.specs.Bytes.{is_blank_byte, is_clause_byte}
 use Rattle.texts.specs.Runs.{begins, without_leading_blanks}
-use Rattle.texts.proofs.RunLemmas.{begins-rest}
-use Rattle.specifiers.specs.Front.{ClauseFrom, OperatorFrom, after_run, clause_run}
+use Rattle.texts.proofs.RunLemmas.{all-run, begins-rest, run-span}
+use Rattle.specifiers.specs.Front.{ClauseFrom, OperatorFrom, RunFrom}
 use Rattle.specifiers.specs.declared.op.Op.{Op}
+use Rattle.specifiers.specs.declared.op.Op.TheVariants as op
 use Rattle.pep_require.specs.Reads.{IsBound}
 use Rattle.pep_require.proofs.BlankLemmas.{leading, leading_whole, no_leading}
 use Rattle.pep_require.proofs.BoundPieces.{bound_found, bound_read, bound_whole, found_piece}
@@ -25,6 +28,12 @@ use Rattle.clause_memory.specs.Way.PackedClause.{KnowsDemand, ReadsDemand}
 use Rattle.clause_memory.specs.Way.Taken.{DemandsFront, TakesFront, goes_on}
 
 -- ---- where a clause ends
+
+blank_goes : (b : ℕ) → is_blank_byte b ≡ true → goes_on b ≡ true
+blank_goes b h = grind (arith, nat_tests)
+
+clause_goes : (b : ℕ) → is_clause_byte b ≡ true → goes_on b ≡ true
+clause_goes b h = grind (arith, nat_tests)
 
 stop_no_blank : (b : ℕ) → goes_on b ≡ false → is_blank_byte b ≡ false
 stop_no_blank b h = grind (arith, nat_tests)
@@ -56,6 +65,11 @@ front_bound left piece rest c whole stops is =
 pub cut_whole : (left piece rest : List ℕ) (n : ℕ) → piece ≡ take n left → rest ≡ drop n left → piece ++ rest ≡ left
 cut_whole left piece rest n front back = (λ i. front i ++ back i) ∙ take-append-drop n left
 
+pub cut_piece : (left piece : List ℕ) (n : ℕ) → n ≡ prefix_len goes_on left → piece ≡ take n left →
+    list_all goes_on piece ≡ true
+cut_piece left piece n count front =
+    ap (list_all goes_on) (front ∙ (λ i. take (count i) left)) ∙ all-run goes_on left
+
 pub cut_ends : (left rest : List ℕ) (n : ℕ) → n ≡ prefix_len goes_on left → rest ≡ drop n left →
     begins goes_on rest ≡ false
 cut_ends left rest n count back = ap (begins goes_on) (back ∙ (λ i. drop (count i) left)) ∙ begins-rest goes_on left
@@ -78,13 +92,12 @@ end_stripped x last (front, whole) = (
 -- ---- what is kept of a clause that is found in front
 
 -- the clause of an operator in front and of the run behind it
-pub behind_found : (x operand run rest : List ℕ) (o : Op) (c : Clause) → OperatorFrom x o operand →
-    run ≡ clause_run operand → rest ≡ after_run operand → IsClauseOf o run c → ClauseFrom x c rest
-behind_found x operand run rest o c front same left is = record {
+pub behind_found : (x operand rest : List ℕ) (o : Op) (c : Clause) → OperatorFrom x o operand →
+    RunFrom o operand c rest → ClauseFrom x c rest
+behind_found x operand rest o c front run = record {
   operator = o;
-  found = front.found;
-  clause = subst (λ t. IsClauseOf o t c) (same ∙ ap clause_run front.left) is;
-  left = left ∙ ap after_run front.left;
+  front = record { found = front.found; left = refl };
+  run = subst (λ t. RunFrom o t c rest) front.left run;
 }
 
 pub front_taken : (x rest : List ℕ) (old new : EntryParts) (ranges : List Range) → DemandsFront x ranges rest →
@@ -110,20 +123,39 @@ known_front x piece rest ranges whole stops known = record {
   demands = known.demands;
 }
 
--- what stands in front of the end of a text, cut off by a length that is the end's
-front_is : (x front rest : List ℕ) (n : ℕ) → x ≡ front ++ rest → n ≡ length rest → take (length x - n) x ≡ front
-front_is x front rest n whole same =
-    let long : length x - n ≡ length front = rw (whole, same) (omega (arith, length-append front rest)) in
-    ap (λ k. take k x) long ∙ ap (take (length front)) whole ∙ take-append_seam front rest
+operator_goes : (o : Op) → list_all goes_on (operator_text o) ≡ true
+operator_goes op.Exact = refl
+operator_goes _ = refl
 
--- the text of the clause in front, which ends where the clause does
+-- no byte of a clause, or of the white space round it, ends it
+bound_goes : (piece : List ℕ) (c : Clause) → IsBound piece c → list_all goes_on piece ≡ true
+bound_goes piece c s =
+    let before = list_all-weaker is_blank_byte goes_on blank_goes s.before s.blanks.0 in
+    let between = list_all-weaker is_blank_byte goes_on blank_goes s.between s.blanks.1 in
+    let after = list_all-weaker is_blank_byte goes_on blank_goes s.after s.blanks.2 in
+    let run = list_all-weaker is_clause_byte goes_on clause_goes s.run s.bytes in
+    ap (list_all goes_on) s.whole
+    ∙ rw (
+      list_all-append goes_on (s.before ++ operator_text s.operator ++ s.between ++ s.run) s.after,
+      list_all-append goes_on (s.before ++ operator_text s.operator ++ s.between) s.run,
+      list_all-append goes_on (s.before ++ operator_text s.operator) s.between,
+      list_all-append goes_on s.before (operator_text s.operator),
+      before,
+      operator_goes s.operator,
+      between,
+      run,
+      after,
+    ) refl
+
+-- the text of the clause in front, up to the byte that ends it
 pub front_read : (x piece end rest : List ℕ) (c : Clause) (found : Option PackedSet) → piece ++ end ≡ x →
-    length rest ≡ length end → ClauseFrom x c rest → IfSome found (λ d. DemandsRanges c (ranges_in d)) →
-    KnowsDemand piece found
-front_read x piece end rest c None whole same f h = tt
-front_read x piece end rest c (Some d) whole same f h =
+    list_all goes_on piece ≡ true → begins goes_on end ≡ false → begins goes_on rest ≡ false → ClauseFrom x c rest →
+    IfSome found (λ d. DemandsRanges c (ranges_in d)) → KnowsDemand piece found
+front_read x piece end rest c None whole all ends stops f h = tt
+front_read x piece end rest c (Some d) whole all ends stops f h =
     let bound = found_piece x c rest f in
+    let read = bound_read x c rest f in
     let is : bound ≡ piece =
-    sym (front_is x bound rest (length rest) (bound_whole x c rest f) refl)
-    ∙ front_is x piece end (length rest) (sym whole) same in
-    record { clause = c; read = subst (λ t. IsBound t c) is (bound_read x c rest f); demands = h }
+    sym (run-span goes_on bound rest (bound_goes bound c read) stops)
+    ∙ ap (λ t. take (prefix_len goes_on t) t) (sym (bound_whole x c rest f) ∙ sym whole) ∙ run-span goes_on piece end all ends in
+    record { clause = c; read = subst (λ t. IsBound t c) is read; demands = h }

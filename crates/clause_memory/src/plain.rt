@@ -6,7 +6,7 @@ ghost use Rattle.clause_memory.specs.Way.Taken.{goes_on};
 ghost use Rattle.specifiers.specs.Front.{OperatorFrom};
 ghost use Rattle.clause_memory.specs.Way.Plain.{MakesDemand, PlainlyDemands, ReadsOperand};
 
-use crate::taking::goes_on;
+use crate::taking::is_open;
 use packed_cuts::{PackedRange, PackedSet};
 use pep_clause::{Op, PackedCut};
 use texts::without_leading_blanks;
@@ -90,16 +90,6 @@ fn release_demand(operator: Op, release: &[u64], starred: bool) -> Option<Packed
     }
     let bounds = PackedRange::of_release(operator, release)?;
     Some(PackedSet { bounds, outside })
-}
-
-// Whether the text goes on with a byte that ends no clause.
-fn is_open(text: &[u8]) -> bool
-    ensures { result ≡ begins goes_on text.now }
-{
-    match text {
-        [first, ..] => goes_on(*first),
-        [] => false,
-    }
 }
 
 // What is left of the text behind a clause, without white space before it, where `last` is what stands behind the

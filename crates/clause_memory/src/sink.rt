@@ -117,8 +117,7 @@ impl LineSink for DemandSink<'_> {
         match self.markers.judge(self.alloc, text) {
             Ok(truth) => line.applies = Some(truth),
             Err(MarkerFault::Undefined) => line.applies = None,
-            Err(MarkerFault::NoMemory) => return Err(RequireFault::NoMemory),
-            Err(fault) => return Err(RequireFault::BadMarker(fault)),
+            Err(fault) => return Err(RequireFault::from(fault)),
         }
         Ok(())
     }

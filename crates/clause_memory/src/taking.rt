@@ -10,9 +10,10 @@ ghost use Rattle.std.specs.Prelude.{
   List,
   false,
   length,
+  true,
   ℕ,
 };
-ghost use Rattle.std.specs.List.{prefix_len};
+ghost use Rattle.std.specs.List.{list_all, prefix_len};
 ghost use Rattle.texts.specs.Runs.{begins};
 ghost use Rattle.specifiers.specs.Front.{OperatorFrom};
 ghost use Rattle.pep_require.specs.LineParts.{RefusesBound};
@@ -21,7 +22,7 @@ ghost use Rattle.clause_memory.specs.Way.Taken.{TakesFront, goes_on};
 use crate::memory::{ClauseMemory, Known};
 use crate::plain::{Plain, plain_demand};
 use demands::LineDemands;
-use pep_clause::{Clause, ClauseFault, Op, is_demanded_text, operand_in_front};
+use pep_clause::{Clause, Op, is_demanded_text, operand_in_front};
 use pep_require::RequireFault;
 use std::alloc::Global;
 
@@ -36,16 +37,27 @@ fn piece_run(text: &[u8]) -> usize
 // What stands before the byte that ends a clause, and from there on.
 fn cut_piece(text: &str) -> (&str, &str)
     ensures whole { result.0.now ++ result.1.now ≡ text.now }
+    ensures piece { list_all goes_on result.0.now ≡ true }
     ensures ends { begins goes_on result.1.now ≡ false }
 {
     text.split_at(piece_run(text.as_bytes()))
 }
 
 // Whether the byte may stand in a clause or beside it.
-pub(crate) fn goes_on(b: u8) -> bool
+fn goes_on(b: u8) -> bool
     ensures { result ≡ goes_on b }
 {
     b != b',' && b != b';' && b != b')'
+}
+
+/// Whether the text goes on with a byte that ends no clause.
+pub(crate) fn is_open(text: &[u8]) -> bool
+    ensures { result ≡ begins goes_on text.now }
+{
+    match text {
+        [first, ..] => goes_on(*first),
+        [] => false,
+    }
 }
 
 // Keeps what the clause demands that this operator makes with the run in front of the operand, as it is written. What
@@ -61,12 +73,14 @@ fn take_behind<'a>(
     ensures refused { IfErr result (λ e. (x : List ℕ) → OperatorFrom x operator operand.now
         → (e ≡ RequireFault.NoMemory) ⊎ RefusesBound x e) }
 {
-    let (run, rest) = operand_in_front(operand);
-    if operator == Op::Exact && is_demanded_text(run) {
-        demands.put_text(run)?;
-        return Ok(rest);
+    if operator == Op::Exact {
+        let (text, rest) = operand_in_front(operand);
+        if is_demanded_text(text) {
+            demands.put_text(text)?;
+            return Ok(rest);
+        }
     }
-    let clause = Clause::of(alloc, operator, run)?;
+    let (clause, rest) = Clause::behind(alloc, operator, operand)?;
     demands.put_clause(alloc, &clause)?;
     Ok(rest)
 }
@@ -83,9 +97,7 @@ impl ClauseMemory {
         ensures taken { IfOk result (λ rest. TakesFront text.now rest.now demands.old demands.new) }
         ensures refused { IfErr result (λ e. (e ≡ RequireFault.NoMemory) ⊎ RefusesBound text.now e) }
     {
-        let Some((operator, operand)) = Op::in_front(text) else {
-            return Err(RequireFault::BadClause(ClauseFault::NoOperator));
-        };
+        let (operator, operand) = Op::in_front(text)?;
         if operator != Op::Exact {
             match plain_demand(text, operator, operand) {
                 Plain::Demand(demand, rest) => {
@@ -101,8 +113,8 @@ impl ClauseMemory {
         take_behind(alloc, operator, operand, demands)
     }
 
-    // The same of a clause that is looked up by its text, up to the byte that ends it. If it isn't remembered and is
-    // short, it is from then on.
+    // The same of a clause that is looked up by its text, up to the byte that ends it. If it isn't remembered, ends
+    // there and is short, it is from then on.
     fn take_remembered<'a>(
         &mut self,
         alloc: Global,
@@ -124,11 +136,9 @@ impl ClauseMemory {
             Known::Unpacked => return take_behind(alloc, operator, operand, demands),
             Known::Nothing => {}
         }
-        let (run, rest) = operand_in_front(operand);
-        let clause = Clause::of(alloc, operator, run)?;
+        let (clause, rest) = Clause::behind(alloc, operator, operand)?;
         let found = demands.put_clause(alloc, &clause)?;
-        // Else a byte follows that doesn't end a clause.
-        if rest.len() == end.len() {
+        if !is_open(rest.as_bytes()) {
             self.remember(alloc, piece, &found)?;
         }
         Ok(rest)

@@ -20,7 +20,7 @@ use Rattle.pep_version.proofs.NormalTexts.{list_all-weaker}
 use Rattle.texts.specs.Runs.{begins, without_leading_blanks}
 use Rattle.texts.specs.Bytes.{is_blank_byte}
 use Rattle.texts.proofs.RunLemmas.{all-run, rest-span, run-span}
-use Rattle.specifiers.specs.Front.{ClauseFrom, RefusesFound, RefusesRun, after_operator, after_run, clause_run}
+use Rattle.specifiers.specs.Front.{ClauseFrom, RefusesFound, RefusesRun, RunFrom, after_operator, after_run, clause_run}
 use Rattle.pep_require.specs.LineParts.{RefusesBound, is_bare_byte}
 use Rattle.pep_require.specs.Reads.{IsBound}
 use Rattle.pep_require.specs.declared.fault.RequireFault.{RequireFault}
@@ -184,9 +184,8 @@ bound_found piece rest c s e =
     (cut_pieces s.operator s.between s.run s.after rest c says s.bytes s.blanks.1 s.blanks.2 e) in
     record {
       operator = s.operator;
-      found = cut.operator;
-      clause = subst (λ t. ClauseOf s.operator t (Ok c)) (sym cut.bytes) says;
-      left = sym cut.left;
+      front = record { found = cut.operator; left = refl };
+      run = record { clause = subst (λ t. ClauseOf s.operator t (Ok c)) (sym cut.bytes) says; left = sym cut.left };
     }
 
 -- ---- what is found is in the grammar
@@ -206,13 +205,13 @@ bound_whole x c rest h =
     let tail = drop (length (operator_text o)) (without_leading_blanks x) in
     let y = without_leading_blanks tail in
     let z = drop (length (clause_run y)) y in
-    let last : z ≡ leading z ++ rest = leading_whole z ∙ ap (λ t. leading z ++ t) (sym h.left) in
+    let last : z ≡ leading z ++ rest = leading_whole z ∙ ap (λ t. leading z ++ t) (sym h.run.left) in
     let run : y ≡ clause_run y ++ (leading z ++ rest) =
     run_whole is_clause_byte y ∙ ap (λ t. clause_run y ++ t) last in
     let behind : tail ≡ leading tail ++ (clause_run y ++ (leading z ++ rest)) =
     leading_whole tail ∙ ap (λ t. leading tail ++ t) run in
     leading_whole x ∙ ap (λ t. leading x ++ t)
-    (operator_shape (without_leading_blanks x) o h.found ∙ ap (λ t. operator_text o ++ t) behind)
+    (operator_shape (without_leading_blanks x) o h.front.found ∙ ap (λ t. operator_text o ++ t) behind)
     ∙ sym (to_right (leading x) (operator_text o) (leading tail) (clause_run y) (leading z) rest)
 
 pub bound_read : (x : List ℕ) (c : Clause) (rest : List ℕ) (h : ClauseFrom x c rest) →
@@ -230,7 +229,7 @@ bound_read x c rest h =
       whole = refl;
       blanks = (leading_blank x, leading_blank tail, leading_blank z);
       bytes = all-run is_clause_byte y;
-      clause = written-of h.operator (clause_run y) c (all-run is_clause_byte y) h.clause;
+      clause = written-of h.operator (clause_run y) c (all-run is_clause_byte y) h.run.clause;
     }
 
 -- ---- at most one
@@ -239,10 +238,10 @@ pub one_bound : (x rest remaining : List ℕ) (c d : Clause) → ClauseFrom x c 
     ClauseFrom x d remaining → (c ≡ d) × (rest ≡ remaining)
 one_bound x rest remaining c d h g =
     let y = without_leading_blanks x in
-    let same : h.operator ≡ g.operator = cc (h.found, g.found) in
-    let own = subst (λ o. ClauseOf o (clause_run (after_operator o y)) (Ok c)) same h.clause in (
-      one-clause-of g.operator (clause_run (after_operator g.operator y)) c d own g.clause,
-      h.left ∙ ap (λ o. after_run (after_operator o y)) same ∙ sym g.left,
+    let same : h.operator ≡ g.operator = cc (h.front.found, g.front.found) in
+    let own = subst (λ o. ClauseOf o (clause_run (after_operator o y)) (Ok c)) same h.run.clause in (
+      one-clause-of g.operator (clause_run (after_operator g.operator y)) c d own g.run.clause,
+      h.run.left ∙ ap (λ o. after_run (after_operator o y)) same ∙ sym g.run.left,
     )
 
 abbrev answer_ok : Clause → Result Clause ClauseFault
@@ -262,9 +261,9 @@ pub bound_refused : (x rest : List ℕ) (c : Clause) (f : RequireFault) → Refu
 bound_refused x rest c f h g =
     let y = without_leading_blanks x in
     let r : RefusesRun g.operator (after_operator g.operator y) h.inner =
-    subst (λ o. RefusesFound o y h.inner) g.found h.refused in
+    subst (λ o. RefusesFound o y h.inner) g.front.found h.refused in
     apart c h.inner
-    (one-answer g.operator (clause_run (after_operator g.operator y)) (Ok c) (Err h.inner) g.clause
+    (one-answer g.operator (clause_run (after_operator g.operator y)) (Ok c) (Err h.inner) g.run.clause
     r.clause (λ q. cc q) (λ q. r.known (err_told h.inner _ q)))
 
 -- ---- white space in front says nothing
@@ -275,9 +274,8 @@ same_bound x y rest c same h =
     let o = h.operator in
     record {
       operator = o;
-      found = subst (λ t. operator_of t ≡ Some o) same h.found;
-      clause = subst (λ t. ClauseOf o (clause_run (after_operator o t)) (Ok c)) same h.clause;
-      left = subst (λ t. rest ≡ after_run (after_operator o t)) same h.left;
+      front = record { found = subst (λ t. operator_of t ≡ Some o) same h.front.found; left = refl };
+      run = subst (λ t. RunFrom o (after_operator o t) c rest) same h.run;
     }
 
 pub bound_stripped : (x rest : List ℕ) (c : Clause) → ClauseFrom (without_leading_blanks x) c rest →

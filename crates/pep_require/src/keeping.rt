@@ -11,7 +11,7 @@ use crate::front::{behind, pieces};
 use crate::requirement::{Requirement, Target};
 use crate::sink::LineSink;
 use crate::url_text::UrlText;
-use pep_marker::{Marker, MarkerFault, Name};
+use pep_marker::{Marker, Name};
 use specifiers::Clause;
 use std::alloc::Global;
 
@@ -170,13 +170,7 @@ impl<'t> LineSink for Keeper<'t> {
     }
 
     fn marker(&mut self, line: &mut Kept, text: &str) -> Result<(), RequireFault> {
-        match Marker::read(self.alloc, text) {
-            Ok(marker) => {
-                line.marker = Some(marker);
-                Ok(())
-            }
-            Err(MarkerFault::NoMemory) => Err(RequireFault::NoMemory),
-            Err(fault) => Err(RequireFault::BadMarker(fault)),
-        }
+        line.marker = Some(Marker::read(self.alloc, text)?);
+        Ok(())
     }
 }

@@ -96,8 +96,8 @@ impl UrlText {
         is_common(written)
     }
 
-    /// Whether the text has no other characters than those with which URLs are printed: U+0021 to U+007E (URL Standard,
-    /// "URL serializing").
+    /// Whether the text has no other characters than U+0021 to U+007E. What [`UrlText::text`] gives has these alone:
+    /// [`UrlText::read`] refuses a URL whose serialization (URL Standard, "URL serializing") has another.
     pub fn is_printable(text: &str) -> bool
         ensures { result ≡ list_all is_url_byte text.now }
     {

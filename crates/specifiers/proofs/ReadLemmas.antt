@@ -1,17 +1,16 @@
 -- Reading a clause: what the answers of its steps say of the text, and what is read is a clause.
 use Rattle.std.proofs.Common.{◌≡◌, ◌≢◌, ◌&&◌, ◌||◌, ◌-◌, ◌+◌, ℕ, true, false, not, List, [], ◌∷◌}
-use Rattle.std.proofs.Common.{◌++◌, Some, None, Result, Ok, Err, length, take, drop, refl, sym, ap}
+use Rattle.std.proofs.Common.{None, Result, Ok, Err, length, take, refl, sym, ap}
 use Rattle.std.proofs.Common.{subst, inl, inr, arith}
 use denote.Enum.Bare.{sameb}
 use Rattle.std.proofs.lemmas.Bool.{cases_Bool}
-use Rattle.std.proofs.lemmas.Str.{IsCharBoundary-after_ascii}
 use Rattle.std.proofs.lemmas.Str.Pattern.{ends_text}
 use Rattle.std.specs.Char.{is_ascii_uppercase, to_ascii_lowercase}
 use Rattle.std.specs.Int.{is_in_range}
 use Rattle.std.specs.List.{ends_with, list_all}
 use Rattle.std.specs.Prelude.{codes, nat_eq}
 use Rattle.std.specs.Result.{IsErr, IsErrAnd}
-use Rattle.std.specs.Str.{IsCharBoundary, IsUtf8, str_to_ascii_lowercase}
+use Rattle.std.specs.Str.{str_to_ascii_lowercase}
 use Rattle.std.specs.Str.Pattern.{FindsTextSuffix, StripsSuffix}
 use Rattle.pep_version.specs.declared.fault.VersionFault.{VersionFault}
 use Rattle.pep_version.specs.Spelling.{Reads}
@@ -24,9 +23,8 @@ use Rattle.specifiers.specs.declared.op.Op.{Op}
 use Rattle.specifiers.specs.declared.op.Op.TheVariants as op
 use Rattle.specifiers.specs.Clause.{Clause, TargetAnswers, VersionAnswers, ends_in_space}
 use Rattle.texts.specs.Bytes.{is_clause_byte}
-use Rattle.specifiers.specs.Clause.{is_demanded_text, operator_of, operator_text}
+use Rattle.specifiers.specs.Clause.{is_demanded_text}
 use Rattle.specifiers.specs.Clause.{prefix_answer, version_answer}
-use Rattle.specifiers.proofs.OperatorLemmas.{operator_shape}
 use Rattle.texts.proofs.Connectives.{and_first, and_second, or-true}
 
 lowercase : (b : ℕ) → is_ascii_uppercase b ≡ true → is_in_range 97 122 (b + 32) ≡ true
@@ -128,32 +126,3 @@ pub not-exact : (o : Op) → sameb the_type o op.Exact ≡ false → o ≢ op.Ex
 not-exact o h e =
     let apart : sameb the_type op.Exact op.Exact ≡ false =
     subst (λ x. sameb the_type x op.Exact ≡ false) e h in cc apart
-
--- ---- what stands behind the operator
-
-past-operator : (o : Op) (rest : List ℕ) → IsUtf8 (operator_text o ++ rest) →
-    IsCharBoundary (operator_text o ++ rest) (length (operator_text o))
-past-operator op.Compatible rest u =
-    IsCharBoundary-after_ascii (126 ∷ 61 ∷ rest) 1 u (omega arith) (omega arith)
-past-operator op.Equal rest u =
-    IsCharBoundary-after_ascii (61 ∷ 61 ∷ rest) 1 u (omega arith) (omega arith)
-past-operator op.NotEqual rest u =
-    IsCharBoundary-after_ascii (33 ∷ 61 ∷ rest) 1 u (omega arith) (omega arith)
-past-operator op.AtMost rest u =
-    IsCharBoundary-after_ascii (60 ∷ 61 ∷ rest) 1 u (omega arith) (omega arith)
-past-operator op.AtLeast rest u =
-    IsCharBoundary-after_ascii (62 ∷ 61 ∷ rest) 1 u (omega arith) (omega arith)
-past-operator op.Less rest u =
-    IsCharBoundary-after_ascii (60 ∷ rest) 0 u (omega arith) (omega arith)
-past-operator op.More rest u =
-    IsCharBoundary-after_ascii (62 ∷ rest) 0 u (omega arith) (omega arith)
-past-operator op.Exact rest u =
-    IsCharBoundary-after_ascii (61 ∷ 61 ∷ 61 ∷ rest) 2 u (omega arith) (omega arith)
-
--- a text may be cut behind its operator
-pub behind-operator : (o : Op) (text : List ℕ) → operator_of text ≡ Some o → IsUtf8 text →
-    IsCharBoundary text (length (operator_text o))
-behind-operator o text found u =
-    let shape = operator_shape text o found in
-    subst (λ t. IsCharBoundary t (length (operator_text o))) (sym shape)
-    (past-operator o (drop (length (operator_text o)) text) (subst IsUtf8 shape u))

@@ -24,13 +24,16 @@ pub record OperatorFrom (x : List ℕ) (o : Op) (rest : List ℕ) : Type 0 where
   pub found : operator_of (without_leading_blanks x) ≡ Some o
   pub left : rest ≡ after_operator o (without_leading_blanks x)
 
+-- the operator and the longest run in front of the text are the clause, and this stands behind the run
+pub record RunFrom (o : Op) (x : List ℕ) (c : Clause) (rest : List ℕ) : Type 0 where
+  pub clause : IsClauseOf o (clause_run x) c
+  pub left : rest ≡ after_run x
+
 -- the text begins with the clause: white space, an operator, white space, and the longest run
 pub record ClauseFrom (x : List ℕ) (c : Clause) (rest : List ℕ) : Type 0 where
   pub operator : Op
-  pub found : operator_of (without_leading_blanks x) ≡ Some operator
-  pub clause :
-      IsClauseOf operator (clause_run (after_operator operator (without_leading_blanks x))) c
-  pub left : rest ≡ after_run (after_operator operator (without_leading_blanks x))
+  pub front : OperatorFrom x operator (after_operator operator (without_leading_blanks x))
+  pub run : RunFrom operator (after_operator operator (without_leading_blanks x)) c rest
 
 -- the run behind the operator is refused with this fault
 pub record RefusesRun (o : Op) (x : List ℕ) (f : ClauseFault) : Type 0 where

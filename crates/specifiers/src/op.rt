@@ -1,3 +1,4 @@
+use crate::fault::ClauseFault;
 use pep_version::Version;
 use texts::stripped;
 
@@ -51,8 +52,8 @@ impl Op {
       ◌↔◌,
       ◌||◌,
       [],
-      IfNone,
-      IfSome,
+      IfErr,
+      IfOk,
       IsOk,
       IsTrue,
       None,
@@ -99,16 +100,20 @@ impl Op {
     }
 
     /// The longest operator in front of a text, and what stands behind it (PEP 440, "Version specifiers"). Spaces and
-    /// tabs may stand before and behind the operator (PEP 508, "Grammar"), and are left out.
+    /// tabs may stand before and behind the operator (PEP 508, "Grammar"), and are left out. A text in front of which
+    /// no operator stands is refused with 11 `NoOperator`.
     #[inline(always)]
-    pub fn in_front(text: &str) -> Option<(Op, &str)>
-        ensures found { IfSome result (λ found. OperatorFrom text.now found.0 found.1.now) }
-        ensures none { IfNone result (operator_of (without_leading_blanks text.now) ≡ None) }
+    pub fn in_front(text: &str) -> Result<(Op, &str), ClauseFault>
+        ensures found { IfOk result (λ found. OperatorFrom text.now found.0 found.1.now) }
+        ensures none { IfErr result (λ _. operator_of (without_leading_blanks text.now) ≡ None) }
+        ensures faults { IfErr result (λ e. e ≡ ClauseFault.NoOperator) }
     {
         let text = stripped(text);
-        let operator = Op::at_front(text.as_bytes())?;
+        let Some(operator) = Op::at_front(text.as_bytes()) else {
+            return Err(ClauseFault::NoOperator);
+        };
         let (_, operand) = text.split_at(operator.text().len());
-        Some((operator, stripped(operand)))
+        Ok((operator, stripped(operand)))
     }
 
     /// The operator as it is written (PEP 440, "Version specifiers").

@@ -139,7 +139,7 @@ fn operand_clause(alloc: Global, operator: Op, text: &str) -> Result<Clause, Cla
 impl Clause {
     ghost use Rattle.std.specs.Prelude.{◌≡◌, ◌⊎◌, IfErr, IfOk};
     ghost use Rattle.specifiers.specs.Clause.{ClauseOf, ReadsClause};
-    ghost use Rattle.specifiers.specs.Front.{ClauseFrom, RefusesFront};
+    ghost use Rattle.specifiers.specs.Front.{ClauseFrom, RefusesFront, RefusesRun, RunFrom};
     ghost use Rattle.specifiers.specs.Valid.{IsValidClause};
 
     /// The clause of an operator and the text behind it (PEP 440, "Version specifiers"). White
@@ -176,11 +176,25 @@ impl Clause {
         ensures clause { ReadsClause text.now result }
         ensures valid { IfOk result (λ c. IsValidClause c) }
     {
-        let text = trimmed(text);
-        let Some(operator) = Op::at_front(text.as_bytes()) else {
-            return Err(ClauseFault::NoOperator);
-        };
-        Clause::of(alloc, operator, &text[operator.text().len()..])
+        let (operator, operand) = Op::in_front(trimmed(text))?;
+        Clause::of(alloc, operator, operand)
+    }
+
+    /// The clause of an operator and of the run in front of a text ([`operand_in_front`]), and what stands behind the
+    /// run, without white space before that. Each refusal is that of `Clause::of` for the run.
+    #[inline(always)]
+    pub fn behind<'a>(
+        alloc: Global,
+        operator: Op,
+        operand: &'a str,
+    ) -> Result<(Clause, &'a str), ClauseFault>
+        ensures clause { IfOk result (λ found. RunFrom operator operand.now found.0 found.1.now) }
+        ensures valid { IfOk result (λ found. IsValidClause found.0) }
+        ensures refused { IfErr result (λ e. (e ≡ ClauseFault.NoMemory) ⊎ RefusesRun operator operand.now e) }
+    {
+        let (run, rest) = operand_in_front(operand);
+        let clause = Clause::of(alloc, operator, run)?;
+        Ok((clause, rest))
     }
 
     /// The clause in front of a text, as the first of a list of clauses stands there, and what stands behind it,
@@ -194,11 +208,7 @@ impl Clause {
         ensures valid { IfOk result (λ found. IsValidClause found.0) }
         ensures refused { IfErr result (λ e. (e ≡ ClauseFault.NoMemory) ⊎ RefusesFront text.now e) }
     {
-        let Some((operator, operand)) = Op::in_front(text) else {
-            return Err(ClauseFault::NoOperator);
-        };
-        let (run, rest) = operand_in_front(operand);
-        let clause = Clause::of(alloc, operator, run)?;
-        Ok((clause, rest))
+        let (operator, operand) = Op::in_front(text)?;
+        Clause::behind(alloc, operator, operand)
     }
 }

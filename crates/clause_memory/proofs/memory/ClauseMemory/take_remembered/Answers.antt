@@ -24,9 +24,9 @@ returns-in-Packed-clause-taken c =
 
 pub remember-requires : goal.remember-requires
 remember-requires c =
-    let front = c.operand_in_front in
-    front_read c.args.text.now c.cut_piece.result.0.now c.cut_piece.result.1.now front.result.1.now c.in_ok-clause.clause
-    c.in_ok-found.found c.cut_piece.ensures.whole (search rules)
-    (behind_found c.args.text.now c.args.operand.now front.result.0.now front.result.1.now c.args.operator
-    c.in_ok-clause.clause c.requires front.ensures.run front.ensures.left c.in_ok-clause.ensures.clause)
-    c.in_ok-found.ensures.found
+    let read = c.in_ok-clause in
+    let cut = c.cut_piece in
+    front_read c.args.text.now cut.result.0.now cut.result.1.now read.rest.now read.clause c.in_ok-found.found
+    cut.ensures.whole cut.ensures.piece cut.ensures.ends (search rules)
+    (behind_found c.args.text.now c.args.operand.now read.rest.now c.args.operator read.clause c.requires
+    read.ensures.clause) c.in_ok-found.ensures.found
