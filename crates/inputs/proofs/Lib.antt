@@ -1,7 +1,6 @@
 pub mod DefinedMarkers
 pub mod ListLemmas
 pub mod MergeLemmas
-pub mod LineTexts
 pub mod ListTexts
 pub mod Pieces
 pub mod FirstLines

@@ -48,7 +48,7 @@ use memchr::memchr;
 use pep_require::RequireFault;
 use std::alloc::Global;
 use std::str;
-use texts::{INPUT_LIMIT, LINE_LIMIT, blank_end, stripped};
+use texts::{INPUT_LIMIT, LINE_LIMIT, without_outer_blanks};
 
 /// Takes the texts of requirements, one after the other, wherever they come from.
 pub(crate) trait Taker {
@@ -79,9 +79,7 @@ fn content(line: &str) -> &str
         [front @ .., b'\r'] => line.split_at(front.len()).0,
         _ => line,
     };
-    let rest = stripped(line);
-    let (front, _) = rest.split_at(rest.len() - blank_end(rest.as_bytes()));
-    front
+    without_outer_blanks(line)
 }
 
 // Whether a line with this content is empty or a comment.

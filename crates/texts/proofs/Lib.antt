@@ -6,6 +6,7 @@ pub mod RunLemmas
 pub mod CutLists
 pub mod LineLemmas
 pub mod HeadLemmas
+pub mod OuterBlanks
 pub mod ArenaLemmas
 pub mod Results
 mod Witnesses

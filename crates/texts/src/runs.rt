@@ -64,10 +64,10 @@ pub fn stripped(text: &str) -> &str
 }
 
 /// The text without the white space at both ends.
-pub fn without_outer_blanks(text: &[u8]) -> &[u8]
+pub fn without_outer_blanks(text: &str) -> &str
     ensures { result.now ≡ without_outer_blanks text.now }
 {
-    let rest = without_leading_blanks(text);
-    let (front, _) = rest.split_at(rest.len() - blank_end(rest));
+    let rest = stripped(text);
+    let (front, _) = rest.split_at(rest.len() - blank_end(rest.as_bytes()));
     front
 }

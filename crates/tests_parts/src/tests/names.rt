@@ -178,12 +178,7 @@ fn runs(rt: HostRuntime) {
     }
 }
 
-const TRIMMED: [(&[u8], &[u8]); 4] = [
-    (b" a b\t ", b"a b"),
-    (b"\t ", b""),
-    (b"", b""),
-    (b"\ra ", b"\ra"),
-];
+const TRIMMED: [(&str, &str); 4] = [(" a b\t ", "a b"), ("\t ", ""), ("", ""), ("\ra ", "\ra")];
 
 #[test]
 fn trims_names(rt: HostRuntime) {

@@ -1,5 +1,5 @@
--- Where a line that is a text may be cut: in front of the white space at its end.
-use Rattle.std.proofs.Common.{◌≡◌, ℕ, ◌-◌, ◌<◌, ◌==◌, Bool, true, List, []}
+-- Where a text may be cut: in front of the white space at its end.
+use Rattle.std.proofs.Common.{◌≡◌, ℕ, ◌-◌, ◌<◌, Bool, true, List, []}
 use Rattle.std.proofs.Common.{◌∷◌, ◌++◌, length, take, drop, refl}
 use Rattle.std.proofs.Common.{sym, ap, subst, ◌∙◌, arith}
 use Rattle.std.specs.Prelude.{IsUtf8, reverse}
@@ -51,7 +51,7 @@ run_at_end p y =
     ∙ drop-append_seam front back in
     ap (list_all p) left ∙ all_reverse p (take n r) (all-run p r)
 
--- ---- where a line may be cut
+-- ---- where a text may be cut
 
 blank_utf8 : (x : List ℕ) → list_all is_blank_byte x ≡ true → IsUtf8 x
 blank_utf8 x h = IsUtf8-from_ascii x (ascii-class is_blank_byte small x h)
