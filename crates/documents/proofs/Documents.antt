@@ -28,6 +28,9 @@ use Rattle.documents.specs.Texts.{lent_texts}
 small : (bytes : List ℕ) → length bytes ≤ 16777216 → nat_lt 16777216 (length bytes) ≡ false
 small bytes h = grind arith
 
+large : (bytes : List ℕ) → 16777216 < length bytes → nat_lt 16777216 (length bytes) ≡ true
+large bytes h = grind arith
+
 no_text : (bytes : List ℕ) → ¬ IsUtf8 bytes → is_utf8 bytes ≡ false
 no_text bytes h = by (is_utf8 bytes) refl
   where
@@ -56,9 +59,12 @@ pub document_of-shallow : (bytes : List ℕ) → length bytes ≤ 16777216 → I
 document_of-shallow bytes h text shallow =
     rw (small bytes h, is_utf8-from_IsUtf8 bytes text, shallow) refl
 
-pub document_of-no_text : (bytes : List ℕ) → length bytes ≤ 16777216 → ¬ IsUtf8 bytes →
-    document_of bytes ≡ Err cause.NotUtf8
-document_of-no_text bytes h e = rw (small bytes h, no_text bytes e) refl
+-- .. and bytes that aren't the text of a file are refused as `file_text` says
+pub document_of-no_file : (bytes : List ℕ) (c : Cause) →
+    ((c ≡ cause.TooLarge) × (16777216 < length bytes))
+    ⊎ ((c ≡ cause.NotUtf8) × (length bytes ≤ 16777216) × ¬ IsUtf8 bytes) → document_of bytes ≡ Err c
+document_of-no_file bytes c (inl h) = rw (large bytes h.1, h.0) refl
+document_of-no_file bytes c (inr h) = rw (small bytes h.1, no_text bytes h.2, h.0) refl
 
 -- ---- the texts of an array
 

@@ -6,11 +6,11 @@ ghost use Rattle.toml.specs.View.{items_view, table_view, view};
 ghost use Rattle.documents.specs.Document.{document_of, texts_at, texts_of, texts_of_items};
 ghost use Rattle.documents.specs.Texts.{lent_texts};
 
+use crate::file::file_text;
 use crate::nesting::is_shallow;
 use faults::Cause;
 use pep_marker::{MarkerFault, Name};
 use std::alloc::Global;
-use texts::INPUT_LIMIT;
 use toml::{Table, Value};
 
 /// The TOML document that the bytes are. Any of at most 16,777,216 bytes is read, or refused, in less than
@@ -20,12 +20,7 @@ pub(crate) fn read_document(alloc: Global, bytes: &[u8]) -> Result<Table, Cause>
     ensures refused { IfErr result (λ cause. (cause ≡ Cause.NoMemory)
         ⊎ (document_of bytes.now ≡ Err cause)) }
 {
-    if bytes.len() > INPUT_LIMIT {
-        return Err(Cause::TooLarge);
-    }
-    let Ok(text) = std::str::from_utf8(bytes) else {
-        return Err(Cause::NotUtf8);
-    };
+    let text = file_text(bytes)?;
     if !is_shallow(bytes) {
         return Err(Cause::NotToml);
     }

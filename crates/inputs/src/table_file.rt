@@ -7,11 +7,11 @@ ghost use Rattle.pep_table.specs.NamedEntry.{wanted_part};
 ghost use Rattle.inputs.specs.TableFiles.{IsRefusedTable, IsTableFile};
 ghost use Rattle.inputs.specs.Way.Wanted.{wanted_name};
 
+use documents::file_text;
 use faults::{Cause, LineFault};
 use pep_marker::{Environment, Name};
 use pep_table::{Gathering, TableFault};
 use std::alloc::Global;
-use texts::INPUT_LIMIT;
 
 // The cause of a fault of the text of a table.
 fn table_cause(fault: TableFault) -> Cause
@@ -47,12 +47,7 @@ pub(crate) fn take_table(
     ensures refused { IfErr result (λ cause. (cause ≡ Cause.NoMemory)
         ⊎ IsRefusedTable environment.now bytes.now cause) }
 {
-    if bytes.len() > INPUT_LIMIT {
-        return Err(Cause::TooLarge);
-    }
-    let Ok(text) = std::str::from_utf8(bytes) else {
-        return Err(Cause::NotUtf8);
-    };
+    let text = file_text(bytes)?;
     match gathering.take_text(alloc, text, environment, wanted) {
         Ok(new) => Ok(new),
         Err(fault) => Err(table_cause(fault)),

@@ -15,11 +15,11 @@ ghost use Rattle.texts.specs.Limits.{input_limit};
 use crate::asked::{Asked, is_asked, with_claim};
 use crate::claims::{Claim, PlacedClaim};
 use demands::Entry;
+use documents::file_text;
 use faults::Fault;
 use pep_marker::{Environment, Name};
 use pep_table::Table;
 use std::alloc::Global;
-use texts::INPUT_LIMIT;
 
 // How many lines the bytes have that end.
 fn feeds(bytes: &[u8]) -> usize
@@ -123,10 +123,7 @@ pub(crate) fn table_claims(
         asked.items new.items) }
     ensures faults { IfErr result (λ fault. fault ≡ no_memory) }
 {
-    if bytes.len() > INPUT_LIMIT {
-        return Err(Fault::no_memory());
-    }
-    let Ok(text) = std::str::from_utf8(bytes) else {
+    let Ok(text) = file_text(bytes) else {
         return Err(Fault::no_memory());
     };
     let Ok(table) = Table::read(alloc, text, environment) else {

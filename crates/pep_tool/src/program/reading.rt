@@ -37,12 +37,13 @@ use faults::{Cause, Fault, Place};
 use inputs::{Input, Kind, environment_of};
 use pep_marker::{Environment, Name};
 use std::alloc::Global;
+use texts::INPUT_LIMIT;
 
 /// How many bytes are asked for at once.
 pub(crate) const PIECE: usize = 65_536;
 
 // How many bytes of an input or a file are read: one more than it may have.
-const READ_LIMIT: usize = 16_777_217;
+const READ_LIMIT: usize = INPUT_LIMIT + 1;
 
 // What lies in this place can't be opened, or reading it failed.
 fn read_fault(place: Place) -> Fault

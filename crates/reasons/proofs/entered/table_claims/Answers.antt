@@ -1,4 +1,4 @@
-use Rattle.std.proofs.Common.{arith, subst, sym}
+use Rattle.std.proofs.Common.{subst, sym}
 use Rattle.demands.specs.Table.{TableParts}
 use Rattle.inputs.specs.TableFiles.{IsTableFile}
 use Rattle.reasons.proofs.EnteredClaims.{table_file}
@@ -9,6 +9,5 @@ with_entries-requires-clause-file c =
     let e = c.args.environment.now in
     let bytes = c.args.bytes.now in
     subst (λ (t : TableParts). IsTableFile e bytes t) (sym c.entries.ensures.entries)
-    (table_file e bytes c.in-Ok.text.now c.in-Ok-read.table
-    (omega (arith, c.if-bytes-gt-INPUT_LIMIT.false)) c.in-Ok.ensures.cases.1
-    c.in-Ok.ensures.cases.0 c.in-Ok-read.ensures.text c.in-Ok-read.ensures.valid)
+    (table_file e bytes c.in-Ok.text.now c.in-Ok-read.table c.in-Ok.ensures.size
+    c.in-Ok.ensures.encoding c.in-Ok.ensures.same c.in-Ok-read.ensures.text c.in-Ok-read.ensures.valid)
