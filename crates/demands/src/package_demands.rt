@@ -40,6 +40,16 @@ impl Model for PackageDemands {
     ghost view = { λ g. entry_with (kept_others (option_map (λ b. b.value) g.others)) g.versions };
 }
 
+// What is kept of these, to be changed.
+fn opened(alloc: Global, others: Option<Box<Others>>) -> Result<Box<Others>, AllocError>
+    ensures { IfOk result (λ b. b.value ≡ kept_others (option_map (λ b. b.value) others)) }
+{
+    match others {
+        Some(kept) => Ok(kept),
+        None => Ok(Box::new(alloc, Others::new(alloc))?),
+    }
+}
+
 // Takes what an entry demands besides versions.
 fn join_others(
     alloc: Global,
@@ -50,11 +60,10 @@ fn join_others(
         (kept_others (option_map (λ b. b.value) others.old)) entry.now
         (kept_others (option_map (λ b. b.value) others.new))) }
 {
-    let mut kept = match others.take() {
-        Some(kept) => kept,
-        None if entry.has_others() => Box::new(alloc, Others::new(alloc))?,
-        None => return Ok(()),
-    };
+    if others.is_none() && !entry.has_others() {
+        return Ok(());
+    }
+    let mut kept = opened(alloc, others.take())?;
     kept.join(entry)?;
     *others = Some(kept);
     Ok(())
@@ -107,10 +116,7 @@ fn join_more(
         (kept_others (option_map (λ b. b.value) others.old)) (entry_with more.now [])
         (kept_others (option_map (λ b. b.value) others.new))) }
 {
-    let mut kept = match others.take() {
-        Some(kept) => kept,
-        None => Box::new(alloc, Others::new(alloc))?,
-    };
+    let mut kept = opened(alloc, others.take())?;
     kept.join_others(more)?;
     *others = Some(kept);
     Ok(())

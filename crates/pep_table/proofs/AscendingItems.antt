@@ -10,7 +10,7 @@ use Rattle.std.specs.List.{slice_get}
 use Rattle.std.specs.Ordering.{is_lt, nat_cmp}
 use Rattle.pep_clause.proofs.Between.{less_told}
 use Rattle.pep_require.specs.Requirement.{IsAscending}
-use Rattle.pep_table.specs.Way.EntryReading.{FollowsAlike}
+use Rattle.pep_table.specs.Way.EntryReading.{FollowsAlike, last_name}
 
 -- a list is what stands before its last item, and that
 pub last_split : {X : Type 0} (xs : List X) (x : X) → slice_get xs (length xs - 1) ≡ Some x →
@@ -50,3 +50,13 @@ behind_last text xs x y e h =
           (further.0 (less_told (slice_cmp nat_cmp (text x) y) t)),
       λ g. rw (further.1 (subst (λ l. IsAscending (l ++ y ∷ [])) split g)) refl,
     )
+
+-- behind the last name stands each one, where there is none, and else what is above it
+pub behind_none : (last name : List ℕ) → length last ≡ 0 → IsAscending (last_name last ++ name ∷ [])
+behind_none [] name e = tt
+behind_none (b ∷ last) name e = let none : ⊥ = omega (arith, e) in absurd none
+
+pub behind_name : (last name : List ℕ) → ¬ (last ≡ []) →
+    IsTrue (is_lt (slice_cmp nat_cmp last name)) ↔ IsAscending (last_name last ++ name ∷ [])
+behind_name [] name some = absurd (some refl)
+behind_name (b ∷ last) name some = behind_last (λ n. n) ((b ∷ last) ∷ []) (b ∷ last) name refl tt

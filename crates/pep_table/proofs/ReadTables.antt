@@ -17,7 +17,7 @@ use Rattle.pep_table.proofs.TableLines.{name_plain, regroup}
 use Rattle.demands.proofs.Verdicts.{verdict_one}
 use Rattle.demands.specs.declared.verdict.Verdict.{Verdict}
 use Rattle.pep_table.specs.Way.EntryReading.{BeginsSpace, FollowsAlike, HasHead, HasNext, HasNoHead}
-use Rattle.pep_table.specs.Way.EntryReading.{HasNoNext, TakesEntries}
+use Rattle.pep_table.specs.Way.EntryReading.{HasNoNext, TakesEntries, last_name}
 use Rattle.pep_table.specs.Way.EntryReading.{HasNoParts, HasOtherVerdict, HasParts, IsEntryAt, head_line}
 use Rattle.pep_table.specs.Way.EntryReading.{parts_then}
 use Rattle.demands.specs.Table.{EntryDemands, EntryParts, IsValidEntry, IsValidTable, TableParts}
@@ -312,6 +312,13 @@ one_more : {A : Type 0} (takes : List ℕ → EntryParts → A → A → Type 0)
 one_more takes [] p old mid new h g = (new, subst (λ o. takes p.0 p.1 o new) (sym h) g, refl)
 one_more takes (q ∷ t) p old mid new (m, s, h) g = (m, s, one_more takes t p m mid new h g)
 
+one_last : (name : List ℕ) → IsNormalName name → last_name name ≡ name ∷ []
+one_last [] h = absurd (none h)
+  where
+    none : IsNormalName [] → ⊥
+    none h = cc h.0
+one_last (b ∷ name) h = refl
+
 pub all_taken : {A : Type 0} (takes : List ℕ → EntryParts → A → A → Type 0) (x : List ℕ) (last : List (List ℕ))
     (first taken : A) (rest : List ℕ) → TakenSoFar takes x last first taken rest → length rest ≡ 0 →
     (t : TableParts) × IsValidTable t × AreTableLines t x × TakesEntries takes t first taken
@@ -327,13 +334,16 @@ none_behind takes x last first taken rest s some none =
 pub taken_more : {A : Type 0} (takes : List ℕ → EntryParts → A → A → Type 0) (x : List ℕ) (last : List (List ℕ))
     (first taken : A) (rest : List ℕ) → TakenSoFar takes x last first taken rest →
     (name : List ℕ) (e : EntryParts) (behind : List ℕ) (new : A) → ¬ (rest ≡ []) →
-    HasNext last rest name e behind → takes name e taken new → TakenSoFar takes x (name ∷ []) first new behind
+    HasNext last rest name e behind → takes name e taken new →
+    TakenSoFar takes x (last_name name) first new behind
 taken_more takes x last first taken rest s name e behind new some next step =
     let own = next_alike (names s.done) last rest s.alike name e behind next in
     let split = map-append (λ q. q.0) s.done ((name, e) ∷ []) in
     record {
       done = s.done ++ (name, e) ∷ [];
       entries = entry_more x s.done rest s.entries name e behind some own;
-      alike = subst (λ l. FollowsAlike l (name ∷ [])) (sym split) (behind_one (names s.done) name own.next.behind);
+      alike = subst (λ l. FollowsAlike l (last_name name)) (sym split)
+          (subst (FollowsAlike (names s.done ++ name ∷ [])) (sym (one_last name own.next.is_name))
+          (behind_one (names s.done) name own.next.behind));
       made = one_more takes s.done (name, e) first taken new s.made step;
     }

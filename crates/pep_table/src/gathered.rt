@@ -299,9 +299,11 @@ impl Gathered {
         let Gathered {
             log,
             ordered: _,
-            known: _,
+            known,
             room: _,
         } = self;
+        // No name is looked for any more, and putting the log in order takes memory.
+        drop(known);
         let log = ordered(alloc, log)?;
         Ok(GatheredEntries {
             left: log.into_iter(),

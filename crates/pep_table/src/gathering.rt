@@ -70,22 +70,29 @@ impl EntryTaker for Joining<'_> {
     ghost use Rattle.std.specs.Prelude.{◌∷◌, []};
     ghost use Rattle.std.specs.Option.{option_copied};
     ghost use Rattle.demands.specs.Join.{JoinsTables};
+    ghost use Rattle.demands.specs.Table.{IsValidTable};
     ghost use Rattle.pep_table.specs.NamedEntry.{wanted_part};
+    ghost use Rattle.pep_table.specs.Way.Gathered.{log_table};
 
-    type Taken = Gathering;
+    type Taken = Box<Gathered>;
 
-    ghost takes = { λ j name entry old new.
-        JoinsTables old (wanted_part (option_copied j.wanted) ((name, entry) ∷ [])) new };
+    ghost takes = { λ j name entry old new. IsValidTable (log_table old.value) →
+        JoinsTables (log_table old.value) (wanted_part (option_copied j.wanted) ((name, entry) ∷ []))
+        (log_table new.value) };
 
     fn take(
         &self,
-        gathering: Gathering,
-        name: &Name,
+        taken: Box<Gathered>,
+        name: Name,
         entry: Entry,
-    ) -> Result<Gathering, AllocError> {
+    ) -> Result<Box<Gathered>, AllocError> {
+        let mut gathered = taken;
         match self.wanted {
-            Some(wanted) if *name != *wanted => Ok(gathering),
-            _ => gathering.join(self.alloc, name, entry),
+            Some(wanted) if name != *wanted => Ok(gathered),
+            _ => {
+                gathered.join(self.alloc, name, entry)?;
+                Ok(gathered)
+            }
         }
     }
 }
@@ -111,6 +118,16 @@ impl Gathering {
         }
     }
 
+    // What is gathered, as what is demanded.
+    fn closed(gathered: Box<Gathered>) -> Gathering
+        requires { IsValidTable (log_table gathered.value) }
+        ensures { result ≡ log_table gathered.value }
+    {
+        Gathering {
+            gathered: Some(gathered),
+        }
+    }
+
     // The names in order, with what is demanded of them.
     fn into_entries(self, alloc: Global) -> Result<GatheredEntries, AllocError>
         ensures same { IfOk result (λ entries. entries ≡ self) }
@@ -120,20 +137,6 @@ impl Gathering {
             Some(gathered) => Box::into_inner(gathered).into_entries(alloc),
             None => Gathered::new(alloc).into_entries(alloc),
         }
-    }
-
-    // What is demanded so far and by the entry of a name.
-    fn join(self, alloc: Global, name: &Name, entry: Entry) -> Result<Gathering, AllocError>
-        ensures { IfOk result (JoinsTables self ((name.now, entry) ∷ [])) }
-    {
-        let Ok(name) = name.copied(alloc) else {
-            return Err(AllocError);
-        };
-        let mut gathered = self.opened(alloc)?;
-        gathered.join(alloc, name, entry)?;
-        Ok(Gathering {
-            gathered: Some(gathered),
-        })
     }
 
     /// What is demanded so far and by the requirement, whatever its marker. The only fault is
@@ -184,9 +187,7 @@ impl Gathering {
         for (name, entry) in table.into_entries() {
             gathered.join(alloc, name, entry)?;
         }
-        Ok(Gathering {
-            gathered: Some(gathered),
-        })
+        Ok(Gathering::closed(gathered))
     }
 
     /// What is demanded so far and by the table whose text this is in the environment, or whose lines, as by
@@ -205,9 +206,10 @@ impl Gathering {
         ensures refused { IfErr result (λ e. (e ≡ TableFault.NoMemory)
             ⊎ IsRefusedAsTable environment.now text.now e) }
     {
-        // Its clause tells that what is demanded is a table.
-        let _ = &self.gathered;
-        read_text(alloc, text, environment, &Joining { alloc, wanted }, self)
+        let gathered = self.opened(alloc)?;
+        let joining = Joining { alloc, wanted };
+        let gathered = read_text(alloc, text, environment, &joining, gathered)?;
+        Ok(Gathering::closed(gathered))
     }
 
     /// What is demanded so far, and of one package by a line, whose sets are moved: the line may be anything until it
@@ -227,9 +229,7 @@ impl Gathering {
         let _ = name.text();
         let mut gathered = self.opened(alloc)?;
         gathered.take_line(alloc, name, line)?;
-        Ok(Gathering {
-            gathered: Some(gathered),
-        })
+        Ok(Gathering::closed(gathered))
     }
 
     /// The table of what is demanded. The only fault is `NoMemory`, 42.

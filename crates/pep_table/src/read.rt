@@ -76,23 +76,24 @@ fn verdict_of(word: &str) -> Option<Verdict>
     }
 }
 
-// The name and the verdict of an entry's first line, and the text behind the line.
-fn read_head(alloc: Global, text: &str) -> Result<(Name, Verdict, &str), Halt<'_>>
-    ensures ok { IfOk result (λ r. HasHead text.now r.0 r.1 r.2.now) }
+// The name of an entry's first line, its text there, the verdict, and the text behind the line.
+fn read_head(alloc: Global, text: &str) -> Result<(Name, &str, Verdict, &str), Halt<'_>>
+    ensures ok { IfOk result (λ r. HasHead text.now r.0 r.2 r.3.now) }
+    ensures text { IfOk result (λ r. r.1.now ≡ r.0) }
     ensures refused { IfErr result (λ e. (e ≡ Halt.NoMemory) ⊎ HasNoHead text.now) }
     ensures stops { IfErr result (HaltsAt (λ rest. rest ≡ text.now)) }
 {
     let Some((line, rest)) = text.split_once('\n') else {
         return Err(Halt::At(text));
     };
-    let Some((name, word)) = line.split_once(' ') else {
+    let Some((written, word)) = line.split_once(' ') else {
         return Err(Halt::At(text));
     };
     let Some(verdict) = verdict_of(word) else {
         return Err(Halt::At(text));
     };
-    match listed_name(alloc, name)? {
-        Some(name) => Ok((name, verdict, rest)),
+    match listed_name(alloc, written)? {
+        Some(name) => Ok((name, written, verdict, rest)),
         None => Err(Halt::At(text)),
     }
 }
@@ -110,6 +111,16 @@ fn read_parts(alloc: Global, text: &str) -> Result<(Entry, &str), Halt<'_>>
     Ok((Entry::of(extras, urls, texts, versions), rest))
 }
 
+// Whether the text of a name stands behind that of the last one. That is empty, where there is none.
+fn is_behind(last: &str, name: &str) -> bool
+    ensures { IsTrue result ↔ IsAscending (last_name last.now ++ name.now ∷ []) }
+{
+    if last.is_empty() {
+        return true;
+    }
+    last < name
+}
+
 // Where the entry at the front of this text has a wrong verdict: there, unless the line behind the
 // entry can't stand after it.
 fn wrong_verdict<'a>(alloc: Global, name: &Name, text: &'a str, behind: &'a str) -> Halt<'a>
@@ -119,19 +130,9 @@ fn wrong_verdict<'a>(alloc: Global, name: &Name, text: &'a str, behind: &'a str)
         return Halt::At(text);
     }
     match read_head(alloc, behind) {
-        Ok((next, _, _)) if *name < next => Halt::At(text),
+        Ok((_, next, _, _)) if is_behind(name.text(), next) => Halt::At(text),
         Ok(_) => Halt::At(behind),
         Err(halt) => halt,
-    }
-}
-
-// Whether the name stands behind the last one, if there is one.
-fn is_behind(last: Option<&Name>, name: &Name) -> bool
-    ensures { IsTrue result ↔ IsAscending (last_name last.entry ++ name.now ∷ []) }
-{
-    match last {
-        Some(last) => last < name,
-        None => true,
     }
 }
 
@@ -156,23 +157,24 @@ fn read_judged<'a>(
     Ok((entry, behind))
 }
 
-// The entry in front, whose name stands behind the last one, and the text behind it.
+// The name of the entry in front, which stands behind the last one, its text there, the entry, and the text behind it.
 fn read_entry<'a>(
     alloc: Global,
-    last: Option<&Name>,
+    last: &str,
     text: &'a str,
-) -> Result<(Name, Entry, &'a str), Halt<'a>>
-    ensures ok { IfOk result (λ r. HasNext (last_name last.entry) text.now r.0 r.1 r.2.now) }
+) -> Result<(Name, &'a str, Entry, &'a str), Halt<'a>>
+    ensures ok { IfOk result (λ r. HasNext (last_name last.now) text.now r.0 r.2 r.3.now) }
+    ensures text { IfOk result (λ r. r.1.now ≡ r.0) }
     ensures refused { IfErr result (λ e. (e ≡ Halt.NoMemory)
-        ⊎ HasNoNext (last_name last.entry) text.now) }
+        ⊎ HasNoNext (last_name last.now) text.now) }
     ensures stops { IfErr result (HaltsAt (IsBehind BeginsEntry text.now)) }
 {
-    let (name, verdict, parts) = read_head(alloc, text)?;
-    if !is_behind(last, &name) {
+    let (name, written, verdict, parts) = read_head(alloc, text)?;
+    if !is_behind(last, written) {
         return Err(Halt::At(text));
     }
     match read_judged(alloc, &name, verdict, text, parts) {
-        Ok((entry, behind)) => Ok((name, entry, behind)),
+        Ok((entry, behind)) => Ok((name, written, entry, behind)),
         Err(halt) => Err(halt),
     }
 }
@@ -190,12 +192,12 @@ fn read_entries<'a, T: EntryTaker>(
     ensures stops { IfErr result (HaltsAt (StopsIn text.now)) }
 {
     let mut taken = taken;
-    let mut last = None;
+    let mut last = "";
     let mut rest = text;
     while !rest.is_empty() {
-        let (name, entry, behind) = read_entry(alloc, last.as_ref(), rest)?;
-        taken = taker.take(taken, &name, entry)?;
-        last = Some(name);
+        let (name, written, entry, behind) = read_entry(alloc, last, rest)?;
+        taken = taker.take(taken, name, entry)?;
+        last = written;
         rest = behind;
     }
     Ok(taken)
@@ -325,13 +327,7 @@ impl Table {
         ensures refused { IfErr result (λ e. (e ≡ TableFault.NoMemory)
             ⊎ IsRefusedAsTable environment.now text.now e) }
     {
-        let entries = read_text(
-            alloc,
-            text,
-            environment,
-            &Listing { alloc },
-            Vec::new(alloc),
-        )?;
+        let entries = read_text(alloc, text, environment, &Listing, Vec::new(alloc))?;
         Ok(Table::of_entries(entries))
     }
 }

@@ -1,7 +1,5 @@
 -- What stands in front of a table's lines: an entry.
-use Rattle.std.specs.Prelude.{◌≡◌, ◌↔◌, ℕ, codes, List, [], ◌∷◌, ◌++◌, map, Option}
-use Rattle.std.specs.Borrow.{Bor}
-use Rattle.std.specs.Option.{option_copied, option_to_list}
+use Rattle.std.specs.Prelude.{◌≡◌, ◌↔◌, ℕ, codes, List, [], ◌∷◌, ◌++◌, map}
 use Rattle.pep_marker.specs.Name.{IsNormalName}
 use Rattle.pep_require.specs.Requirement.{IsAscending}
 use Rattle.demands.specs.declared.verdict.Verdict.{Verdict}
@@ -57,9 +55,10 @@ HasOtherVerdict verdict x = (e : EntryParts) × (rest : List ℕ) × (right : Ve
 
 -- ---- an entry behind those with these names
 
--- the name of the last entry, if there is one, of what the code has of it
-abbrev pub last_name : Option (Bor (List ℕ)) → List (List ℕ)
-last_name last = option_to_list (option_copied last)
+-- the name of the last entry, if there is one: its text is empty, where there is none
+abbrev pub last_name : List ℕ → List (List ℕ)
+last_name [] = []
+last_name (b ∷ last) = (b ∷ last) ∷ []
 
 -- what entries make of what was taken before them, one after the other
 abbrev pub TakesEntries : {A : Type 0} → (List ℕ → EntryParts → A → A → Type 0) → TableParts → A → A → Type 0

@@ -4,7 +4,7 @@ ghost use Rattle.std.specs.Prelude.{IfOk};
 
 use demands::Entry;
 use pep_marker::Name;
-use std::alloc::{AllocError, Global};
+use std::alloc::AllocError;
 
 /// Takes the entries of a table's lines, one after the other.
 pub(crate) trait EntryTaker {
@@ -18,15 +18,13 @@ pub(crate) trait EntryTaker {
     ghost takes: { Self → List ℕ → EntryParts → Self.Taken → Self.Taken → Type 0 };
 
     /// What was taken before, and the entry of this name.
-    fn take(&self, taken: Self::Taken, name: &Name, entry: Entry) -> Result<Self::Taken, AllocError>
-        ensures { IfOk result (takes self.now name.now entry taken) };
+    fn take(&self, taken: Self::Taken, name: Name, entry: Entry) -> Result<Self::Taken, AllocError>
+        ensures { IfOk result (takes self.now name entry taken) };
 }
 
 /// Lists the entries with their names.
 #[derive(Drop)]
-pub(crate) struct Listing {
-    pub(crate) alloc: Global,
-}
+pub(crate) struct Listing;
 
 impl EntryTaker for Listing {
     ghost use Rattle.std.specs.Prelude.{◌≡◌, ◌++◌, ◌∷◌, []};
@@ -38,13 +36,10 @@ impl EntryTaker for Listing {
     fn take(
         &self,
         taken: Vec<(Name, Entry)>,
-        name: &Name,
+        name: Name,
         entry: Entry,
     ) -> Result<Vec<(Name, Entry)>, AllocError> {
         let mut entries = taken;
-        let Ok(name) = name.copied(self.alloc) else {
-            return Err(AllocError);
-        };
         entries.push((name, entry))?;
         Ok(entries)
     }
@@ -61,7 +56,7 @@ impl EntryTaker for Reading {
 
     ghost takes = { λ _ _ _ _ _. ⊤ };
 
-    fn take(&self, _taken: (), _name: &Name, _entry: Entry) -> Result<(), AllocError> {
+    fn take(&self, _taken: (), _name: Name, _entry: Entry) -> Result<(), AllocError> {
         Ok(())
     }
 }

@@ -1,4 +1,4 @@
-use Rattle.std.proofs.Common.{◌++◌, ◌∷◌, [], inr, refl, rules}
+use Rattle.std.proofs.Common.{◌++◌, ◌∷◌, [], List, inr, refl, rules, subst, ℕ}
 use Rattle.pep_require.specs.Requirement.{IsAscending}
 use Rattle.pep_require.proofs.Exits.{further, handed_on}
 use Rattle.pep_table.specs.Way.EntryReading.{head_line, last_name}
@@ -9,23 +9,26 @@ use Rattle.pep_table.proofs.read.read_entry.Goals as goal
 
 pub returns-then-not-is_behind-clause-refused : goal.returns-then-not-is_behind-clause-refused
 returns-then-not-is_behind-clause-refused c =
-    let before = last_name c.args.last in
+    let before = last_name c.args.last.now in
     let name = c.in_ok-name.name in
-    let falls : ¬ IsAscending (before ++ name ∷ []) = search rules in
+    let falls : ¬ IsAscending (before ++ c.in_ok-name.written.now ∷ []) = search rules in
     inr (not_behind before c.args.text.now name c.in_ok-name.verdict c.in_ok-name.parts.now
-    c.in_ok-name.ensures.ok falls)
+    c.in_ok-name.ensures.ok
+    (subst (λ (n : List ℕ). ¬ IsAscending (before ++ n ∷ [])) c.in_ok-name.ensures.text falls))
 
 pub returns-in-Ok-clause-ok : goal.returns-in-Ok-clause-ok
 returns-in-Ok-clause-ok c =
-    let before = last_name c.args.last in
-    let rises : IsAscending (before ++ c.in_ok-name.name ∷ []) = search rules in
+    let before = last_name c.args.last.now in
+    let rises : IsAscending (before ++ c.in_ok-name.written.now ∷ []) = search rules in
     entry_read before c.args.text.now c.in_ok-name.name c.in_ok-name.verdict
     c.in_ok-name.parts.now c.in_ok-name.ensures.ok c.in-Ok.entry c.in-Ok.behind.now
-    c.in-Ok.ensures.ok.0 rises c.in-Ok.ensures.ok.1
+    c.in-Ok.ensures.ok.0
+    (subst (λ (n : List ℕ). IsAscending (before ++ n ∷ [])) c.in_ok-name.ensures.text rises)
+    c.in-Ok.ensures.ok.1
 
 pub returns-clause-refused : goal.returns-clause-refused
 returns-clause-refused c =
-    further (not_read (last_name c.args.last) c.args.text.now c.in_ok-name.name
+    further (not_read (last_name c.args.last.now) c.args.text.now c.in_ok-name.name
     c.in_ok-name.verdict c.in_ok-name.parts.now c.in_ok-name.ensures.ok)
     c.in-Err.ensures.refused
 

@@ -20,12 +20,12 @@ line_cut c =
 
 -- .. and the name in it at the first space
 name_cut : (c : In-Some-split_once) → IsCutAtSpace c.in-Some.line.now
-    c.in-Some-split_once.name.now c.in-Some-split_once.word.now
+    c.in-Some-split_once.written.now c.in-Some-split_once.word.now
 name_cut c =
     let parts = split_parts 32 c.in-Some.line.now
-    (Some (c.in-Some-split_once.name, c.in-Some-split_once.word))
+    (Some (c.in-Some-split_once.written, c.in-Some-split_once.word))
     c.in-Some-split_once.ensures.cases (lit< tt) in
-    (parts.0, all_but_at 32 c.in-Some-split_once.name.now parts.1)
+    (parts.0, all_but_at 32 c.in-Some-split_once.written.now parts.1)
 
 pub returns-in_default-clause-refused : goal.returns-in_default-clause-refused
 returns-in_default-clause-refused c =
@@ -56,6 +56,6 @@ returns-in-None-clause-refused c =
     let at = goal.at.returns-in-None-clause-refused c in
     let cut = line_cut at.In-Some in
     let parts = name_cut at.In-Some-split_once in
-    let name = c.in-Some-split_once.name.now in
+    let name = c.in-Some-split_once.written.now in
     let none : ¬ IsNormalName name = search rules in
     inr (no_name c.args.text.now _ _ cut.0 cut.1 name _ parts.0 parts.1 none)

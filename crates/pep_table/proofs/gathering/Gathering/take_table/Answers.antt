@@ -50,5 +50,6 @@ returns-clause-joined c =
     sym (append-nil done) ∙ ap (λ (l : TableParts). done ++ l) (sym none) ∙ at.invariant.0
     ∙ search rules in
     let new : TableParts = log_table at.gathered.value in
-    subst (λ (t : TableParts). JoinsTables c.args.self t new) all
-    (subst (λ (t : TableParts). JoinsTables t done new) c.in_ok-gathered.ensures.same at.invariant.1)
+    subst (λ (t : TableParts). JoinsTables c.args.self c.args.table t) (sym c.closed.ensures)
+    (subst (λ (t : TableParts). JoinsTables c.args.self t new) all
+    (subst (λ (t : TableParts). JoinsTables t done new) c.in_ok-gathered.ensures.same at.invariant.1))
