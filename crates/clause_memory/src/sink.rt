@@ -95,6 +95,7 @@ impl LineSink for DemandSink<'_> {
 
     ghost holds = { λ e line p. HoldsLine e line p };
 
+    #[inline(always)]
     fn begin(&mut self, line: &mut LineSoFar) {
         line.demands.clear();
         line.applies = Some(true);
@@ -105,6 +106,7 @@ impl LineSink for DemandSink<'_> {
         Ok(())
     }
 
+    #[inline(always)]
     fn clause<'b>(&mut self, line: &mut LineSoFar, text: &'b str) -> Result<&'b str, RequireFault> {
         self.clauses.take(self.alloc, text, &mut line.demands)
     }

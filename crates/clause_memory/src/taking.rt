@@ -88,6 +88,7 @@ fn take_behind<'a>(
 impl ClauseMemory {
     /// Reads the clause in front of a text (PEP 508, "Grammar"), and keeps what it demands. What stands behind it is
     /// given. The refusals are `BadClause`, 33, with the clause's fault, and `NoMemory`, 40.
+    #[inline(always)]
     pub(crate) fn take<'a>(
         &mut self,
         alloc: Global,

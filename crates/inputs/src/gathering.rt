@@ -90,6 +90,7 @@ impl Taker for DemandTaker<'_> {
 
     ghost refuses = { λ j text fault. RefusesTextIn j.sink text fault };
 
+    #[inline(always)]
     fn take(&mut self, gathering: Gathering, text: &str) -> Result<Gathering, LineFault> {
         let name = walk(self.alloc, &mut self.sink, &mut self.room.line, text)?;
         take_walked(

@@ -79,6 +79,7 @@ impl Gathered {
     }
 
     // The place of an entry of the name, if it is remembered as it is written.
+    #[inline(always)]
     fn known_place(&self, name: &WrittenName) -> Option<usize>
         ensures { IfSome result (IsAt (names self.now) name.now) }
     {

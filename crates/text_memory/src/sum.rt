@@ -14,6 +14,7 @@ fn mixed(sum: u64, bytes: u64) -> u64 {
 
 // A number of all bytes of a text, eight at a time: nothing but time rests on it. The last ones, which may count twice,
 // come first, so that a text of eight bytes or more is read by whole numbers.
+#[inline(always)]
 pub(crate) fn sum_of(text: &[u8]) -> u32 {
     let (_, last) = text.split_at(text.len().saturating_sub(8));
     let mut sum = mixed(0, head_of(last));
