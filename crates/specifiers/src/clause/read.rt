@@ -181,7 +181,10 @@ impl Clause {
     }
 
     /// The clause of an operator and of the run in front of a text ([`operand_in_front`]), and what stands behind the
-    /// run, without white space before that. Each refusal is that of `Clause::of` for the run.
+    /// run, without white space before that (PEP 508, "Grammar").
+    ///
+    /// Each refusal is that of `Clause::of` for the run: 12 `BadVersion`, 16 `NumberTooLarge`, 13 `StarNotAllowed`, 14
+    /// `LocalNotAllowed` or 15 `OneNumber` where it makes no clause; 17 `NoMemory` where a growth is refused.
     #[inline(always)]
     pub fn behind<'a>(
         alloc: Global,
