@@ -9,7 +9,7 @@ ghost use Rattle.clause_memory.specs.Way.Plain.{MakesDemand, PlainlyDemands, Rea
 use crate::taking::is_open;
 use packed_cuts::{PackedRange, PackedSet};
 use pep_clause::{Op, PackedCut};
-use texts::without_leading_blanks;
+use texts::blank_run;
 
 // How many numbers a release has at most of which there are packed cuts.
 const MOST_NUMBERS: usize = 4;
@@ -99,7 +99,7 @@ fn left_behind<'a>(text: &'a str, last: &[u8]) -> Option<&'a str>
     ensures left { IfSome result (λ rest. rest.now ≡ without_leading_blanks last.now) }
     ensures ends { IfSome result (λ rest. begins goes_on rest.now ≡ false) }
 {
-    let last = without_leading_blanks(last);
+    let (_, last) = last.split_at(blank_run(last));
     if is_open(last) {
         return None;
     }

@@ -81,10 +81,6 @@ stripped-white_space_kept e = cc e
 pub trimmed-behind_alone : ¬ (32 ∷ 97 ∷ [] ≡ trimmed (32 ∷ 97 ∷ []))
 trimmed-behind_alone e = cc e
 
--- " a"
-pub without_leading_blanks-by_the_end : ¬ (32 ∷ 97 ∷ [] ≡ without_leading_blanks (32 ∷ 97 ∷ []))
-without_leading_blanks-by_the_end e = cc e
-
 -- "a "
 pub without_outer_blanks-end_kept : ¬ (97 ∷ 32 ∷ [] ≡ without_outer_blanks (97 ∷ 32 ∷ []))
 without_outer_blanks-end_kept e = cc e

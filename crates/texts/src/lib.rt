@@ -22,8 +22,7 @@ pub use crate::heads::head_of;
 pub use crate::limits::{INPUT_LIMIT, LINE_LIMIT};
 pub use crate::out::TextOut;
 pub use crate::runs::{
-    blank_end, blank_run, clause_run, has_clause_bytes, name_run, stripped, without_leading_blanks,
-    without_outer_blanks,
+    blank_run, clause_run, has_clause_bytes, name_run, stripped, without_outer_blanks,
 };
 pub use crate::space::{trimmed, without_trailing_space};
 pub use crate::split::first_part;

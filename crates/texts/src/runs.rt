@@ -39,8 +39,8 @@ pub fn blank_run(text: &[u8]) -> usize
     text.iter().take_while(|b| is_blank_byte(**b)).count()
 }
 
-/// How many bytes of white space stand at the end.
-pub fn blank_end(text: &[u8]) -> usize
+// How many bytes of white space stand at the end.
+fn blank_end(text: &[u8]) -> usize
     ensures count { result ≡ suffix_len is_blank_byte text.now }
     ensures within { result ≤ length text.now }
 {
@@ -48,14 +48,6 @@ pub fn blank_end(text: &[u8]) -> usize
 }
 
 /// The text without the white space in front.
-pub fn without_leading_blanks(text: &[u8]) -> &[u8]
-    ensures { result.now ≡ without_leading_blanks text.now }
-{
-    let (_, rest) = text.split_at(blank_run(text));
-    rest
-}
-
-/// The same of a text that is UTF-8.
 pub fn stripped(text: &str) -> &str
     ensures { result.now ≡ without_leading_blanks text.now }
 {

@@ -6,10 +6,7 @@ use std::alloc::Global;
 use std::cmp::Ordering;
 use std::hash::{DefaultHasher, Hash, Hasher};
 use std::process::Abort;
-use texts::{
-    blank_end, blank_run, is_blank_byte, is_name_byte, name_run, without_leading_blanks,
-    without_outer_blanks,
-};
+use texts::{blank_run, is_blank_byte, is_name_byte, name_run, stripped, without_outer_blanks};
 
 // Names in their order, by the bytes of their normal texts. Some share their first eight bytes.
 const IN_ORDER: [&str; 14] = [
@@ -155,30 +152,34 @@ fn bytes_of_names_and_white_space(rt: HostRuntime) {
     }
 }
 
-// Texts, and how many bytes are white space in front, white space behind, and of a name in front.
-const RUNS: [(&[u8], (usize, usize, usize)); 6] = [
-    (b"", (0, 0, 0)),
-    (b" \t", (2, 2, 0)),
-    (b"Flask_1.x-2>=3", (0, 0, 11)),
-    (b" a b\t ", (1, 2, 0)),
-    (b"\r a", (0, 0, 0)),
-    (b"a\n", (0, 0, 1)),
+// Texts, and how many bytes are white space in front, and of a name in front.
+const RUNS: [(&str, (usize, usize)); 6] = [
+    ("", (0, 0)),
+    (" \t", (2, 0)),
+    ("Flask_1.x-2>=3", (0, 11)),
+    (" a b\t ", (1, 0)),
+    ("\r a", (0, 0)),
+    ("a\n", (0, 1)),
 ];
 
 #[test]
 fn runs(rt: HostRuntime) {
     for &(text, wanted) in &RUNS {
-        let front = blank_run(text);
-        expect(
-            &rt,
-            text,
-            (front, blank_end(text), name_run(text)) == wanted,
-        );
-        expect(&rt, text, without_leading_blanks(text) == &text[front..]);
+        let bytes = text.as_bytes();
+        let front = blank_run(bytes);
+        expect(&rt, text, (front, name_run(bytes)) == wanted);
+        expect(&rt, text, stripped(text) == &text[front..]);
     }
 }
 
-const TRIMMED: [(&str, &str); 4] = [(" a b\t ", "a b"), ("\t ", ""), ("", ""), ("\ra ", "\ra")];
+const TRIMMED: [(&str, &str); 6] = [
+    (" a b\t ", "a b"),
+    ("\t ", ""),
+    ("", ""),
+    ("\ra ", "\ra"),
+    ("a\n", "a\n"),
+    ("a-1", "a-1"),
+];
 
 #[test]
 fn trims_names(rt: HostRuntime) {
