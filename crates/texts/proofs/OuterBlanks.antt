@@ -8,7 +8,7 @@ use Rattle.std.specs.Str.{IsCharBoundary}
 use Rattle.std.proofs.Math.Seq.{drop-append_seam}
 use Rattle.std.proofs.lemmas.Bool.Decides.{nat_tests}
 use Rattle.std.proofs.lemmas.List.{length-drop, length-reverse, length-take-le, reverse-append}
-use Rattle.std.proofs.lemmas.List.{take-append-drop}
+use Rattle.std.proofs.lemmas.List.{reverse-reverse, take-append-drop}
 use Rattle.std.proofs.lemmas.List.Folds.{list_all-append}
 use Rattle.std.proofs.lemmas.Str.{IsCharBoundary-at_seam, IsUtf8-from_ascii}
 use Rattle.texts.specs.Bytes.{is_blank_byte}
@@ -28,12 +28,6 @@ all_reverse p (b ∷ x) h =
     (all_reverse p x (and_second (p b) (list_all p x) h))
     (and_from (p b) true (and_first (p b) (list_all p x) h) refl)
 
-reverse_twice : (x : List ℕ) → reverse (reverse x) ≡ x
-reverse_twice [] = refl
-reverse_twice (b ∷ x) =
-    ap reverse (reverse_first b x) ∙ reverse-append (reverse x) (b ∷ [])
-    ∙ ap (λ t. b ∷ t) (reverse_twice x)
-
 -- behind all but the run at the end stands that run
 run_at_end : (p : ℕ → Bool) (y : List ℕ) → list_all p (drop (length y - suffix_len p y) y) ≡ true
 run_at_end p y =
@@ -42,7 +36,7 @@ run_at_end p y =
     let front = reverse (drop n r) in
     let back = reverse (take n r) in
     let whole : y ≡ front ++ back =
-    sym (reverse_twice y) ∙ ap reverse (sym (take-append-drop n r))
+    sym (reverse-reverse y) ∙ ap reverse (sym (take-append-drop n r))
     ∙ reverse-append (take n r) (drop n r) in
     let count : length front ≡ length y - n =
     length-reverse (drop n r) ∙ length-drop n r ∙ ap (λ k. k - n) (length-reverse y) in
