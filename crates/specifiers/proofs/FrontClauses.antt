@@ -1,18 +1,16 @@
 -- Where a text is cut round the operator and the run of the clause in front.
 use Rattle.std.proofs.Common.{◌≡◌, ℕ, ◌<◌, true, List, ◌++◌, length, length-append, take, drop}
-use Rattle.std.proofs.Common.{Result, [], ◌∷◌, false, inl, inr, refl, Some, sym, ap, subst, ◌∙◌, arith}
-use Rattle.std.specs.List.{list_all, prefix_len}
-use Rattle.std.proofs.lemmas.Bool.{cases_Bool}
-use Rattle.std.proofs.lemmas.List.{take-append-drop}
+use Rattle.std.proofs.Common.{Result, Some, sym, ap, subst, ◌∙◌, arith}
+use Rattle.std.specs.List.{prefix_len}
 use Rattle.std.specs.Str.{IsCharBoundary, IsUtf8}
 use Rattle.std.proofs.Math.Seq.{take-append_seam}
 use Rattle.std.proofs.lemmas.Bool.Decides.{nat_tests}
 use Rattle.std.proofs.lemmas.Str.{IsCharBoundary-from_take}
-use Rattle.texts.specs.Bytes.{is_blank_byte, is_clause_byte, is_white_space}
-use Rattle.texts.specs.Runs.{begins, without_leading_blanks}
-use Rattle.texts.specs.Space.{trimmed, without_leading_space, without_trailing_space}
-use Rattle.texts.proofs.Connectives.{and_first, and_second}
-use Rattle.texts.proofs.RunLemmas.{all-run, boundary-run, rest-span}
+use Rattle.texts.specs.Bytes.{is_clause_byte}
+use Rattle.texts.specs.Runs.{without_leading_blanks}
+use Rattle.texts.specs.Space.{trimmed}
+use Rattle.texts.proofs.RunLemmas.{boundary-run}
+use Rattle.texts.proofs.SpaceLemmas.{stripped_trimmed, trimmed_stripped}
 use Rattle.specifiers.specs.Clause.{Clause, ClauseOf, ReadsClause, ReadsClauseAs, TargetAnswers}
 use Rattle.specifiers.specs.Clause.{operator_of, operator_text}
 use Rattle.specifiers.specs.Front.{OperatorFrom, after_operator}
@@ -40,39 +38,6 @@ boundary-operator x text o utf8 own found same =
     ap (take (length text)) shape ∙ take-append_seam text behind in
     IsCharBoundary-from_take x (length text) utf8
     (rw shape (omega (arith, length-append text behind))) (subst IsUtf8 (sym front) own)
-
--- ---- white space at the front
-
-blank_white : (b : ℕ) → is_blank_byte b ≡ true → is_white_space b ≡ true
-blank_white b h = grind (arith, nat_tests)
-
-white_blank : (b : ℕ) → is_white_space b ≡ false → is_blank_byte b ≡ false
-white_blank b h = grind (arith, nat_tests)
-
-blanks_gone : (space x : List ℕ) → list_all is_blank_byte space ≡ true →
-    without_leading_space (space ++ x) ≡ without_leading_space x
-blanks_gone [] x h = refl
-blanks_gone (b ∷ space) x h =
-    rw (blank_white b (and_first (is_blank_byte b) (list_all is_blank_byte space) h))
-    (blanks_gone space x (and_second (is_blank_byte b) (list_all is_blank_byte space) h))
-
--- a text says the same without the spaces and tabs at its front
-pub trimmed_stripped : (x : List ℕ) → trimmed (without_leading_blanks x) ≡ trimmed x
-trimmed_stripped x =
-    let n = prefix_len is_blank_byte x in
-    sym (ap without_trailing_space (blanks_gone (take n x) (drop n x) (all-run is_blank_byte x)))
-    ∙ ap trimmed (take-append-drop n x)
-
-trimmed_begins : (x : List ℕ) → begins is_blank_byte (trimmed x) ≡ false
-trimmed_begins [] = refl
-trimmed_begins (b ∷ x) = elim (cases_Bool (is_white_space b)) [
-  | inl white ↦ rw white (trimmed_begins x)
-  | inr other ↦ rw (other, other) (white_blank b other)
-]
-
--- a trimmed text has none
-pub stripped_trimmed : (x : List ℕ) → without_leading_blanks (trimmed x) ≡ trimmed x
-stripped_trimmed x = rest-span is_blank_byte [] (trimmed x) refl (trimmed_begins x)
 
 -- the clause of the operator in front of a trimmed text is the one that the text writes
 pub reads_front : (text bare operand : List ℕ) (o : Op) (answer : Result Clause ClauseFault) → bare ≡ trimmed text →

@@ -1,11 +1,17 @@
 -- White space at the ends of a text.
 use Rattle.std.proofs.Common.{◌≡◌, ℕ, ◌-◌, ◌<◌, ◌≤◌, List, [], ◌∷◌, ◌++◌, length, take, get_or}
-use Rattle.std.proofs.Common.{true, false, refl, sym, ap, ◌∙◌, arith}
+use Rattle.std.proofs.Common.{true, false, inl, inr, refl, sym, ap, ◌∙◌, drop, arith}
 use Rattle.std.specs.Prelude.{slice_range}
-use Rattle.std.proofs.lemmas.List.{length-take}
-use Rattle.texts.specs.Bytes.{is_white_space}
-use Rattle.texts.specs.Space.{without_trailing_space}
+use Rattle.std.specs.List.{list_all, prefix_len}
+use Rattle.std.proofs.lemmas.Bool.{cases_Bool}
+use Rattle.std.proofs.lemmas.Bool.Decides.{nat_tests}
+use Rattle.std.proofs.lemmas.List.{length-take, take-append-drop}
+use Rattle.texts.specs.Bytes.{is_blank_byte, is_white_space}
+use Rattle.texts.specs.Runs.{begins, without_leading_blanks}
+use Rattle.texts.specs.Space.{trimmed, without_leading_space, without_trailing_space}
+use Rattle.texts.proofs.Connectives.{and_first, and_second}
 use Rattle.texts.proofs.ListLemmas.{last-shape}
+use Rattle.texts.proofs.RunLemmas.{all-run, rest-span}
 
 -- white space at the end goes, and anything else stays
 pub trailing-white : (ys : List ℕ) (b : ℕ) → is_white_space b ≡ true →
@@ -52,3 +58,36 @@ trailing-shorter xs ys zs same some white short_is =
     shape : zs ≡ take (length ys - 1) ys
     shape = short_is ∙ ap (λ n. take (n - 0) xs) short ∙ ap (λ n. take n xs) less
         ∙ ap (λ (t : List ℕ). take (length ys - 1) t) (sym same)
+
+-- ---- spaces and tabs at the front of a text
+
+blank_white : (b : ℕ) → is_blank_byte b ≡ true → is_white_space b ≡ true
+blank_white b h = grind (arith, nat_tests)
+
+white_blank : (b : ℕ) → is_white_space b ≡ false → is_blank_byte b ≡ false
+white_blank b h = grind (arith, nat_tests)
+
+blanks_gone : (space x : List ℕ) → list_all is_blank_byte space ≡ true →
+    without_leading_space (space ++ x) ≡ without_leading_space x
+blanks_gone [] x h = refl
+blanks_gone (b ∷ space) x h =
+    rw (blank_white b (and_first (is_blank_byte b) (list_all is_blank_byte space) h))
+    (blanks_gone space x (and_second (is_blank_byte b) (list_all is_blank_byte space) h))
+
+-- a text says the same without the spaces and tabs at its front
+pub trimmed_stripped : (x : List ℕ) → trimmed (without_leading_blanks x) ≡ trimmed x
+trimmed_stripped x =
+    let n = prefix_len is_blank_byte x in
+    sym (ap without_trailing_space (blanks_gone (take n x) (drop n x) (all-run is_blank_byte x)))
+    ∙ ap trimmed (take-append-drop n x)
+
+trimmed_begins : (x : List ℕ) → begins is_blank_byte (trimmed x) ≡ false
+trimmed_begins [] = refl
+trimmed_begins (b ∷ x) = elim (cases_Bool (is_white_space b)) [
+  | inl white ↦ rw white (trimmed_begins x)
+  | inr other ↦ rw (other, other) (white_blank b other)
+]
+
+-- a trimmed text has none
+pub stripped_trimmed : (x : List ℕ) → without_leading_blanks (trimmed x) ≡ trimmed x
+stripped_trimmed x = rest-span is_blank_byte [] (trimmed x) refl (trimmed_begins x)
