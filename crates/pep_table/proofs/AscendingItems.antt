@@ -9,6 +9,7 @@ use Rattle.std.specs.Cmp.Lexicographic.{slice_cmp}
 use Rattle.std.specs.List.{slice_get}
 use Rattle.std.specs.Ordering.{is_lt, nat_cmp}
 use Rattle.pep_clause.proofs.Between.{less_told}
+use Rattle.pep_marker.specs.Name.{IsNormalName}
 use Rattle.pep_require.specs.Requirement.{IsAscending}
 use Rattle.pep_table.specs.Way.EntryReading.{FollowsAlike, last_name}
 
@@ -51,12 +52,12 @@ behind_last text xs x y e h =
       λ g. rw (further.1 (subst (λ l. IsAscending (l ++ y ∷ [])) split g)) refl,
     )
 
--- behind the last name stands each one, where there is none, and else what is above it
-pub behind_none : (last name : List ℕ) → length last ≡ 0 → IsAscending (last_name last ++ name ∷ [])
-behind_none [] name e = tt
-behind_none (b ∷ last) name e = let none : ⊥ = omega (arith, e) in absurd none
-
-pub behind_name : (last name : List ℕ) → ¬ (last ≡ []) →
+-- behind the last name stands what is above it: each name, where there is none
+pub behind_name : (last name : List ℕ) → IsNormalName name →
     IsTrue (is_lt (slice_cmp nat_cmp last name)) ↔ IsAscending (last_name last ++ name ∷ [])
-behind_name [] name some = absurd (some refl)
-behind_name (b ∷ last) name some = behind_last (λ n. n) ((b ∷ last) ∷ []) (b ∷ last) name refl tt
+behind_name last [] h = absurd (none h)
+  where
+    none : IsNormalName [] → ⊥
+    none h = cc h.0
+behind_name [] (b ∷ name) h = ((λ t. tt), λ g. refl)
+behind_name (c ∷ last) (b ∷ name) h = behind_last (λ n. n) ((c ∷ last) ∷ []) (c ∷ last) (b ∷ name) refl tt

@@ -21,6 +21,7 @@ ghost use Rattle.pep_table.specs.Way.EntryReading.{
 ghost use Rattle.demands.specs.Table.{IsValidTable, TableParts};
 ghost use Rattle.pep_marker.specs.Environment.{IsEnvironment};
 ghost use Rattle.pep_marker.specs.Header.{FindsHeader};
+ghost use Rattle.pep_marker.specs.Name.{IsNormalName};
 ghost use Rattle.pep_table.specs.Refused.{AreIndented, BeginsEntry, IsRefusedAsTable, feeds};
 ghost use Rattle.pep_table.specs.Way.ReadText.{DecidesText, HaltsAt, IsBehind, StopsIn, TellsLine};
 ghost use Rattle.pep_table.specs.TableText.{AreNoLines, AreTableLines, IsReadAs, Shows};
@@ -111,13 +112,12 @@ fn read_parts(alloc: Global, text: &str) -> Result<(Entry, &str), Halt<'_>>
     Ok((Entry::of(extras, urls, texts, versions), rest))
 }
 
-// Whether the text of a name stands behind that of the last one. That is empty, where there is none.
+// Whether the text of a name stands behind that of the last one. That is empty, and so below every name, where there is
+// none.
 fn is_behind(last: &str, name: &str) -> bool
-    ensures { IsTrue result ↔ IsAscending (last_name last.now ++ name.now ∷ []) }
+    ensures { IsNormalName name.now
+        → (IsTrue result ↔ IsAscending (last_name last.now ++ name.now ∷ [])) }
 {
-    if last.is_empty() {
-        return true;
-    }
     last < name
 }
 

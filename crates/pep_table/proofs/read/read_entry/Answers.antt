@@ -1,4 +1,5 @@
-use Rattle.std.proofs.Common.{◌++◌, ◌∷◌, [], List, inr, refl, rules, subst, ℕ}
+use Rattle.std.proofs.Common.{◌++◌, ◌∷◌, [], List, inr, refl, rules, subst, sym, ℕ}
+use Rattle.pep_marker.specs.Name.{IsNormalName}
 use Rattle.pep_require.specs.Requirement.{IsAscending}
 use Rattle.pep_require.proofs.Exits.{further, handed_on}
 use Rattle.pep_table.specs.Way.EntryReading.{head_line, last_name}
@@ -11,6 +12,9 @@ pub returns-then-not-is_behind-clause-refused : goal.returns-then-not-is_behind-
 returns-then-not-is_behind-clause-refused c =
     let before = last_name c.args.last.now in
     let name = c.in_ok-name.name in
+    let is_name : IsNormalName c.in_ok-name.written.now =
+    subst IsNormalName (sym c.in_ok-name.ensures.text) c.in_ok-name.ensures.ok.is_name in
+    let told = c.is_behind.ensures is_name in
     let falls : ¬ IsAscending (before ++ c.in_ok-name.written.now ∷ []) = search rules in
     inr (not_behind before c.args.text.now name c.in_ok-name.verdict c.in_ok-name.parts.now
     c.in_ok-name.ensures.ok
@@ -19,7 +23,10 @@ returns-then-not-is_behind-clause-refused c =
 pub returns-in-Ok-clause-ok : goal.returns-in-Ok-clause-ok
 returns-in-Ok-clause-ok c =
     let before = last_name c.args.last.now in
-    let rises : IsAscending (before ++ c.in_ok-name.written.now ∷ []) = search rules in
+    let is_name : IsNormalName c.in_ok-name.written.now =
+    subst IsNormalName (sym c.in_ok-name.ensures.text) c.in_ok-name.ensures.ok.is_name in
+    let rises : IsAscending (before ++ c.in_ok-name.written.now ∷ []) =
+    (c.is_behind.ensures is_name).0 (search rules) in
     entry_read before c.args.text.now c.in_ok-name.name c.in_ok-name.verdict
     c.in_ok-name.parts.now c.in_ok-name.ensures.ok c.in-Ok.entry c.in-Ok.behind.now
     c.in-Ok.ensures.ok.0
