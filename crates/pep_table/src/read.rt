@@ -69,12 +69,9 @@ fn verdict_of(word: &str) -> Option<Verdict>
     ensures some { IfSome result (λ verdict. verdict_word verdict ≡ word.now) }
     ensures none { result ≡ None → (verdict : Verdict) → ¬ (verdict_word verdict ≡ word.now) }
 {
-    match word {
-        "open" => Some(Verdict::Possible),
-        "none" => Some(Verdict::Nothing),
-        "conflict" => Some(Verdict::Conflict),
-        _ => None,
-    }
+    [Verdict::Possible, Verdict::Nothing, Verdict::Conflict]
+        .into_iter()
+        .find(|verdict| verdict.word() == word)
 }
 
 // The name of an entry's first line, its text there, the verdict, and the text behind the line.
