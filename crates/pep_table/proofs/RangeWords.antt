@@ -125,25 +125,21 @@ module _ (text a b : List ℕ) (first : IsCutAtSpace text a b) where
 
   -- and what is behind it at its own
   module _ (v rest : List ℕ) (second : IsCutAtSpace b v rest) where
-    behind_low : (r : Range) → IsRange r → range_text r ≡ text →
-        (cut_text r.low ≡ a ++ 32 ∷ v) × (rest ≡ to_high r)
+    behind_low : (r : Range) → IsRange r → range_text r ≡ text → cut_text r.low ≡ a ++ 32 ∷ v
     behind_low r is e =
         let w = behind_kind r is e in
         let both = space_one b v rest w.0 (to_high r) second w.2 in
-        (w.1 ∙ ap (λ x. a ++ 32 ∷ x) (sym both.0), both.1)
+        w.1 ∙ ap (λ x. a ++ 32 ∷ x) (sym both.0)
 
     in_front : text ≡ ((a ++ 32 ∷ v) ++ 32 ∷ []) ++ rest
     in_front = first.0 ∙ ap (λ x. a ++ 32 ∷ x) second.0
         ∙ sym (append_assoc a (32 ∷ v) (32 ∷ rest))
         ∙ sym (append_assoc (a ++ 32 ∷ v) (32 ∷ []) rest)
 
-    pub no_to : ((x : List ℕ) → ¬ (rest ≡ codes "to " ++ x)) → HasNoRange text
-    no_to lacks r is e = lacks (cut_text r.high) (behind_low r is e).1
-
     pub has_front : ((x : List ℕ) → ¬ (text ≡ x ++ rest)) → ⊥
     has_front lacks = lacks ((a ++ 32 ∷ v) ++ 32 ∷ []) in_front
 
-    -- what stands in front of "to"
+    -- what stands up to its second space
     module _ (front : List ℕ) (third : text ≡ front ++ rest) where
       front_is : front ≡ (a ++ 32 ∷ v) ++ 32 ∷ []
       front_is = append_cancel_right front ((a ++ 32 ∷ v) ++ 32 ∷ []) rest (sym third ∙ in_front)
@@ -151,11 +147,31 @@ module _ (text a b : List ℕ) (first : IsCutAtSpace text a b) where
       pub has_low : ((x : List ℕ) → ¬ (front ≡ x ++ 32 ∷ [])) → ⊥
       has_low lacks = lacks (a ++ 32 ∷ v) front_is
 
-      pub cuts_are : (low high : List ℕ) → front ≡ low ++ 32 ∷ [] → rest ≡ codes "to " ++ high →
-          (r : Range) → IsRange r → range_text r ≡ text →
-          (low ≡ cut_text r.low) × (high ≡ cut_text r.high)
-      cuts_are low high fourth to r is e =
-          let w = behind_low r is e in (
-            append_cancel_right low (a ++ 32 ∷ v) (32 ∷ []) (sym fourth ∙ front_is) ∙ sym w.0,
-            append_cancel_left (codes "to ") high (cut_text r.high) (sym to ∙ w.1),
+      -- .. and before it
+      module _ (low : List ℕ) (fourth : front ≡ low ++ 32 ∷ []) where
+        low_is : (r : Range) → IsRange r → range_text r ≡ text → low ≡ cut_text r.low
+        low_is r is e =
+            append_cancel_right low (a ++ 32 ∷ v) (32 ∷ []) (sym fourth ∙ front_is) ∙ sym (behind_low r is e)
+
+        pub has_back : ((x : List ℕ) → ¬ (text ≡ low ++ x)) → ⊥
+        has_back lacks =
+            lacks (32 ∷ rest) (third ∙ ap (λ l. l ++ rest) fourth ∙ append_assoc low (32 ∷ []) rest)
+
+        -- .. and from it on
+        module _ (back : List ℕ) (fifth : text ≡ low ++ back) where
+          back_is : (r : Range) → IsRange r → range_text r ≡ text → back ≡ codes " to " ++ cut_text r.high
+          back_is r is e =
+              let behind = codes " to " ++ cut_text r.high in
+              append_cancel_left low back behind
+              (sym fifth ∙ sym e ∙ append_assoc (cut_text r.low) (codes " to ") (cut_text r.high)
+              ∙ ap (λ l. l ++ behind) (sym (low_is r is e)))
+
+          pub no_to : ((x : List ℕ) → ¬ (back ≡ codes " to " ++ x)) → HasNoRange text
+          no_to lacks r is e = lacks (cut_text r.high) (back_is r is e)
+
+          pub cuts_are : (high : List ℕ) → back ≡ codes " to " ++ high →
+              (r : Range) → IsRange r → range_text r ≡ text → (low ≡ cut_text r.low) × (high ≡ cut_text r.high)
+          cuts_are high to r is e = (
+            low_is r is e,
+            append_cancel_left (codes " to ") high (cut_text r.high) (sym to ∙ back_is r is e),
           )

@@ -27,8 +27,10 @@ ghost use Rattle.pep_table.specs.Way.ReadText.{DecidesText, HaltsAt, IsBehind, S
 ghost use Rattle.pep_table.specs.TableText.{AreNoLines, AreTableLines, IsReadAs, Shows};
 ghost use Rattle.demands.specs.Verdict.{verdict_word};
 
-use crate::read::items::{Extras, TextLines, listed_name, read_items};
+pub(crate) use crate::read::items::{Extras, LineKind, TextLines};
+use crate::read::items::{listed_name, read_items};
 use crate::read::ranges::read_ranges;
+pub(crate) use crate::read::ranges::{RANGE, TO};
 pub(crate) use crate::read::taker::EntryTaker;
 use crate::read::taker::{Listing, Reading};
 use crate::table::Table;

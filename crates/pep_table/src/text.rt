@@ -27,6 +27,7 @@ ghost use Rattle.demands.specs.Way.Others.{kept_others};
 ghost use Rattle.demands.specs.Verdict.{verdict_word};
 ghost use Rattle.texts.specs.TextOut.{Extends};
 
+use crate::read::{Extras, LineKind, RANGE, TO, TextLines};
 use crate::table::Table;
 use demands::{Entry, Finished, OtherTexts, TableFault, TextList, Verdict};
 use pep_clause::Range;
@@ -34,27 +35,29 @@ use pep_marker::{Environment, Name};
 use std::alloc::{AllocError, Global};
 use texts::TextOut;
 
-fn put_line<T: TextOut>(text: &mut T, kind: &str, value: &str) -> Result<(), T::Fault>
+fn put_line<T: TextOut>(text: &mut T, front: &str, value: &str) -> Result<(), T::Fault>
     ensures ok { OnOk result (T.tells → T.written text.new ≡ T.written text.old
-        ++ line (codes "  " ++ kind.now ++ codes " " ++ value.now)) }
+        ++ line (front.now ++ value.now)) }
     ensures kept { OnErr result (T.tells → Extends (T.written text.old) (T.written text.new)) }
 {
-    text.put_str("  ")?;
-    text.put_str(kind)?;
-    text.put_str(" ")?;
+    text.put_str(front)?;
     text.put_str(value)?;
     text.put_str("\n")?;
     Ok(())
 }
 
-// Writes a line of a kind for each of the texts.
-fn put_texts<T: TextOut, L: TextList>(text: &mut T, kind: &str, texts: &L) -> Result<(), T::Fault>
+// Writes a line of the kind for each of the texts.
+fn put_texts<T: TextOut, K: LineKind, L: TextList>(
+    text: &mut T,
+    kind: &K,
+    texts: &L,
+) -> Result<(), T::Fault>
     ensures ok { OnOk result (T.tells → T.written text.new ≡ T.written text.old
-        ++ kind_lines kind.now (L.texts texts.now)) }
+        ++ kind_lines (K.word kind.now) (L.texts texts.now)) }
     ensures kept { OnErr result (T.tells → Extends (T.written text.old) (T.written text.new)) }
 {
     for i in 0..texts.count() {
-        put_line(text, kind, texts.text_at(i))?;
+        put_line(text, kind.front(), texts.text_at(i))?;
     }
     Ok(())
 }
@@ -64,9 +67,9 @@ fn put_range<T: TextOut>(text: &mut T, range: &Range) -> Result<(), T::Fault>
         ++ line (codes "  range " ++ range_text range.now)) }
     ensures kept { OnErr result (T.tells → Extends (T.written text.old) (T.written text.new)) }
 {
-    text.put_str("  range ")?;
+    text.put_str(RANGE)?;
     range.low().put_text(text)?;
-    text.put_str(" to ")?;
+    text.put_str(TO)?;
     range.high().put_text(text)?;
     text.put_str("\n")?;
     Ok(())
@@ -110,9 +113,9 @@ fn put_others<T: TextOut, E: TextList, L: TextList>(
         })) }
     ensures kept { OnErr result (T.tells → Extends (T.written text.old) (T.written text.new)) }
 {
-    put_texts(text, "extra", extras)?;
-    put_texts(text, "url", urls)?;
-    put_texts(text, "text", texts)
+    put_texts(text, &Extras, extras)?;
+    put_texts(text, &TextLines::Urls, urls)?;
+    put_texts(text, &TextLines::Demanded, texts)
 }
 
 // Writes the lines of an entry under its verdict.

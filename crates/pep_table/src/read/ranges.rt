@@ -12,6 +12,11 @@ use crate::read::Halt;
 use pep_clause::{Cut, Range, VersionSet};
 use std::alloc::{AllocError, Global};
 
+/// What stands in front of a range.
+pub(crate) const RANGE: &str = "  range ";
+/// What stands between its cuts.
+pub(crate) const TO: &str = " to ";
+
 fn cut_of(alloc: Global, text: &str) -> Result<Option<Cut>, AllocError>
     ensures read { IfOk result (λ read. (c : Cut) → IsCut c
         → ((read ≡ Some c) ↔ (cut_text c ≡ text.now))) }
@@ -20,8 +25,7 @@ fn cut_of(alloc: Global, text: &str) -> Result<Option<Cut>, AllocError>
     Cut::read(alloc, text).map_err(|_| AllocError)
 }
 
-// The texts of the two cuts: in front of the third space, with "to" behind the second, and behind
-// it.
+// The texts of the two cuts: in front of the second space, and behind the word that begins with it.
 fn cut_texts(text: &str) -> Option<(&str, &str)>
     ensures some { IfSome result (λ p. text.now ≡ p.0.now ++ codes " to " ++ p.1.now) }
     ensures none { result ≡ None → (r : Range) → IsRange r → ¬ (range_text r ≡ text.now) }
@@ -30,8 +34,8 @@ fn cut_texts(text: &str) -> Option<(&str, &str)>
 {
     let (_, version) = text.split_once(' ')?;
     let (_, rest) = version.split_once(' ')?;
-    let high = rest.strip_prefix("to ")?;
     let low = text.strip_suffix(rest)?.strip_suffix(" ")?;
+    let high = text.strip_prefix(low)?.strip_prefix(TO)?;
     Some((low, high))
 }
 
@@ -88,7 +92,7 @@ pub(crate) fn read_ranges(alloc: Global, text: &str) -> Result<(VersionSet, &str
 {
     let mut ranges = Vec::new(alloc);
     let mut rest = text;
-    while let Some(line) = rest.strip_prefix("  range ") {
+    while let Some(line) = rest.strip_prefix(RANGE) {
         let Some((range, behind)) = line.split_once('\n') else {
             return Err(Halt::At(rest));
         };

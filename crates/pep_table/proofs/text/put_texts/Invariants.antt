@@ -5,4 +5,4 @@ use Rattle.pep_table.proofs.text.put_texts.Given as goal
 abbrev pub invariant-loop-i : goal.invariant-loop-i
 invariant-loop-i g l =
     g.T.TextOut.tells → g.T.TextOut.written l.text ≡ g.T.TextOut.written l.initial.text
-    ++ kind_lines l.kind (take l.i (g.L.TextList.texts l.texts))
+    ++ kind_lines (g.K.LineKind.word l.kind) (take l.i (g.L.TextList.texts l.texts))
