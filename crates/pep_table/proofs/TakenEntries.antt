@@ -58,29 +58,26 @@ one_joined (Some n) a b c t p rest up h g = by (bytes_eq p.0 n) refl
         (subst (λ o. JoinsTables b (entry_alone n o) c) none g))
 
 -- what is made of each of these is the table joined with it, as far as it is wanted
-module _ {A : Type 0} (made : A → TableParts) (w : Option (List ℕ)) where
-  abbrev pub JoinsEach : TableParts → A → A → Type 0
-  JoinsEach = TakesEntries (λ name e o n. IsValidTable (made o) →
-      JoinsTables (made o) (wanted_part w ((name, e) ∷ [])) (made n))
+module _ (w : Option (List ℕ)) where
+  abbrev pub JoinsEach : TableParts → TableParts → TableParts → Type 0
+  JoinsEach = TakesEntries (λ name e o n. JoinsTables o (wanted_part w ((name, e) ∷ [])) n)
 
-  each_joined : (a t done : TableParts) (old new : A) → IsAscending (names (done ++ t)) →
-      JoinsTables a (wanted_part w done) (made old) → JoinsEach t old new →
-      JoinsTables a (wanted_part w (done ++ t)) (made new)
+  each_joined : (a t done old new : TableParts) → IsAscending (names (done ++ t)) →
+      JoinsTables a (wanted_part w done) old → JoinsEach t old new →
+      JoinsTables a (wanted_part w (done ++ t)) new
   each_joined a [] done old new up h e =
-      subst (λ (l : TableParts). JoinsTables a (wanted_part w l) (made new)) (sym (append-nil done))
-      (subst (λ (x : A). JoinsTables a (wanted_part w done) (made x)) e h)
+      subst (λ (l : TableParts). JoinsTables a (wanted_part w l) new) (sym (append-nil done))
+      (subst (JoinsTables a (wanted_part w done)) e h)
   each_joined a (p ∷ t) done old new up h (mid, one, more) =
       let split : (done ++ p ∷ []) ++ t ≡ done ++ p ∷ t = append_assoc done (p ∷ []) t in
-      subst (λ (l : TableParts). JoinsTables a (wanted_part w l) (made new)) split
+      subst (λ (l : TableParts). JoinsTables a (wanted_part w l) new) split
       (each_joined a t (done ++ p ∷ []) mid new
       (subst (λ (l : TableParts). IsAscending (names l)) (sym split) up)
-      (one_joined w a (made old) (made mid) done p t up h (one h.valid)) more)
+      (one_joined w a old mid done p t up h one) more)
 
-  pub taken_joined : (a t : TableParts) (old new : A) → made old ≡ a → IsValidTable a → IsValidTable t →
-      JoinsEach t old new → JoinsTables a (wanted_part w t) (made new)
-  taken_joined a t old new same va vt =
-      each_joined a t [] old new vt.names.0
-      (subst (λ (x : TableParts). JoinsTables a (wanted_part w []) x) (sym same) (none w))
+  pub taken_joined : (a t new : TableParts) → IsValidTable a → IsValidTable t → JoinsEach t a new →
+      JoinsTables a (wanted_part w t) new
+  taken_joined a t new va vt = each_joined a t [] a new vt.names.0 (none w)
     where
       none : (v : Option (List ℕ)) → JoinsTables a (wanted_part v []) a
       none None = joins_none a va

@@ -70,29 +70,19 @@ impl EntryTaker for Joining<'_> {
     ghost use Rattle.std.specs.Prelude.{◌∷◌, []};
     ghost use Rattle.std.specs.Option.{option_copied};
     ghost use Rattle.demands.specs.Join.{JoinsTables};
-    ghost use Rattle.demands.specs.Table.{IsValidTable};
     ghost use Rattle.pep_table.specs.NamedEntry.{wanted_part};
-    ghost use Rattle.pep_table.specs.Way.Gathered.{log_table};
 
-    type Taken = Box<Gathered>;
+    type Taken = Gathering;
 
-    ghost takes = { λ j name entry old new. IsValidTable (log_table old.value) →
-        JoinsTables (log_table old.value) (wanted_part (option_copied j.wanted) ((name, entry) ∷ []))
-        (log_table new.value) };
+    ghost takes = { λ j name entry old new.
+        JoinsTables old (wanted_part (option_copied j.wanted) ((name, entry) ∷ [])) new };
 
-    fn take(
-        &self,
-        taken: Box<Gathered>,
-        name: Name,
-        entry: Entry,
-    ) -> Result<Box<Gathered>, AllocError> {
-        let mut gathered = taken;
+    fn take(&self, taken: Gathering, name: Name, entry: Entry) -> Result<Gathering, AllocError> {
+        // Its invariant tells that the table is valid.
+        let _ = &taken.gathered;
         match self.wanted {
-            Some(wanted) if name != *wanted => Ok(gathered),
-            _ => {
-                gathered.join(self.alloc, name, entry)?;
-                Ok(gathered)
-            }
+            Some(wanted) if name != *wanted => Ok(taken),
+            _ => taken.join(self.alloc, name, entry),
         }
     }
 }
@@ -109,8 +99,7 @@ impl Gathering {
 
     // What is demanded so far, to be changed.
     fn opened(self, alloc: Global) -> Result<Box<Gathered>, AllocError>
-        ensures same { IfOk result (λ b. log_table b.value ≡ self) }
-        ensures valid { IsValidTable self }
+        ensures { IfOk result (λ b. log_table b.value ≡ self) }
     {
         match self.gathered {
             Some(gathered) => Ok(gathered),
@@ -118,14 +107,15 @@ impl Gathering {
         }
     }
 
-    // What is gathered, as what is demanded.
-    fn closed(gathered: Box<Gathered>) -> Gathering
-        requires { IsValidTable (log_table gathered.value) }
-        ensures { result ≡ log_table gathered.value }
+    // What is demanded so far and, of the package with this name, by an entry.
+    fn join(self, alloc: Global, name: Name, entry: Entry) -> Result<Gathering, AllocError>
+        ensures { IfOk result (JoinsTables self ((name, entry) ∷ [])) }
     {
-        Gathering {
+        let mut gathered = self.opened(alloc)?;
+        gathered.join(alloc, name, entry)?;
+        Ok(Gathering {
             gathered: Some(gathered),
-        }
+        })
     }
 
     // The names in order, with what is demanded of them.
@@ -181,13 +171,14 @@ impl Gathering {
         ensures valid { IsValidTable table }
         ensures faults { IfErr result (λ e. e ≡ TableFault.NoMemory) }
     {
-        // Its clause tells that the table is valid.
+        // A clause and an invariant tell that both tables are valid.
         let _ = table.entries();
-        let mut gathered = self.opened(alloc)?;
+        let _ = &self.gathered;
+        let mut joined = self;
         for (name, entry) in table.into_entries() {
-            gathered.join(alloc, name, entry)?;
+            joined = joined.join(alloc, name, entry)?;
         }
-        Ok(Gathering::closed(gathered))
+        Ok(joined)
     }
 
     /// What is demanded so far and by the table whose text this is in the environment, or whose lines, as by
@@ -206,10 +197,10 @@ impl Gathering {
         ensures refused { IfErr result (λ e. (e ≡ TableFault.NoMemory)
             ⊎ IsRefusedAsTable environment.now text.now e) }
     {
-        let gathered = self.opened(alloc)?;
+        // Its invariant tells that the table is valid.
+        let _ = &self.gathered;
         let joining = Joining { alloc, wanted };
-        let gathered = read_text(alloc, text, environment, &joining, gathered)?;
-        Ok(Gathering::closed(gathered))
+        read_text(alloc, text, environment, &joining, self)
     }
 
     /// What is demanded so far, and of one package by a line, whose sets are moved: the line may be anything until it
@@ -229,7 +220,9 @@ impl Gathering {
         let _ = name.text();
         let mut gathered = self.opened(alloc)?;
         gathered.take_line(alloc, name, line)?;
-        Ok(Gathering::closed(gathered))
+        Ok(Gathering {
+            gathered: Some(gathered),
+        })
     }
 
     /// The table of what is demanded. The only fault is `NoMemory`, 42.

@@ -5,15 +5,13 @@ use Rattle.std.specs.Vec.Iter.{into_iter_items}
 use Rattle.pep_require.specs.Requirement.{IsAscending}
 use Rattle.demands.specs.Join.{JoinsTables}
 use Rattle.demands.specs.Table.{EntryParts, IsValidTable, TableParts, names}
-use Rattle.pep_table.specs.Way.Gathered.{log_table}
 use Rattle.pep_table.proofs.EntryPlaces.{joins_next, joins_none}
 use Rattle.pep_table.proofs.gathering.Gathering.take_table.Goals as goal
 
 pub loop-name-init : goal.loop-name-init
 loop-name-init c = (
   refl,
-  joins_none (log_table c.in_ok-gathered.gathered.value)
-      (subst IsValidTable (sym c.in_ok-gathered.ensures.same) c.opened.ensures.valid),
+  joins_none c.args.self (subst IsValidTable c.self.view_is c.self.invariant),
   search rules,
 )
 
@@ -28,10 +26,8 @@ loop-name-preserved c =
     let whole : done ++ p ∷ more ≡ c.args.table =
     ap (λ (l : TableParts). done ++ l) (sym steps) ∙ at.invariant.0 ∙ search rules in (
       append_assoc done (p ∷ []) more ∙ ap (λ (l : TableParts). done ++ l) (sym steps) ∙ at.invariant.0,
-      joins_next (log_table c.in_ok-gathered.gathered.value) (log_table at.gathered.value) (log_table c.join.new.self)
-          done (done ++ p ∷ []) more p at.invariant.1
-          (subst (λ (l : TableParts). JoinsTables (log_table l) (p ∷ []) (log_table c.join.new.self))
-          c.deref_mut.ensures.value c.in_ok-join.ensures) refl
+      joins_next c.args.self at.joined c.in_ok-joined.joined done (done ++ p ∷ []) more p at.invariant.1
+          c.in_ok-joined.ensures refl
           (subst (λ (s : TableParts). IsAscending (names s)) (sym whole)
           c.entries.ensures.valid.names.0),
       let was = at.invariant.2 in
@@ -49,7 +45,4 @@ returns-clause-joined c =
     let all : done ≡ c.args.table =
     sym (append-nil done) ∙ ap (λ (l : TableParts). done ++ l) (sym none) ∙ at.invariant.0
     ∙ search rules in
-    let new : TableParts = log_table at.gathered.value in
-    subst (λ (t : TableParts). JoinsTables c.args.self c.args.table t) (sym c.closed.ensures)
-    (subst (λ (t : TableParts). JoinsTables c.args.self t new) all
-    (subst (λ (t : TableParts). JoinsTables t done new) c.in_ok-gathered.ensures.same at.invariant.1))
+    subst (λ (t : TableParts). JoinsTables c.args.self t at.joined) all at.invariant.1
