@@ -16,6 +16,7 @@ ghost use Rattle.std.specs.Prelude.{
   IfErr,
   IfOk,
   IfSome,
+  OnOk,
   drop,
   get_or,
   length,
@@ -101,6 +102,19 @@ fn text_on(line: &str) -> Option<&str>
     Some(content)
 }
 
+// Refuses a line of this many bytes where it is longer than a line may be.
+#[inline(always)]
+fn check_length(length: usize) -> Result<(), LineFault>
+    ensures ok { OnOk result (length ≤ line_limit) }
+    ensures refused { IfErr result (λ fault.
+        (fault ≡ LineFault.Requirement RequireFault.LineTooLong) × (line_limit < length)) }
+{
+    if length > LINE_LIMIT {
+        return Err(LineFault::Requirement(RequireFault::LineTooLong));
+    }
+    Ok(())
+}
+
 /// The text of the requirement on a line of a list, which is given without its line feed; nothing where the line is
 /// empty or a comment. A carriage return at the line's end and white space at both ends are dropped.
 ///
@@ -111,9 +125,7 @@ pub fn text_of_line(line: &[u8]) -> Result<Option<&str>, LineFault>
     ensures ok { IfOk result (λ found. HasText line.now (option_map (λ text. text.now) found)) }
     ensures refused { IfErr result (IsNoLine line.now) }
 {
-    if line.len() > LINE_LIMIT {
-        return Err(LineFault::Requirement(RequireFault::LineTooLong));
-    }
+    check_length(line.len())?;
     match str::from_utf8(line) {
         Ok(line) => Ok(text_on(line)),
         Err(_) => Err(LineFault::NotUtf8),
@@ -189,8 +201,11 @@ impl<'a> Part<'a> {
         ensures refused { IfErr result (IsNoLine (part_bytes self.entry)) }
     {
         match self {
-            Part::Text(line) if line.len() <= LINE_LIMIT => Ok(text_on(line)),
-            _ => text_of_line(self.bytes()),
+            Part::Text(line) => {
+                check_length(line.len())?;
+                Ok(text_on(line))
+            }
+            Part::Bytes(line) => text_of_line(line),
         }
     }
 }
@@ -220,9 +235,7 @@ fn grown(held: Vec<u8>, part: &[u8]) -> Result<Vec<u8>, LineFault>
         × (length line.items ≤ line_limit)) }
     ensures refused { IfErr result (RefusesGrowth (held.items ++ part.now)) }
 {
-    if part.len() > LINE_LIMIT - held.len() {
-        return Err(LineFault::Requirement(RequireFault::LineTooLong));
-    }
+    check_length(held.len() + part.len())?;
     let mut line = held;
     line.extend_from_slice(part)?;
     Ok(line)
