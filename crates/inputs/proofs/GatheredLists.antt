@@ -116,13 +116,14 @@ module _ (texts : List (Bor (List ℕ))) (k : ℕ) (x : Bor (List ℕ)) (is : x 
       (c : Cause) → number ≡ k → i ≡ j →
       TakesInTurn (GathersText j.sink (wanted_name j.wanted)) (lent_texts (take k texts)) old mid →
       f ≡ line_fault.Undefined → RefusesTextIn i.sink x.now f →
-      AreRead (lent_texts (drop (number + 1) texts)) → c ≡ cause.Line (number + 1) line_fault.Undefined →
+      AreRead (lent_texts (drop (number + 1) texts)) →
+      (f ≢ line_fault.Requirement require.NoMemory → c ≡ cause.Line (number + 1) f) →
       RefusesTexts j.sink (lent_texts texts) c
-  text_undefined i j old mid number f c counted alike taken undefined (inl (inl memory)) behind same =
+  text_undefined i j old mid number f c counted alike taken undefined (inl (inl memory)) behind told =
       cc (undefined, memory)
-  text_undefined i j old mid number f c counted alike taken undefined (inl (inr (g, other, refuses))) behind same =
+  text_undefined i j old mid number f c counted alike taken undefined (inl (inr (g, other, refuses))) behind told =
       cc (undefined, other)
-  text_undefined i j old mid number f c counted alike taken undefined (inr (f_is, (r, reads, unknown))) behind same =
+  text_undefined i j old mid number f c counted alike taken undefined (inr (f_is, (r, reads, unknown))) behind told =
       inr (inr (
         rs,
         subst (λ l. AllZip Reads l rs) (sym split_texts)
@@ -140,7 +141,7 @@ module _ (texts : List (Bor (List ℕ))) (k : ℕ) (x : Bor (List ℕ)) (is : x 
                 ∙ sym (length-map (take k texts) (λ t. t.now)) ∙ sym (AllZip-long Reads before front.0 front.1));
           };
           undefined = subst (λ (t : DemandTaker). HasUndefinedMarker t.sink r) alike unknown;
-          is = same;
+          is = told (λ memory. cc (f_is, memory)) ∙ ap (cause.Line (number + 1)) f_is;
         },
       ))
     where

@@ -239,13 +239,12 @@ impl<'a> DemandTaker<'a> {
             number += 1;
             gathering = match self.take(gathering, text) {
                 Ok(new) => new,
-                Err(fault) => match fault {
-                    LineFault::Undefined => {
+                Err(fault) => {
+                    if let LineFault::Undefined = fault {
                         self.read_behind(texts, number)?;
-                        return Err(Cause::Line(number as u64, LineFault::Undefined));
                     }
-                    _ => return Err(Cause::on_line(number as u64, fault)),
-                },
+                    return Err(Cause::on_line(number as u64, fault));
+                }
             };
         }
         Ok(gathering)
