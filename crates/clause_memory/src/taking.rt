@@ -114,8 +114,8 @@ impl ClauseMemory {
         take_behind(alloc, operator, operand, demands)
     }
 
-    // The same of a clause that is looked up by its text, up to the byte that ends it. If it isn't remembered, ends
-    // there and is short, it is from then on.
+    // The same of a clause that is looked up by its text, up to the byte that ends it. One that isn't remembered, ends
+    // there and is short is remembered from then on.
     fn take_remembered<'a>(
         &mut self,
         alloc: Global,

@@ -40,7 +40,7 @@ impl Model for PackageDemands {
     ghost view = { λ g. entry_with (kept_others (option_map (λ b. b.value) g.others)) g.versions };
 }
 
-// What is kept of these, to be changed.
+// What is demanded besides versions, to be changed: nothing, where it is `None`.
 fn opened(alloc: Global, others: Option<Box<Others>>) -> Result<Box<Others>, AllocError>
     ensures { IfOk result (λ b. b.value ≡ kept_others (option_map (λ b. b.value) others)) }
 {

@@ -148,15 +148,13 @@ fn take_walked(
     let Some(applies) = line.applies else {
         return Err(LineFault::Undefined);
     };
-    let Ok(is_counted) = counts(alloc, applies, wanted, name) else {
-        return Err(LineFault::Requirement(RequireFault::NoMemory));
-    };
+    let is_counted = counts(alloc, applies, wanted, name)?;
     if !is_counted {
         return Ok(gathering);
     }
     match gathering.take_line(alloc, name, &mut line.demands) {
         Ok(new) => Ok(new),
-        Err(_) => Err(LineFault::Requirement(RequireFault::NoMemory)),
+        Err(_) => Err(LineFault::from(AllocError)),
     }
 }
 

@@ -55,7 +55,7 @@ HasOtherVerdict verdict x = (e : EntryParts) × (rest : List ℕ) × (right : Ve
 
 -- ---- an entry behind those with these names
 
--- the name of the last entry, if there is one: its text is empty, where there is none
+-- the name of the last entry, if there is one, by its text, which is empty where there is none
 abbrev pub last_name : List ℕ → List (List ℕ)
 last_name [] = []
 last_name (b ∷ last) = (b ∷ last) ∷ []

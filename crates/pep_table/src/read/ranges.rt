@@ -25,7 +25,7 @@ fn cut_of(alloc: Global, text: &str) -> Result<Option<Cut>, AllocError>
     Cut::read(alloc, text).map_err(|_| AllocError)
 }
 
-// The texts of the two cuts: in front of the second space, and behind the word that begins with it.
+// The texts of the two cuts: in front of the second space, and behind the ` to ` that begins with it.
 fn cut_texts(text: &str) -> Option<(&str, &str)>
     ensures some { IfSome result (λ p. text.now ≡ p.0.now ++ codes " to " ++ p.1.now) }
     ensures none { result ≡ None → (r : Range) → IsRange r → ¬ (range_text r ≡ text.now) }
