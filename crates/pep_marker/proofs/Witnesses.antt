@@ -85,10 +85,10 @@ pub Name_in_front-underscore_for_separators : ¬ (name_of (codes "a--b") ≡ Som
 unfolding is_letter_or_digit
 Name_in_front-underscore_for_separators e = cc e
 
--- `-`
-pub Name_read-any_name : ¬ (name_of (codes "-") ≡ Some (codes "-"))
+-- `a` and a blank
+pub Name_read-blanks_behind_it : ¬ (name_of (codes "a ") ≡ Some (codes "a"))
 unfolding is_letter_or_digit
-Name_read-any_name e = cc e
+Name_read-blanks_behind_it e = cc e
 
 -- `a`
 pub Name_text-none : ¬ (codes "" ≡ codes "a")

@@ -16,7 +16,7 @@ ghost use Rattle.pep_marker.specs.Name.{IsNormalName, name_of, normalized};
 ghost use Rattle.texts.specs.Bytes.{is_name_byte};
 
 use crate::fault::MarkerFault;
-use crate::name::{Name, has_name_ends, normal_run};
+use crate::name::{Name, has_name_ends, norm_of, normal_run};
 use std::alloc::Global;
 use std::marker::Model;
 use texts::name_run;
@@ -94,7 +94,10 @@ impl<'a> WrittenName<'a> {
         }
         match Name::normalized_in(self.text.as_bytes()) {
             Some(name) => Ok(name),
-            None => Name::read(alloc, self.text),
+            None => {
+                let written = norm_of(alloc, self.text)?;
+                Name::of_normal(alloc, written.as_str())
+            }
         }
     }
 }
