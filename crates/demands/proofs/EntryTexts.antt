@@ -1,8 +1,7 @@
 -- Which versions have the demanded texts of an entry.
-use Rattle.std.proofs.Common.{◌≡◌, ◌≢◌, ℕ, ◌<◌, ◌≤◌, List, [], ◌∷◌, length, refl, sym, ap, subst}
-use Rattle.std.proofs.Common.{◌∙◌, arith, map, Result, Ok, Err, IfOk, Bool}
-use Rattle.std.proofs.lemmas.List.{length-map}
-use Rattle.std.specs.Prelude.{◌↔◌, IsTrue, slice_index_or}
+use Rattle.std.proofs.Common.{◌≡◌, ◌≢◌, ℕ, ◌≤◌, List, [], ◌∷◌, length, refl, sym, subst}
+use Rattle.std.proofs.Common.{◌∙◌, arith, Result, Ok, Err, IfOk, Bool}
+use Rattle.std.specs.Prelude.{◌↔◌, IsTrue}
 use Rattle.std.specs.List.{All}
 use Rattle.std.proofs.lemmas.List.Elements.{All-cons, All-nil}
 use Rattle.std.proofs.lemmas.Result.{IfOk-weaker}
@@ -23,12 +22,6 @@ use Rattle.demands.specs.Verdict.{FitsEntry, HasVersionOfText}
 use Rattle.demands.proofs.KeptSets.{text_cmp}
 
 -- ---- by the number of texts
-
--- two items or more have two texts or more
-pub more_texts : {A : Type 0} (f : A → List ℕ) (items : List A) (texts : List (List ℕ)) →
-    map f items ≡ texts → 2 ≤ length items → 2 ≤ length texts
-more_texts f items texts same more =
-    subst (λ n. 2 ≤ n) (sym (length-map items f) ∙ ap length same) more
 
 all_one : (v : Version) (t : List ℕ) → normal_text v ≡ t → All (λ x. normal_text v ≡ x) (t ∷ [])
 all_one v t e = All-cons (λ x. normal_text v ≡ x) t [] e (All-nil (λ x. normal_text v ≡ x))
@@ -90,10 +83,3 @@ pub same_answer : {E : Type 0} (P Q : Type 0) (r : Result Bool E) → P ↔ Q �
     IfOk r (λ b. IsTrue b ↔ P) → IfOk r (λ b. IsTrue b ↔ Q)
 same_answer P Q r both h = IfOk-weaker r (λ b. IsTrue b ↔ P) (λ b. IsTrue b ↔ Q)
     (λ b g. ((λ t. both.0 (g.0 t)), λ q. g.1 (both.1 q))) h
-
--- a list of one
-pub single : {A : Type 0} (xs : List A) (x : A) → 1 ≤ length xs → length xs < 2 →
-    x ≡ slice_index_or xs 0 x → xs ≡ x ∷ []
-single [] x some few is = absurd (omega (arith, some))
-single (y ∷ []) x some few is = ap (λ z. z ∷ []) (sym is)
-single (y ∷ z ∷ xs) x some few is = absurd (omega (arith, few))

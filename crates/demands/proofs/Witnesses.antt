@@ -13,7 +13,9 @@ use Rattle.demands.specs.Join.{IsIntersection, IsUnion, JoinsAll, JoinsEntries}
 use Rattle.demands.specs.SameTables.{same_entry}
 use Rattle.demands.specs.Table.{EntryDemands, EntryParts}
 use Rattle.demands.specs.Verdict.{IsEntryVerdict}
+use Rattle.demands.specs.Way.Judged.{TellsTexts}
 use Rattle.demands.specs.declared.verdict.Answer.TheVariants as answer
+use Rattle.demands.specs.declared.verdict.TextDemand.TheVariants.{MoreTexts}
 use Rattle.demands.specs.declared.verdict.Verdict.TheVariants.{Possible}
 
 abbrev with_url : EntryParts
@@ -88,6 +90,10 @@ VersionSet_joined-the_left h = cc (h.points least IsCut-least)
 -- all versions, and a list with no version
 pub join_all-nothing : ¬ JoinsAll IsNormal IsIntersection all_versions ([] ∷ []) all_versions
 join_all-nothing h = cc (sym (ap (λ r. is_point r least) h.3) ∙ h.2.points least IsCut-least)
+
+-- no demanded text
+pub text_demand-more_for_none : ¬ TellsTexts MoreTexts []
+text_demand-more_for_none h = omega (arith, h)
 
 two_texts : (t : List ℕ) → t ≡ codes "1" → t ≡ codes "10" → ⊥
 two_texts t e f = cc (sym e ∙ f)

@@ -4,14 +4,12 @@ ghost use Rattle.std.specs.Prelude.{◌≡◌, ◌∷◌, [], IfOk, IsTrue, OnEr
 ghost use Rattle.pep_require.specs.Requirement.{IsAscending};
 ghost use Rattle.demands.specs.Gathering.{bare_entry};
 ghost use Rattle.demands.specs.Join.{IsUnion};
-ghost use Rattle.demands.specs.Way.Judged.{TellsTexts};
 ghost use Rattle.demands.specs.Way.Others.{JoinsOthers, entry_with, no_others};
 ghost use Rattle.demands.specs.Table.{IsValidEntry};
 
 use crate::collected::Collected;
 use crate::entry::Entry;
 use crate::sorted::Sorted;
-use crate::verdict::TextDemand;
 use pep_clause::VersionSet;
 use std::alloc::{AllocError, Global};
 use std::marker::Model;
@@ -190,17 +188,6 @@ impl OtherTexts {
         ensures { result.now ≡ self.now.texts }
     {
         &self.texts
-    }
-
-    /// The demanded texts, as far as a verdict depends on them.
-    pub(crate) fn text_demand(&self) -> TextDemand<'_>
-        ensures { TellsTexts result self.now.texts }
-    {
-        match self.texts.len() {
-            0 => TextDemand::NoText,
-            1 => TextDemand::OneText(self.texts.text(0)),
-            _ => TextDemand::MoreTexts,
-        }
     }
 
     /// The entry of these and of the versions.

@@ -16,7 +16,7 @@ use crate::kept_versions::KeptVersions;
 use crate::line_demands::LineDemands;
 use crate::others::{OtherTexts, Others};
 use crate::sorted::Sorted;
-use crate::verdict::{TextDemand, Verdict, verdict_of};
+use crate::verdict::{TextDemand, Verdict, text_demand, verdict_of};
 use pep_clause::VersionSet;
 use pep_require::Requirement;
 use std::alloc::{AllocError, Global};
@@ -299,7 +299,7 @@ impl Finished {
         ensures valid { IsValidEntry self.now }
     {
         match &self.others {
-            Some(others) => (others.urls().len(), others.text_demand()),
+            Some(others) => (others.urls().len(), text_demand(others.texts())),
             None => (0, TextDemand::NoText),
         }
     }

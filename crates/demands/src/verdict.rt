@@ -29,6 +29,7 @@ ghost use Rattle.demands.specs.Way.Judged.{IsJudgedBy, TellsTexts};
 
 use crate::entry::Entry;
 use crate::fault::TableFault;
+use crate::text_list::TextList;
 use pep_clause::VersionSet;
 use pep_version::{Key, Version, VersionFault};
 use std::alloc::{AllocError, Global};
@@ -75,6 +76,17 @@ pub(crate) enum TextDemand<'a> {
     OneText(&'a str),
     // No version has two normal texts.
     MoreTexts,
+}
+
+/// The demanded texts, as far as a verdict depends on them.
+pub(crate) fn text_demand<L: TextList>(texts: &L) -> TextDemand<'_>
+    ensures { TellsTexts result (L.texts texts.now) }
+{
+    match texts.count() {
+        0 => TextDemand::NoText,
+        1 => TextDemand::OneText(texts.text_at(0)),
+        _ => TextDemand::MoreTexts,
+    }
 }
 
 /// The verdict on an entry of which so many URLs, these texts and these versions are demanded.
@@ -159,18 +171,6 @@ impl Entry {
         self.urls().items().len()
     }
 
-    // The demanded texts, as far as a verdict depends on them.
-    fn text_demand(&self) -> TextDemand<'_>
-        ensures texts { TellsTexts result self.now.texts }
-        ensures valid { IsValidEntry self.now }
-    {
-        match self.texts().items() {
-            [] => TextDemand::NoText,
-            [text] => TextDemand::OneText(text.as_str()),
-            _ => TextDemand::MoreTexts,
-        }
-    }
-
     /// Whether a version can meet what is demanded: `Conflict` where two URLs are demanded; else
     /// `Nothing` where no version is in the set of versions and has each demanded text as its normal
     /// text (PEP 440, "Arbitrary equality"); else `Possible`. The only fault is `NoMemory`, 42, and
@@ -182,14 +182,14 @@ impl Entry {
         ensures plain { self.now.texts ≡ [] → IsOk result }
     {
         let urls = self.url_count();
-        Ok(verdict_of(alloc, urls, self.text_demand(), self.versions())?)
+        Ok(verdict_of(alloc, urls, text_demand(self.texts()), self.versions())?)
     }
 
     // Whether the version is in the ranges and has each demanded text as its normal text.
     fn fits(&self, alloc: Global, version: &Version) -> Result<bool, AllocError>
         ensures { IfOk result (λ b. IsTrue b ↔ FitsEntry self.now version.now) }
     {
-        match self.text_demand() {
+        match text_demand(self.texts()) {
             TextDemand::NoText => is_in(alloc, version, self.versions()),
             TextDemand::OneText(text) => has_text(alloc, version, text, self.versions()),
             TextDemand::MoreTexts => Ok(false),

@@ -1,5 +1,5 @@
-use Rattle.std.proofs.Common.{sym}
-use Rattle.demands.specs.Way.Judged.{IsJudgedBy}
+use Rattle.std.proofs.Common.{subst, sym}
+use Rattle.demands.specs.Way.Judged.{IsJudgedBy, TellsTexts}
 use Rattle.demands.proofs.entry.Entry.verdict.Goals as goal
 use Rattle.demands.proofs.entry.Entry.verdict.Goals.{After-verdict_of}
 
@@ -7,7 +7,7 @@ judged : (c : After-verdict_of) → IsJudgedBy c.url_count-urls.result c.text_de
 judged c = record {
   valid = c.url_count-urls.ensures.valid;
   urls = sym c.url_count-urls.ensures.count;
-  texts = c.text_demand.ensures.texts;
+  texts = subst (TellsTexts c.text_demand.result) c.texts.ensures.texts c.text_demand.ensures;
   versions = sym c.versions.ensures.versions;
 }
 
