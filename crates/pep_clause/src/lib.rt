@@ -10,6 +10,7 @@ mod ranges;
 mod set;
 mod sweep;
 mod turns;
+mod words;
 
 pub use crate::cut::Cut;
 pub use crate::packed_cut::{CUT_ROOM, PackedCut};

@@ -47,6 +47,7 @@ ghost use Rattle.texts.specs.TextOut.{Extends};
 use crate::packed_cut::parts::{front_text, is_past, key_bytes_at, past_bytes_at, put_version_at};
 pub(crate) use crate::packed_cut::reading::is_short;
 use crate::packed_cut::word::{four, past, suffixed, word_of};
+use crate::words;
 use pep_version::{Phase, Version};
 use std::cmp::Ordering;
 use std::marker::Model;
@@ -270,7 +271,7 @@ impl PackedCut {
     {
         let word = self.word();
         if word == u128::MAX {
-            return text.put_str("end");
+            return text.put_str(words::END);
         }
         text.put_str(front_text(word))?;
         put_version_at(text, word)

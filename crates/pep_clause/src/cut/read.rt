@@ -10,6 +10,7 @@ ghost use Rattle.pep_clause.specs.OperatorTable.{past_release};
 
 use crate::cut::Cut;
 use crate::packed_cut::{PackedCut, is_short};
+use crate::words;
 use pep_version::{Version, VersionFault};
 use specifiers::ClauseFault;
 use std::alloc::{AllocError, Global};
@@ -76,16 +77,16 @@ impl Cut {
         ensures spelled { IfOk result (λ read. IfSome read (λ c. IsCut c)) }
         ensures faults { IfErr result (λ e. e ≡ ClauseFault.NoMemory) }
     {
-        if text == "end" {
+        if text == words::END {
             return Ok(Some(Cut::end()));
         }
-        if let Some(version) = version_behind(alloc, text, "before ")? {
+        if let Some(version) = version_behind(alloc, text, words::BEFORE)? {
             return Ok(Some(Cut::before(alloc, &version)?));
         }
-        if let Some(version) = version_behind(alloc, text, "past ")? {
+        if let Some(version) = version_behind(alloc, text, words::PAST)? {
             return Ok(past_final(alloc, &version)?);
         }
-        match version_behind(alloc, text, "after ")? {
+        match version_behind(alloc, text, words::AFTER)? {
             Some(version) if version.label().is_empty() => Ok(None),
             Some(version) => Ok(Some(Cut::after(alloc, &version)?)),
             None => Ok(None),

@@ -8,6 +8,7 @@ ghost use Rattle.pep_clause.specs.CutView.{CutReadsBack, cut_at, cut_word};
 ghost use Rattle.texts.specs.TextOut.{Extends};
 
 use crate::cut::{Cut, Form};
+use crate::words;
 use pep_version::{Version, behind_release};
 use specifiers::ClauseFault;
 use std::alloc::Global;
@@ -68,8 +69,8 @@ fn word(bytes: &[u8], rest: &[u8]) -> &'static str
     ensures { result.now ≡ cut_word (behind_place bytes.now) rest.now }
 {
     match (behind_release(bytes), rest) {
-        ([0x60, ..], _) => "past ",
-        (_, []) => "before ",
-        _ => "after ",
+        ([0x60, ..], _) => words::PAST,
+        (_, []) => words::BEFORE,
+        _ => words::AFTER,
     }
 }

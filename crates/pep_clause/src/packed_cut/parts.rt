@@ -20,6 +20,7 @@ ghost use Rattle.texts.specs.TextOut.{Extends};
 
 use crate::packed_cut::CUT_ROOM;
 use crate::packed_cut::word::{DIGIT, NUMBER, PAST};
+use crate::words;
 use pep_version::{Phase, public_key_bytes, put_release, put_suffixes};
 use texts::TextOut;
 
@@ -130,7 +131,11 @@ pub(crate) fn is_past(word: u128) -> bool
 pub(crate) fn front_text(word: u128) -> &'static str
     ensures { result.now ≡ front_text (is_past word) }
 {
-    if is_past(word) { "past " } else { "before " }
+    if is_past(word) {
+        words::PAST
+    } else {
+        words::BEFORE
+    }
 }
 
 /// The bytes of the key of the version with the release and the suffixes of the word, written into the room.

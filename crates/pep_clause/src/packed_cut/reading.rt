@@ -7,6 +7,7 @@ ghost use Rattle.pep_clause.specs.PackedCut.{front_text};
 ghost use Rattle.pep_clause.specs.Way.Numbers.{HasTextWith};
 
 use crate::packed_cut::PackedCut;
+use crate::words;
 
 /// Whether the release has no zero at its end beyond its first number.
 pub(crate) fn is_short(release: &[u64]) -> bool
@@ -100,13 +101,13 @@ impl PackedCut {
     pub(crate) fn read(text: &str) -> Option<PackedCut>
         ensures { IfSome result (λ cut. cut_text cut ≡ text.now) }
     {
-        if let Some(version) = text.strip_prefix("before ") {
+        if let Some(version) = text.strip_prefix(words::BEFORE) {
             return cut_behind(version.as_bytes(), false);
         }
-        if let Some(version) = text.strip_prefix("past ") {
+        if let Some(version) = text.strip_prefix(words::PAST) {
             return cut_behind(version.as_bytes(), true);
         }
-        if text == "end" {
+        if text == words::END {
             Some(PackedCut::end())
         } else {
             None
