@@ -1,7 +1,7 @@
 pub mod FormTable
 pub mod NormalNames
 pub mod NormalRuns
-pub mod NormalFronts
+pub mod ShortForms
 pub mod NameHeadLemmas
 pub mod ChainLaws
 pub mod ChainLoops

@@ -15,7 +15,7 @@ mod marker;
 mod name;
 mod name_text;
 mod normal;
-mod normal_front;
+mod short_form;
 mod slots;
 mod token;
 mod value;

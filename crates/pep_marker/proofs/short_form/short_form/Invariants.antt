@@ -1,6 +1,6 @@
 use Rattle.std.proofs.Common.{◌≤◌, Bool, length, take}
-use Rattle.pep_marker.proofs.NormalFronts.{IsWritten}
-use Rattle.pep_marker.proofs.normal_front.normal_front.Given as goal
+use Rattle.pep_marker.proofs.ShortForms.{IsWritten}
+use Rattle.pep_marker.proofs.short_form.short_form.Given as goal
 
 abbrev pub invariant-loop-left : goal.invariant-loop-left
 invariant-loop-left l =

@@ -4,20 +4,18 @@ ghost use Rattle.std.specs.Prelude.{◌≡◌, ◌≤◌, ◌+◌, ◌++◌, ◌
 ghost use Rattle.std.specs.List.{prefix_len};
 ghost use Rattle.pep_marker.specs.Name.{name_of};
 ghost use Rattle.pep_marker.specs.Way.PutLetters.{PutsLetters};
-ghost use Rattle.texts.specs.Bytes.{is_name_byte, is_separator};
+ghost use Rattle.texts.specs.Bytes.{is_separator};
 
 use crate::forms::form_of;
-use crate::name::{begins_with_separator, goes_on};
+use crate::name::begins_with_separator;
 use crate::name_text::SHORT;
 use texts::is_separator;
 
 /// A name in its normalized form, of few bytes.
 #[derive(Clone, Copy)]
-pub(crate) struct NormalFront {
+pub(crate) struct ShortForm {
     pub(crate) bytes: [u8; SHORT],
     pub(crate) len: usize,
-    /// How many bytes it has as it is written.
-    pub(crate) count: usize,
 }
 
 // Writes a byte behind so many others: how many there are then, if there is room.
@@ -62,12 +60,10 @@ fn separator_run(text: &[u8]) -> usize
     text.iter().take_while(|b| is_separator(**b)).count()
 }
 
-/// The name in front of a text (PEP 508, "Names"), which goes on as long as there are bytes that a name may hold, in
-/// its normalized form (PEP 503, "Normalized Names"). `None` where these bytes are no name, or a long one.
-pub(crate) fn normal_front(text: &[u8]) -> Option<NormalFront>
-    ensures name { IfSome result (λ found.
-        name_of (take found.count text.now) ≡ Some (take found.len found.bytes)) }
-    ensures count { IfSome result (λ found. found.count ≡ prefix_len is_name_byte text.now) }
+/// The name that this is (PEP 508, "Names"), in its normalized form (PEP 503, "Normalized Names"). `None` where it is no
+/// name, or a long one.
+pub(crate) fn short_form(text: &[u8]) -> Option<ShortForm>
+    ensures name { IfSome result (λ found. name_of text.now ≡ Some (take found.len found.bytes)) }
     ensures within { IfSome result (λ found. found.len ≤ length found.bytes) }
 {
     if begins_with_separator(text) {
@@ -83,15 +79,11 @@ pub(crate) fn normal_front(text: &[u8]) -> Option<NormalFront>
         }
         len += count;
         let (_, rest) = left.split_at(count);
+        if rest.is_empty() {
+            return Some(ShortForm { bytes, len });
+        }
         if !begins_with_separator(rest) {
-            if goes_on(rest) {
-                return None;
-            }
-            return Some(NormalFront {
-                bytes,
-                len,
-                count: text.len() - rest.len(),
-            });
+            return None;
         }
         len = put(&mut bytes, len, b'-')?;
         let (_, others) = rest.split_at(separator_run(rest));

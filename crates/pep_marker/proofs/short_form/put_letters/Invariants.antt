@@ -1,6 +1,6 @@
 use Rattle.std.proofs.Common.{◌≤◌, ◌-◌, ◌+◌, take}
 use Rattle.pep_marker.specs.Way.PutLetters.{PutsLetters}
-use Rattle.pep_marker.proofs.normal_front.put_letters.Given as goal
+use Rattle.pep_marker.proofs.short_form.put_letters.Given as goal
 
 abbrev pub invariant-loop-count : goal.invariant-loop-count
 invariant-loop-count l =

@@ -1,14 +1,11 @@
 -- Names that are normalized as they are read, byte by byte.
-use Rattle.std.proofs.Common.{◌≡◌, ℕ, ◌<◌, ◌-◌, Bool, true, false, Some, List, [], ◌∷◌, ◌++◌, length, get_or, take}
+use Rattle.std.proofs.Common.{◌≡◌, ℕ, ◌<◌, Bool, true, false, Some, List, [], ◌∷◌, ◌++◌, length, get_or, take}
 use Rattle.std.proofs.Common.{refl, sym, ap, subst, ◌∙◌, append-nil, append_assoc, arith, length-append}
-use Rattle.std.proofs.Math.Seq.{take-append_seam}
 use Rattle.std.specs.List.{list_all, prefix_len}
 use Rattle.std.specs.Char.{to_ascii_lowercase}
 use Rattle.texts.specs.Bytes.{is_letter_or_digit, is_name_byte, is_separator}
-use Rattle.texts.specs.Runs.{begins}
 use Rattle.texts.proofs.Connectives.{and_first, and_from, and_second, or-true}
 use Rattle.texts.proofs.CutLists.{all_append}
-use Rattle.texts.proofs.RunLemmas.{prefix_len-span}
 use Rattle.pep_marker.specs.Way.PutLetters.{PutsLetters}
 use Rattle.std.proofs.Common.{◌≤◌, ◌+◌, suc, drop, map}
 use Rattle.std.proofs.lemmas.List.{length-drop, length-take, take-append-drop}
@@ -38,12 +35,6 @@ last_of-append : (x : List ℕ) (b : ℕ) → last_of (x ++ b ∷ []) ≡ b
 last_of-append [] b = refl
 last_of-append (a ∷ []) b = refl
 last_of-append (a ∷ c ∷ x) b = last_of-append (c ∷ x) b
-
--- the first byte of a front that begins with no separator
-front_begins : (x rest : List ℕ) → 0 < length x → begins_with_separator (x ++ rest) ≡ false →
-    begins_with_separator x ≡ false
-front_begins [] rest some h = refl
-front_begins (b ∷ x) rest some h = h
 
 no_name_byte : (b : ℕ) → is_letter_or_digit b ≡ false → is_separator b ≡ false → is_name_byte b ≡ false
 no_name_byte b e f = rw (e, f) refl
@@ -187,28 +178,18 @@ shorter text left rest written in_run n w within some behind same =
     )
 
 -- at its end
-pub written_name : (text rest written : List ℕ) (in_run : Bool) → IsWritten text rest written in_run →
-    in_run ≡ false → begins_with_separator text ≡ false → ¬ (length rest ≡ length text) →
-    begins is_name_byte rest ≡ false →
-    (length text - length rest ≡ prefix_len is_name_byte text)
-    × (name_of (take (length text - length rest) text) ≡ Some written)
-written_name text rest written in_run w still begun some ends =
-    let long : length text - length rest ≡ length w.front = rw w.whole (omega (arith, length-append w.front rest)) in
-    let nonempty : 0 < length w.front =
-    omega (arith, length-append w.front rest, ap length w.whole, some) in
-    let run : prefix_len is_name_byte text ≡ length w.front =
-    ap (prefix_len is_name_byte) w.whole ∙ prefix_len-span is_name_byte w.front rest w.names ends in
-    let cut : take (length text - length rest) text ≡ w.front =
-    ap (λ n. take n text) long ∙ ap (take (length w.front)) w.whole ∙ take-append_seam w.front rest in
-    let last : is_letter_or_digit (last_of w.front) ≡ true = w.ends still nonempty in
+pub written_name : (text rest written : List ℕ) → IsWritten text rest written false → length rest ≡ 0 →
+    begins_with_separator text ≡ false → ¬ (length rest ≡ length text) → name_of text ≡ Some written
+written_name text (b ∷ rest) written w ended begun some = absurd (omega (arith, ended))
+written_name text [] written w ended begun some =
+    let whole : text ≡ w.front = w.whole ∙ append-nil w.front in
+    let nonempty : 0 < length w.front = omega (arith, ap length whole, some) in
+    let last : is_letter_or_digit (last_of w.front) ≡ true = w.ends refl nonempty in
     let first : is_letter_or_digit (get_or w.front 0 0) ≡ true =
-    first_letter w.front nonempty w.names (front_begins w.front rest nonempty (subst (λ t. begins_with_separator t ≡ false) w.whole begun)) in
+    first_letter w.front nonempty w.names (subst (λ t. begins_with_separator t ≡ false) whole begun) in
     let is : is_name w.front ≡ true =
     and_from _ _ (and_from _ _ (and_from _ _ (is_nonempty w.front nonempty) w.names) first)
     (ap is_letter_or_digit (last_at w.front) ∙ last) in
     let text_is : written ≡ normalized w.front =
-    sym (append-nil written) ∙ subst (λ r. written ++ after r [] ≡ normalized (w.front ++ [])) still (w.follows [])
-    ∙ ap normalized (append-nil w.front) in (
-      long ∙ sym run,
-      ap name_of cut ∙ rw is (ap Some (sym text_is)),
-    )
+    sym (append-nil written) ∙ w.follows [] ∙ ap normalized (append-nil w.front) in
+    ap name_of whole ∙ rw is (ap Some (sym text_is))
