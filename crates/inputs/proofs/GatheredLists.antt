@@ -1,17 +1,16 @@
 -- The loops of `gather`: over inputs, and over the texts of a project file.
 use Rattle.std.proofs.Common.{◌≡◌, ◌≢◌, ℕ, suc, ◌+◌, ◌<◌, ◌⊎◌, List, [], ◌∷◌, ◌++◌, length, take, drop}
-use Rattle.std.proofs.Common.{Bor, Option, Some, None, Ok, codes, arith, length-drop, length-take-le}
+use Rattle.std.proofs.Common.{Bor, Option, Some, None, Ok, codes, arith, length-take-le}
 use Rattle.std.proofs.Common.{option_map, get_or, refl, sym, ap, subst, ◌∙◌, inl, inr}
 use Rattle.std.specs.Prelude.{unwrap_or}
 use Rattle.std.specs.List.{AllZip}
-use Rattle.std.proofs.lemmas.List.{get_or-drop, length-map, map-append, take_more}
+use Rattle.std.proofs.lemmas.List.{length-map, map-append, take_more}
 use Rattle.std.proofs.lemmas.Option.{same_Some}
 use Rattle.std.proofs.lemmas.Slice.Zip.{AllZip-long}
 use Rattle.pep_marker.specs.Environment.{EnvironmentParts, extra_in, value_at}
 use Rattle.pep_require.specs.LineParts.{RefusesLine}
 use Rattle.pep_require.specs.Reads.{Reads}
 use Rattle.pep_require.specs.Requirement.{HasUndefinedMarker, RequirementParts}
-use Rattle.pep_require.specs.declared.fault.RequireFault.{RequireFault}
 use Rattle.pep_require.specs.declared.fault.RequireFault.TheVariants as require
 use Rattle.pep_require.proofs.Members.{next_mapped, split_at_index}
 use Rattle.demands.specs.Table.{TableParts}
@@ -22,7 +21,7 @@ use Rattle.faults.specs.declared.fault.LineFault.{LineFault}
 use Rattle.faults.specs.declared.fault.LineFault.TheVariants as line_fault
 use Rattle.faults.specs.declared.fault.Place.TheVariants as place
 use Rattle.documents.specs.ProjectRequirements.{ProjectTexts}
-use Rattle.documents.specs.RefusedProject.{IsRefusedProject, IsRefusedText, by_text}
+use Rattle.documents.specs.RefusedProject.{IsRefusedProject, by_text}
 use Rattle.documents.specs.Texts.{lent_texts}
 use Rattle.documents.proofs.Placed.{placed}
 use Rattle.documents.proofs.ProjectTexts.{text_refused}
@@ -102,15 +101,6 @@ module _ (texts : List (Bor (List ℕ))) (k : ℕ) (x : Bor (List ℕ)) (is : x 
       mid new taken
       (new, subst (λ (t : DemandTaker). GathersText t.sink (wanted_name t.wanted) x.now mid new) same one, refl))
 
-  -- .. or read
-  pub text_read : AreRead (lent_texts (take k texts)) → (r : RequirementParts) × Reads x.now r →
-      AreRead (lent_texts (take (k + 1) texts))
-  text_read (rs, read) (r, one) = (
-    rs ++ r ∷ [],
-    subst (λ l. AllZip Reads l (rs ++ r ∷ [])) (sym next_text)
-        (zip_append (lent_texts (take k texts)) (x.now ∷ []) rs (r ∷ []) read (one, tt)),
-  )
-
   -- its marker is undefined, and those behind it are read
   pub text_undefined : (i j : DemandTaker) (old mid : TableParts) (number : ℕ) (f : LineFault)
       (c : Cause) → number ≡ k → i ≡ j →
@@ -175,20 +165,6 @@ module _ (texts : List (Bor (List ℕ))) (k : ℕ) (x : Bor (List ℕ)) (is : x 
         | inr refused ↦ inr (inl refused)
       ]
   text_blamed e d number f c counted other (inr (undefined, unknown)) none told = absurd (other undefined)
-
--- a text behind others is refused
-pub behind_refused : (texts behind : List (Bor (List ℕ))) (before k number : ℕ) (d : Bor (List ℕ))
-    (f : RequireFault) (c : Cause) → behind ≡ drop before texts → k < length behind → number ≡ before + k →
-    RefusesLine (get_or behind k d).now f →
-    (line_fault.Requirement f ≡ line_fault.Requirement require.NoMemory → c ≡ cause.NoMemory) →
-    (line_fault.Requirement f ≢ line_fault.Requirement require.NoMemory →
-    c ≡ cause.Line (number + 1) (line_fault.Requirement f)) →
-    (c ≡ cause.NoMemory) ⊎ IsRefusedText (lent_texts texts) c
-behind_refused texts behind before k number d f c same lt counted refuses none told =
-    text_refused texts (before + k) number d f c
-    (omega (arith, subst (λ l. k < length l) same lt, length-drop before texts)) counted
-    (subst (λ t. RefusesLine t.now f) (ap (λ l. get_or l k d) same ∙ get_or-drop before texts k d) refuses)
-    none told
 
 -- ---- a project file, read for the extra of the environment
 

@@ -100,8 +100,3 @@ module _ (e : EnvironmentParts) (w : Option (List ℕ)) (text name : List ℕ) (
   -- one whose marker is undefined
   pub walked_undefined : line.applies ≡ None → (r : RequirementParts) × Reads text r × HasUndefinedMarker e r
   walked_undefined is = (in_order h.parts, read, says None is)
-
--- a line that is walked is a requirement
-pub walked_read : (e : EnvironmentParts) (text name : List ℕ) (line : LineSoFar) →
-    IsWalked text name (HoldsLine e line) → (r : RequirementParts) × Reads text r
-walked_read e text name line h = (in_order h.parts, read e None text name line h)

@@ -2,8 +2,6 @@
 
 ghost use Rattle.std.specs.Prelude.{
   ◌≡◌,
-  ◌⊎◌,
-  ◌≤◌,
   ◌&&◌,
   [],
   All,
@@ -11,23 +9,15 @@ ghost use Rattle.std.specs.Prelude.{
   IfOk,
   List,
   None,
-  OnOk,
   Some,
   ℕ,
-  drop,
-  length,
   option_copied,
 };
 ghost use Rattle.pep_marker.specs.Environment.{EnvironmentParts};
-ghost use Rattle.pep_require.specs.LineParts.{RefusesLine};
-ghost use Rattle.pep_require.specs.Reads.{Reads};
-ghost use Rattle.pep_require.specs.Requirement.{RequirementParts};
 ghost use Rattle.pep_require.specs.Way.Sink.{IsWalked};
 ghost use Rattle.demands.specs.Table.{HasExactPoints, IsTable};
-ghost use Rattle.documents.specs.RefusedProject.{IsRefusedText};
 ghost use Rattle.documents.specs.Texts.{lent_texts};
 ghost use Rattle.inputs.specs.Way.GatheredLines.{
-  AreRead,
   GathersBytes,
   GathersInputs,
   RefusesAsInput,
@@ -48,7 +38,7 @@ use crate::input::{Input, Kind};
 use crate::lines::{Taker, take_lines};
 use crate::table_file::take_table;
 use clause_memory::{DemandSink, LineSoFar};
-use documents::ProjectFile;
+use documents::{ProjectFile, requirements_behind};
 use faults::{Cause, Fault, LineFault, Place};
 use pep_marker::{Environment, Name, WrittenName};
 use pep_require::{RequireFault, walk};
@@ -190,39 +180,6 @@ impl<'a> DemandTaker<'a> {
         take_lines(alloc, self, gathering, bytes)
     }
 
-    // Reads a text. What it demands isn't taken.
-    fn read_text(&mut self, text: &str) -> Result<(), RequireFault>
-        ensures same { self.new ≡ self.old }
-        ensures ok { OnOk result ((r : RequirementParts) × Reads text.now r) }
-        ensures refused { IfErr result (RefusesLine text.now) }
-    {
-        walk(self.alloc, &mut self.sink, &mut self.room.line, text)?;
-        Ok(())
-    }
-
-    // Reads the texts behind this many. What they demand isn't taken.
-    fn read_behind(&mut self, texts: &[&str], number: usize) -> Result<(), Cause>
-        requires { number ≤ length texts.now }
-        ensures same { self.new ≡ self.old }
-        ensures ok { OnOk result (AreRead (lent_texts (drop number texts.now))) }
-        ensures refused { IfErr result (λ cause. (cause ≡ Cause.NoMemory)
-            ⊎ IsRefusedText (lent_texts texts.now) cause) }
-    {
-        let mut number = number;
-        let (_, behind) = texts.split_at(number);
-        for text in behind {
-            number += 1;
-            match self.read_text(text) {
-                Ok(()) => {}
-                Err(fault) => return Err(Cause::on_line(
-                    number as u64,
-                    LineFault::Requirement(fault),
-                )),
-            }
-        }
-        Ok(())
-    }
-
     // What is demanded so far and by the texts of a project file, all of which are read before an undefined marker is
     // told: so behind one that is undefined the others are read.
     fn take_texts(&mut self, gathering: Gathering, texts: &[&str]) -> Result<Gathering, Cause>
@@ -239,7 +196,7 @@ impl<'a> DemandTaker<'a> {
                 Ok(new) => new,
                 Err(fault) => {
                     if let LineFault::Undefined = fault {
-                        self.read_behind(texts, number)?;
+                        requirements_behind(self.alloc, texts, number)?;
                     }
                     return Err(Cause::on_line(number as u64, fault));
                 }

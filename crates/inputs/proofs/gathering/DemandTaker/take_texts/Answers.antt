@@ -2,7 +2,7 @@ use Rattle.std.proofs.Common.{◌∙◌, arith}
 use Rattle.std.proofs.lemmas.List.{get_or_default}
 use Rattle.inputs.proofs.GatheredLists.{text_blamed, text_taken, text_undefined}
 use Rattle.inputs.proofs.gathering.DemandTaker.take_texts.Goals as goal
-use Rattle.inputs.proofs.gathering.DemandTaker.take_texts.Goals.{in-Undefined+in_ok-read_behind-in-Err, in_default}
+use Rattle.inputs.proofs.gathering.DemandTaker.take_texts.Goals.{in-Undefined+in_ok-requirements_behind-in-Err, in_default}
 
 pub loop-text-preserved : goal.loop-text-preserved
 loop-text-preserved c =
@@ -21,11 +21,11 @@ returns-in-Err-clause-refused c =
     let texts = c.args.texts.now in
     let k = c.loop-text.text-index in
     elim c.match-fault.branch [
-      | in-Undefined+in_ok-read_behind-in-Err w ↦ text_undefined texts k _
+      | in-Undefined+in_ok-requirements_behind-in-Err w ↦ text_undefined texts k _
           (get_or_default texts k _ _ c.loop-text-test.true) c.loop-text-test.true
           c.loop-text.self c.args.self.now c.args.gathering c.loop-text.gathering c.loop-text.number c.in-Err.fault
           c.on_line.result at.counted at.same at.taken w.in-Undefined.is c.in-Err.ensures.refused
-          w.in_ok-read_behind-in-Err.ensures.ok c.on_line.ensures.line
+          (_, w.in_ok-requirements_behind-in-Err.ensures.ok) c.on_line.ensures.line
       | in_default w ↦ text_blamed texts k _
           (get_or_default texts k _ _ c.loop-text-test.true) c.loop-text-test.true
           c.args.self.now.sink c.loop-text.self.sink
