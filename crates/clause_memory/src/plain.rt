@@ -120,6 +120,7 @@ pub(crate) enum Plain<'a> {
 /// What the clause demands that stands in front of the text, with this operator and what stands behind it, where its
 /// version is a release (PEP 440, "Final releases"), perhaps with `.*` behind it. It may be no clause where no packed
 /// cuts are told.
+#[inline(always)]
 pub(crate) fn plain_demand<'a>(text: &'a str, operator: Op, operand: &str) -> Plain<'a>
     requires { OperatorFrom text.now operator operand.now }
     ensures { PlainlyDemands text.now result }

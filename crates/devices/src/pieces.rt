@@ -147,8 +147,8 @@ fn end<W: Sink>(sink: &mut W, held: &mut ArrayString<PIECE>) -> Result<(), Faile
 /// Writes the text to the end, in pieces of 8,192 bytes, each in as many calls as the sink wants. Of the text no more
 /// is held than a piece, and no memory is asked for.
 ///
-/// `Ok` means that exactly the text was written. Where the sink fails the text ends there; no clause says how much of it
-/// was written.
+/// `Ok` means that exactly the text was written. Where the sink fails the text ends there; no clause says how much of
+/// it was written.
 pub fn push_pieces<W: Sink, P: Printed>(sink: &mut W, printed: &P) -> Result<(), Failed>
     requires { (W.device sink.old).failed ≡ false }
     ensures writes { OnOk result

@@ -122,6 +122,7 @@ fn counts(
 }
 
 // What is demanded so far and by a line that is walked, and begins with this name.
+#[inline(always)]
 fn take_walked(
     alloc: Global,
     gathering: Gathering,

@@ -1,10 +1,10 @@
-// The words of the texts of cuts, for writing and for reading.
+// The words that the text of a cut begins with. They are written and read by these names.
 
-/// What stands in front of the version of a cut before it.
+/// It stands in front of a version. The cut lies just before that version.
 pub(crate) const BEFORE: &str = "before ";
-/// The same past its release.
+/// It stands in front of a release. The cut lies past all versions of that release.
 pub(crate) const PAST: &str = "past ";
-/// The same after it.
+/// It stands in front of a version. The cut lies just after that version.
 pub(crate) const AFTER: &str = "after ";
-/// The text of the end of all versions.
+/// It is a whole text. The cut lies past all versions.
 pub(crate) const END: &str = "end";

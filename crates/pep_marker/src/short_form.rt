@@ -1,4 +1,4 @@
-//! Names that are normalized as they are read.
+//! Short names in their normalized form.
 
 ghost use Rattle.std.specs.Prelude.{◌≡◌, ◌≤◌, ◌+◌, ◌++◌, ◌∷◌, [], IfSome, Some, length, take};
 ghost use Rattle.std.specs.List.{prefix_len};
@@ -60,8 +60,8 @@ fn separator_run(text: &[u8]) -> usize
     text.iter().take_while(|b| is_separator(**b)).count()
 }
 
-/// The name that this is (PEP 508, "Names"), in its normalized form (PEP 503, "Normalized Names"). `None` where it is no
-/// name, or a long one.
+/// The name that this is (PEP 508, "Names"), in its normalized form (PEP 503, "Normalized Names"). `None` where it is
+/// no name, or a long one.
 pub(crate) fn short_form(text: &[u8]) -> Option<ShortForm>
     ensures name { IfSome result (λ found. name_of text.now ≡ Some (take found.len found.bytes)) }
     ensures within { IfSome result (λ found. found.len ≤ length found.bytes) }

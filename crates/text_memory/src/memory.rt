@@ -75,6 +75,7 @@ impl<T: OfText + Drop> TextMemory<T> {
     }
 
     /// What is kept of the text, if there is a slot with it.
+    #[inline(always)]
     pub fn find(&self, text: &[u8]) -> Option<&T>
         ensures kept { IfSome result (λ it. Contains self.now (Some it.now)) }
         ensures text { IfSome result (λ it. T.text it.now ≡ text.now) }

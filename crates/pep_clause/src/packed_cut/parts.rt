@@ -19,7 +19,7 @@ ghost use Rattle.pep_clause.specs.PackedCut.{
 ghost use Rattle.texts.specs.TextOut.{Extends};
 
 use crate::packed_cut::CUT_ROOM;
-use crate::packed_cut::word::{DIGIT, NUMBER, PAST};
+use crate::packed_cut::word::{DIGIT, NUMBER, PAST_STAGE};
 use crate::words;
 use pep_version::{Phase, public_key_bytes, put_release, put_suffixes};
 use texts::TextOut;
@@ -124,7 +124,7 @@ pub(crate) fn is_past(word: u128) -> bool
     ensures { result ≡ is_past word }
 {
     let unit = DIGIT as u128;
-    digit(word / unit / unit / unit) == PAST
+    digit(word / unit / unit / unit) == PAST_STAGE
 }
 
 /// The word in front of the version in the text of a cut.

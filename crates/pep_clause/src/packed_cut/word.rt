@@ -23,8 +23,8 @@ pub(crate) const NUMBER: u64 = 1 << 25;
 // A digit has at most 7 bits.
 pub(crate) const DIGIT: u64 = 1 << 7;
 
-// Past a release is above where any version stands within it.
-pub(crate) const PAST: u64 = 5;
+// It stands past a release where the stage of a version stands, and is above each stage.
+pub(crate) const PAST_STAGE: u64 = 5;
 
 /// The numbers of a release, with 0 for those that it lacks of four. `None` where it has more than four.
 pub(crate) fn four(release: &[u64]) -> Option<[u64; 4]>
@@ -134,6 +134,6 @@ pub(crate) fn past(release: u128) -> u128
     ensures { result ≡ suffixed_word release past_stage 0 0 last_digit }
 {
     let unit = DIGIT as u128;
-    let front = (release * unit + PAST as u128) * unit * unit * unit;
+    let front = (release * unit + PAST_STAGE as u128) * unit * unit * unit;
     front + (unit - 1)
 }
