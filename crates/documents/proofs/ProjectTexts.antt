@@ -1,9 +1,9 @@
 -- The texts of a project file, and how they are read.
 use Rattle.std.proofs.Common.{◌≡◌, ◌≢◌, ◌⊎◌, ◌∙◌, ℕ, ◌+◌, ◌<◌, List, [], length, get_or, Bor}
-use Rattle.std.proofs.Common.{◌++◌, arith, bytes_eq, drop, length-drop, refl, inl, inr, ap, sym, subst, codes, Global, Vec}
+use Rattle.std.proofs.Common.{◌++◌, bytes_eq, refl, inl, inr, ap, sym, subst, codes, Global, Vec}
 use Rattle.std.proofs.Common.{Option, Some, None, Result, Ok, Err, IfOk, IfErr, Bool, ◌||◌, ◌∷◌, map}
 use Rattle.std.specs.List.{AllZip, list_any}
-use Rattle.std.proofs.lemmas.List.{get_or-drop, get_or_default}
+use Rattle.std.proofs.lemmas.List.{get_or_default}
 use Rattle.pep_require.specs.LineParts.{RefusesLine}
 use Rattle.pep_require.specs.Reads.{Reads}
 use Rattle.pep_require.specs.Requirement.{RequirementParts}
@@ -61,20 +61,6 @@ text_refused texts k number d f c lt counted refuses none told = by (known f)
       refuses = refuses;
       is = told (λ e. other (cc e));
     })
-
--- .. behind others
-pub behind_refused : (texts behind : List (Bor (List ℕ))) (before k number : ℕ) (d : Bor (List ℕ))
-    (f : RequireFault) (c : Cause) → behind ≡ drop before texts → k < length behind → number ≡ before + k →
-    RefusesLine (get_or behind k d).now f →
-    (line_fault.Requirement f ≡ line_fault.Requirement require.NoMemory → c ≡ cause.NoMemory) →
-    (line_fault.Requirement f ≢ line_fault.Requirement require.NoMemory →
-    c ≡ cause.Line (number + 1) (line_fault.Requirement f)) →
-    (c ≡ cause.NoMemory) ⊎ IsRefusedText (lent_texts texts) c
-behind_refused texts behind before k number d f c same lt counted refuses none told =
-    text_refused texts (before + k) number d f c
-    (omega (arith, subst (λ l. k < length l) same lt, length-drop before texts)) counted
-    (subst (λ t. RefusesLine t.now f) (ap (λ l. get_or l k d) same ∙ get_or-drop before texts k d) refuses)
-    none told
 
 -- ---- the checks of a project, in their order
 

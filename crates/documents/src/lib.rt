@@ -11,4 +11,4 @@ mod project;
 
 pub use crate::environment_file::environment_of;
 pub use crate::file::file_text;
-pub use crate::project::{ProjectFile, project_of, requirements_behind};
+pub use crate::project::{ProjectFile, project_of};

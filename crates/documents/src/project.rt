@@ -3,7 +3,6 @@
 ghost use Rattle.std.specs.Prelude.{
   ◌≡◌,
   ◌⊎◌,
-  ◌≤◌,
   Err,
   IfErr,
   IfOk,
@@ -12,8 +11,6 @@ ghost use Rattle.std.specs.Prelude.{
   OnOk,
   Some,
   codes,
-  drop,
-  length,
   map,
   option_copied,
 };
@@ -103,7 +100,7 @@ fn project_requirements(
 {
     let file = ProjectFile::read(alloc, bytes)?;
     let texts = file.texts(alloc, extra, group)?;
-    requirements_behind(alloc, texts.as_slice(), 0)
+    requirements_of_texts(alloc, texts.as_slice())
 }
 
 /// A project file that is read once, to be asked for the texts of several extras and dependency groups (PyPA
@@ -151,27 +148,20 @@ impl ProjectFile {
     }
 }
 
-/// The requirements that the texts behind the first `passed` are. A text that is none is refused as by [`project_of`],
-/// 57 with its fault and its number among all the texts. Lack of memory is 60. Public for the crates above alone.
-pub fn requirements_behind(
-    alloc: Global,
-    texts: &[&str],
-    passed: usize,
-) -> Result<Vec<Requirement>, Cause>
-    requires { passed ≤ length texts.now }
-    ensures ok { IfOk result (λ requirements. AllZip Reads (lent_texts (drop passed texts.now))
-        (map requirement_parts requirements.items)) }
+// The requirements that texts are.
+fn requirements_of_texts(alloc: Global, texts: &[&str]) -> Result<Vec<Requirement>, Cause>
+    ensures ok { IfOk result (λ requirements.
+        AllZip Reads (lent_texts texts.now) (map requirement_parts requirements.items)) }
     ensures refused { IfErr result (λ cause. (cause ≡ Cause.NoMemory)
         ⊎ IsRefusedText (lent_texts texts.now) cause) }
 {
-    let (_, behind) = texts.split_at(passed);
-    let mut requirements = Vec::with_capacity(alloc, behind.len())?;
-    let mut number = passed;
-    for text in behind {
+    let mut requirements = Vec::with_capacity(alloc, texts.len())?;
+    let mut number: u64 = 0;
+    for text in texts {
         number += 1;
         match Requirement::read(alloc, text) {
             Ok(requirement) => requirements.push(requirement)?,
-            Err(fault) => return Err(Cause::on_line(number as u64, LineFault::Requirement(fault))),
+            Err(fault) => return Err(Cause::on_line(number, LineFault::Requirement(fault))),
         }
     }
     Ok(requirements)

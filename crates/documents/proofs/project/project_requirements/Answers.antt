@@ -23,13 +23,13 @@ pub returns-clause-ok : goal.returns-clause-ok
 returns-clause-ok c =
     texts_read c.args.extra.now (option_copied c.args.group) c.args.bytes.now
     _ c.in_ok-texts.texts.items c.as_slice.result.now
-    c.requirements_behind.result c.in_ok-file.ensures.ok c.in_ok-texts.ensures.ok
+    c.requirements_of_texts.result c.in_ok-file.ensures.ok c.in_ok-texts.ensures.ok
     c.as_slice.ensures.value (λ rs. map requirement_parts rs.items)
-    c.requirements_behind.ensures.ok
+    c.requirements_of_texts.ensures.ok
 
 pub returns-clause-refused : goal.returns-clause-refused
 returns-clause-refused c =
     texts_refused c.args.extra.now (option_copied c.args.group) c.args.bytes.now
     _ c.in_ok-texts.texts.items c.as_slice.result.now
-    c.requirements_behind.result c.in_ok-file.ensures.ok c.in_ok-texts.ensures.ok
-    c.as_slice.ensures.value c.requirements_behind.ensures.refused
+    c.requirements_of_texts.result c.in_ok-file.ensures.ok c.in_ok-texts.ensures.ok
+    c.as_slice.ensures.value c.requirements_of_texts.ensures.refused
