@@ -28,6 +28,7 @@ pub mod ToldLines
 pub mod ReadTables
 pub mod TakenEntries
 pub mod RangeWords
+pub mod SplitLemmas
 pub mod TableBytes
 pub mod SameLemmas
 pub mod EntryLines

@@ -2,6 +2,7 @@
 
 mod items;
 mod ranges;
+mod split;
 mod taker;
 
 ghost use Rattle.std.specs.Prelude.{◌≡◌, ◌≤◌, ◌+◌, ◌⊎◌, ◌↔◌, ◌++◌, ◌∷◌, [], ℕ, List};
@@ -31,6 +32,7 @@ pub(crate) use crate::read::items::{Extras, LineKind, TextLines};
 use crate::read::items::{listed_name, read_items};
 use crate::read::ranges::read_ranges;
 pub(crate) use crate::read::ranges::{RANGE, TO};
+use crate::read::split::split_at_byte;
 pub(crate) use crate::read::taker::EntryTaker;
 use crate::read::taker::{Listing, Reading};
 use crate::table::Table;
@@ -83,10 +85,10 @@ fn read_head(alloc: Global, text: &str) -> Result<(Name, &str, Verdict, &str), H
     ensures refused { IfErr result (λ e. (e ≡ Halt.NoMemory) ⊎ HasNoHead text.now) }
     ensures stops { IfErr result (HaltsAt (λ rest. rest ≡ text.now)) }
 {
-    let Some((line, rest)) = text.split_once('\n') else {
+    let Some((line, rest)) = split_at_byte(text, b'\n') else {
         return Err(Halt::At(text));
     };
-    let Some((written, word)) = line.split_once(' ') else {
+    let Some((written, word)) = split_at_byte(line, b' ') else {
         return Err(Halt::At(text));
     };
     let Some(verdict) = verdict_of(word) else {

@@ -24,6 +24,7 @@ ghost use Rattle.pep_table.specs.Way.ReadText.{AreKindLines, HaltsAt, IsBehind};
 ghost use Rattle.pep_table.specs.Way.TextLines.{may_stand};
 
 use crate::read::Halt;
+use crate::read::split::split_at_byte;
 use demands::{Kept, Sorted};
 use pep_clause::is_demanded_text;
 use pep_marker::{MarkerFault, Name};
@@ -163,7 +164,7 @@ pub(crate) fn read_items<'a, K: LineKind>(
     let mut items = Vec::new(alloc);
     let mut rest = text;
     while let Some(line) = rest.strip_prefix(kind.front()) {
-        let Some((item, behind)) = line.split_once('\n') else {
+        let Some((item, behind)) = split_at_byte(line, b'\n') else {
             return Err(Halt::At(rest));
         };
         let Some(item) = kind.item(alloc, item)? else {

@@ -9,6 +9,7 @@ ghost use Rattle.pep_table.specs.Way.ReadText.{AreKindLines, HaltsAt, IsBehind};
 ghost use Rattle.pep_table.specs.TableText.{range_text};
 
 use crate::read::Halt;
+use crate::read::split::split_at_byte;
 use pep_clause::{Cut, Range, VersionSet};
 use std::alloc::{AllocError, Global};
 
@@ -32,11 +33,10 @@ fn cut_texts(text: &str) -> Option<(&str, &str)>
     ensures first { IfSome result (λ p. (r : Range) → IsRange r → range_text r ≡ text.now
         → (p.0.now ≡ cut_text r.low) × (p.1.now ≡ cut_text r.high)) }
 {
-    let (_, version) = text.split_once(' ')?;
-    let (_, rest) = version.split_once(' ')?;
-    let low = text.strip_suffix(rest)?.strip_suffix(" ")?;
-    let high = text.strip_prefix(low)?.strip_prefix(TO)?;
-    Some((low, high))
+    let (_, version) = split_at_byte(text, b' ')?;
+    let (_, rest) = split_at_byte(version, b' ')?;
+    let (low, behind) = text.split_at(text.len() - rest.len() - 1);
+    Some((low, behind.strip_prefix(TO)?))
 }
 
 // The range of a text, if it is one's.
@@ -93,7 +93,7 @@ pub(crate) fn read_ranges(alloc: Global, text: &str) -> Result<(VersionSet, &str
     let mut ranges = Vec::new(alloc);
     let mut rest = text;
     while let Some(line) = rest.strip_prefix(RANGE) {
-        let Some((range, behind)) = line.split_once('\n') else {
+        let Some((range, behind)) = split_at_byte(line, b'\n') else {
             return Err(Halt::At(rest));
         };
         let Some(range) = range_of(alloc, range)? else {

@@ -1,16 +1,14 @@
-use Rattle.std.proofs.Common.{◌≡◌, ◌++◌, ◌∷◌, ◌∙◌, None, Some, ap, inr, lit<, map, rules}
+use Rattle.std.proofs.Common.{◌≡◌, ◌++◌, ◌∷◌, ◌∙◌, ap, inr, map, refl, rules}
 use Rattle.std.proofs.Common.{List, subst, sym, [], ℕ}
 use Rattle.std.proofs.lemmas.List.{map-append}
 use Rattle.std.proofs.lemmas.List.Elements.{All-push}
-use Rattle.std.proofs.lemmas.Str.Pattern.{split_parts}
-use Rattle.pep_require.proofs.ExtrasLoops.{all_but_at}
 use Rattle.pep_require.specs.Requirement.{IsAscending}
 use Rattle.pep_table.specs.Way.TableReading.{AreItems, BeginsKind, Front, HasNoFeed, kind_front}
 use Rattle.pep_table.proofs.ReadItems.{LinesSoFar, all_read, bad_item, item_more, items_fit}
 use Rattle.pep_table.proofs.ReadItems.{last_item, no_end, stops_here}
 use Rattle.pep_table.proofs.read.items.read_items.Given as given
 use Rattle.pep_table.proofs.read.items.read_items.Goals as goal
-use Rattle.pep_table.proofs.read.items.read_items.Goals.{In-Some, In-Some-split_once}
+use Rattle.pep_table.proofs.read.items.read_items.Goals.{In-Some, In-Some-split_at_byte}
 
 -- a line of the kind stands in front
 line_front : (g : given.Over) (c : In-Some g) →
@@ -21,63 +19,60 @@ line_front g c =
     begins ∙ ap (λ f. f ++ line) c.front.ensures
 
 -- .. with the item's text, up to the first feed
-line_cut : (g : given.Over) (c : In-Some-split_once g) →
+line_cut : (g : given.Over) (c : In-Some-split_at_byte g) →
     (c.loop-line.rest.now ≡ kind_front (g.K.LineKind.word c.args.kind.now)
-    ++ (c.in-Some-split_once.item.now ++ 10 ∷ c.in-Some-split_once.behind.now))
-    × HasNoFeed c.in-Some-split_once.item.now
+    ++ (c.in-Some-split_at_byte.item.now ++ 10 ∷ c.in-Some-split_at_byte.behind.now))
+    × HasNoFeed c.in-Some-split_at_byte.item.now
 line_cut g c =
     let line = c.in-Some.line.now in
-    let cut = split_parts 10 line
-    (Some (c.in-Some-split_once.item, c.in-Some-split_once.behind))
-    c.in-Some-split_once.ensures.cases (lit< tt) in
+    let cut = c.in-Some-split_at_byte.ensures.some in
     let begins : c.loop-line.rest.now ≡ c.front.result.now ++ line = search rules in (
       begins ∙ ap (λ f. f ++ line) c.front.ensures
           ∙ ap (λ l. kind_front (g.K.LineKind.word c.args.kind.now) ++ l) cut.0,
-      all_but_at 10 c.in-Some-split_once.item.now cut.1,
+      cut.1,
     )
 
-pub returns-in_default-split_once-clause-refused :
-    goal.returns-in_default-split_once-clause-refused
-returns-in_default-split_once-clause-refused g c =
-    let at = goal.at.returns-in_default-split_once-clause-refused g c in
+pub returns-in_default-split_at_byte-clause-refused :
+    goal.returns-in_default-split_at_byte-clause-refused
+returns-in_default-split_at_byte-clause-refused g c =
+    let at = goal.at.returns-in_default-split_at_byte-clause-refused g c in
     let line = c.in-Some.line.now in
-    let off = split_parts 10 line None c.in_default-split_once.ensures.cases (lit< tt) in
     let is_item = g.K.LineKind.is_item c.args.kind.now in
     inr (no_end (g.K.LineKind.word c.args.kind.now) (AreItems is_item) (items_fit is_item)
     c.args.text.now _ c.loop-line.rest.now c.loop-line.invariant.1 line (line_front g at.In-Some)
-    (all_but_at 10 line off))
+    (c.in_default-split_at_byte.ensures.none refl))
 
 pub returns-in_default-2-clause-refused : goal.returns-in_default-2-clause-refused
 returns-in_default-2-clause-refused g c =
     let is_item = g.K.LineKind.is_item c.args.kind.now in
-    let cut = line_cut g (goal.at.returns-in_default-2-clause-refused g c).In-Some-split_once in
-    let item = c.in-Some-split_once.item.now in
+    let cut = line_cut g (goal.at.returns-in_default-2-clause-refused g c).In-Some-split_at_byte in
+    let item = c.in-Some-split_at_byte.item.now in
     let none : ¬ is_item item = search rules in
     inr (bad_item (g.K.LineKind.word c.args.kind.now) (AreItems is_item) (items_fit is_item)
     c.args.text.now _ c.loop-line.rest.now c.loop-line.invariant.1 item
-    c.in-Some-split_once.behind.now cut.0 cut.1 (λ h. none (last_item is_item _ item h)))
+    c.in-Some-split_at_byte.behind.now cut.0 cut.1 (λ h. none (last_item is_item _ item h)))
 
 pub returns-then-not-is_behind-clause-refused : goal.returns-then-not-is_behind-clause-refused
 returns-then-not-is_behind-clause-refused g c =
     let is_item = g.K.LineKind.is_item c.args.kind.now in
     let at = goal.at.returns-then-not-is_behind-clause-refused g c in
-    let cut = line_cut g at.In-Some-split_once in
-    let item = c.in-Some-split_once.item.now in
+    let cut = line_cut g at.In-Some-split_at_byte in
+    let item = c.in-Some-split_at_byte.item.now in
     let xs = map g.K.Item.Kept.text c.loop-line.items.items in
     let told : ¬ IsAscending (xs ++ g.K.Item.Kept.text c.in-Some-2.item ∷ []) = search rules in
     let same : g.K.Item.Kept.text c.in-Some-2.item ≡ item = search rules in
     let falls = subst (λ t. ¬ IsAscending (xs ++ t ∷ [])) same told in
     inr (bad_item (g.K.LineKind.word c.args.kind.now) (AreItems is_item) (items_fit is_item)
     c.args.text.now xs c.loop-line.rest.now c.loop-line.invariant.1 item
-    c.in-Some-split_once.behind.now cut.0 cut.1 (λ h. falls h.0))
+    c.in-Some-split_at_byte.behind.now cut.0 cut.1 (λ h. falls h.0))
 
 pub loop-line-preserved : goal.loop-line-preserved
 loop-line-preserved g c =
     let word = g.K.LineKind.word c.args.kind.now in
     let is_item = g.K.LineKind.is_item c.args.kind.now in
-    let cut = line_cut g (goal.at.loop-line-preserved g c).In-Some-split_once in
-    let item = c.in-Some-split_once.item.now in
-    let behind = c.in-Some-split_once.behind.now in
+    let cut = line_cut g (goal.at.loop-line-preserved g c).In-Some-split_at_byte in
+    let item = c.in-Some-split_at_byte.item.now in
+    let behind = c.in-Some-split_at_byte.behind.now in
     let text = g.K.Item.Kept.text in
     let xs = map text c.loop-line.items.items in
     let told : IsAscending (xs ++ text c.in-Some-2.item ∷ []) = search rules in
@@ -111,8 +106,8 @@ returns-clause-ok g c =
     subst (λ l. Front word c.args.text.now l rest × AreItems is_item l)
     (sym c.of_ascending.ensures) read
 
-pub returns-in_default-split_once-clause-stops : goal.returns-in_default-split_once-clause-stops
-returns-in_default-split_once-clause-stops g c =
+pub returns-in_default-split_at_byte-clause-stops : goal.returns-in_default-split_at_byte-clause-stops
+returns-in_default-split_at_byte-clause-stops g c =
     let is_item = g.K.LineKind.is_item c.args.kind.now in
     stops_here (g.K.LineKind.word c.args.kind.now) (AreItems is_item) (items_fit is_item)
     c.args.text.now _ c.loop-line.rest.now c.loop-line.invariant.1
