@@ -1,10 +1,11 @@
 -- The loops of `gather`: over inputs, and over the texts of a project file.
-use Rattle.std.proofs.Common.{◌≡◌, ◌≢◌, ℕ, suc, ◌+◌, ◌<◌, ◌⊎◌, List, [], ◌∷◌, ◌++◌, length, take, drop}
+use Rattle.std.proofs.Common.{◌≡◌, ◌≢◌, ℕ, ◌+◌, ◌<◌, ◌⊎◌, List, [], ◌∷◌, ◌++◌, append_assoc, length, take}
 use Rattle.std.proofs.Common.{Bor, Option, Some, None, Ok, codes, arith, length-take-le}
 use Rattle.std.proofs.Common.{option_map, get_or, refl, sym, ap, subst, ◌∙◌, inl, inr}
 use Rattle.std.specs.Prelude.{unwrap_or}
 use Rattle.std.specs.List.{AllZip}
-use Rattle.std.proofs.lemmas.List.{length-map, map-append, take_more}
+use Rattle.std.specs.Option.{option_or}
+use Rattle.std.proofs.lemmas.List.{length-map, take_all, take_more}
 use Rattle.std.proofs.lemmas.Option.{same_Some}
 use Rattle.std.proofs.lemmas.Slice.Zip.{AllZip-long}
 use Rattle.pep_marker.specs.Environment.{EnvironmentParts, extra_in, value_at}
@@ -12,7 +13,7 @@ use Rattle.pep_require.specs.LineParts.{RefusesLine}
 use Rattle.pep_require.specs.Reads.{Reads}
 use Rattle.pep_require.specs.Requirement.{HasUndefinedMarker, RequirementParts}
 use Rattle.pep_require.specs.declared.fault.RequireFault.TheVariants as require
-use Rattle.pep_require.proofs.Members.{next_mapped, split_at_index}
+use Rattle.pep_require.proofs.Members.{next_mapped}
 use Rattle.demands.specs.Table.{TableParts}
 use Rattle.faults.specs.declared.fault.Cause.{Cause}
 use Rattle.faults.specs.declared.fault.Cause.TheVariants as cause
@@ -29,9 +30,9 @@ use Rattle.documents.proofs.ReadTexts.{numbered, zip_append}
 use Rattle.inputs.specs.declared.gathering.DemandTaker.{DemandTaker}
 use Rattle.inputs.specs.declared.input.Input.{Input}
 use Rattle.inputs.specs.declared.input.Kind.TheVariants as kind
-use Rattle.inputs.specs.Way.GatheredLines.{AreRead, GathersBytes, GathersInputs, RefusesAsInput, RefusesTexts}
+use Rattle.inputs.specs.Way.GatheredLines.{GathersBytes, GathersInputs, RefusesAsInput, RefusesTexts}
 use Rattle.inputs.specs.Way.LineReading.{TakesInTurn}
-use Rattle.inputs.specs.Refusal.{IsRefused, RefusesInputs, no_memory}
+use Rattle.inputs.specs.Refusal.{IsRefused, IsUndefinedAt, RefusesInputs, no_memory}
 use Rattle.inputs.specs.Way.TakenTexts.{GathersText, RefusesTextIn}
 use Rattle.inputs.specs.Way.Wanted.{TakesWanted, wanted_name}
 use Rattle.inputs.proofs.AcceptedInputs.{refused_in}
@@ -79,76 +80,89 @@ input_blamed_in e inputs k number i c f lt is counted refuses same none at =
 
 -- ---- texts of a project file
 
+-- the texts so far are taken; or all are requirements, of which this one has a marker that is undefined
+pub TextsSoFar : EnvironmentParts → Option (List ℕ) → List (List ℕ) → Option ℕ → TableParts →
+    TableParts → Type 0
+TextsSoFar e w texts None old new = TakesInTurn (GathersText e w) texts old new
+TextsSoFar e w texts (Some number) old new =
+    (rs : List RequirementParts) × AllZip Reads texts rs
+    × IsUndefinedAt e rs (cause.Line number line_fault.Undefined)
+
+-- with another requirement behind them
+undefined_more : (e : EnvironmentParts) (rs : List RequirementParts) (r : RequirementParts) (c : Cause) →
+    IsUndefinedAt e rs c → IsUndefinedAt e (rs ++ r ∷ []) c
+undefined_more e rs r c at = record {
+  number = at.number;
+  requirement = at.requirement;
+  numbered = record {
+    before = at.numbered.before;
+    behind = at.numbered.behind ++ r ∷ [];
+    whole =
+        ap (λ l. l ++ r ∷ []) at.numbered.whole
+        ∙ append_assoc at.numbered.before (at.requirement ∷ at.numbered.behind) (r ∷ []);
+    counted = at.numbered.counted;
+  };
+  undefined = at.undefined;
+  is = at.is;
+}
+
 module _ (texts : List (Bor (List ℕ))) (k : ℕ) (x : Bor (List ℕ)) (is : x ≡ get_or texts k x)
     (lt : k < length texts) where
-  -- the texts before this one, this one, and those behind it
-  split_texts : lent_texts texts ≡ lent_texts (take k texts) ++ x.now ∷ lent_texts (drop (suc k) texts)
-  split_texts =
-      ap lent_texts (split_at_index texts k x is lt)
-      ∙ map-append (λ t. t.now) (take k texts) (x ∷ drop (suc k) texts)
-
   next_text : lent_texts (take (k + 1) texts) ≡ lent_texts (take k texts) ++ x.now ∷ []
   next_text = next_mapped (λ t. t.now) texts k x is lt
 
+  -- .. as a requirement behind others
+  read_next : (rs : List RequirementParts) (r : RequirementParts) →
+      AllZip Reads (lent_texts (take k texts)) rs → Reads x.now r →
+      AllZip Reads (lent_texts (take (k + 1) texts)) (rs ++ r ∷ [])
+  read_next rs r read reads =
+      subst (λ l. AllZip Reads l (rs ++ r ∷ [])) (sym next_text)
+      (zip_append (lent_texts (take k texts)) (x.now ∷ []) rs (r ∷ []) read (reads, tt))
+
   -- one text more is taken, by a taker that is as it was
-  pub text_taken : (i j : DemandTaker) (old mid new : TableParts) → i ≡ j →
-      TakesInTurn (GathersText j.sink (wanted_name j.wanted)) (lent_texts (take k texts)) old mid →
+  pub text_taken : (undefined : Option ℕ) (i j : DemandTaker) (old mid new : TableParts) → i ≡ j →
+      TextsSoFar j.sink (wanted_name j.wanted) (lent_texts (take k texts)) undefined old mid →
       GathersText i.sink (wanted_name i.wanted) x.now mid new →
-      TakesInTurn (GathersText j.sink (wanted_name j.wanted)) (lent_texts (take (k + 1) texts)) old new
-  text_taken i j old mid new same taken one =
+      TextsSoFar j.sink (wanted_name j.wanted) (lent_texts (take (k + 1) texts)) undefined old new
+  text_taken None i j old mid new same taken one =
       subst (λ l. TakesInTurn (GathersText j.sink (wanted_name j.wanted)) l old new) (sym next_text)
       (in_turn-append (GathersText j.sink (wanted_name j.wanted)) (lent_texts (take k texts)) (x.now ∷ []) old
       mid new taken
       (new, subst (λ (t : DemandTaker). GathersText t.sink (wanted_name t.wanted) x.now mid new) same one, refl))
+  text_taken (Some number) i j old mid new same (rs, read, undefined) (r, reads, taken) =
+      (rs ++ r ∷ [], read_next rs r read reads, undefined_more j.sink rs r _ undefined)
 
-  -- its marker is undefined, and those behind it are read
-  pub text_undefined : (i j : DemandTaker) (old mid : TableParts) (number : ℕ) (f : LineFault)
-      (c : Cause) → number ≡ k → i ≡ j →
-      TakesInTurn (GathersText j.sink (wanted_name j.wanted)) (lent_texts (take k texts)) old mid →
-      f ≡ line_fault.Undefined → RefusesTextIn i.sink x.now f →
-      AreRead (lent_texts (drop (number + 1) texts)) →
-      (f ≢ line_fault.Requirement require.NoMemory → c ≡ cause.Line (number + 1) f) →
-      RefusesTexts j.sink (lent_texts texts) c
-  text_undefined i j old mid number f c counted alike taken undefined (inl (inl memory)) behind told =
-      cc (undefined, memory)
-  text_undefined i j old mid number f c counted alike taken undefined (inl (inr (g, other, refuses))) behind told =
-      cc (undefined, other)
-  text_undefined i j old mid number f c counted alike taken undefined (inr (f_is, (r, reads, unknown))) behind told =
-      inr (inr (
-        rs,
-        subst (λ l. AllZip Reads l rs) (sym split_texts)
-            (zip_append before (x.now ∷ lent_texts (drop (suc k) texts)) front.0 (r ∷ rest.0) front.1
-            (reads, rest.1)),
+  -- its marker is undefined
+  pub text_undefined : (undefined : Option ℕ) (i j : DemandTaker) (old mid new : TableParts)
+      (number : ℕ) → number ≡ k → i ≡ j →
+      TextsSoFar j.sink (wanted_name j.wanted) (lent_texts (take k texts)) undefined old mid →
+      RefusesTextIn i.sink x.now line_fault.Undefined →
+      TextsSoFar j.sink (wanted_name j.wanted) (lent_texts (take (k + 1) texts))
+      (option_or undefined (Some (number + 1))) old new
+  text_undefined undefined i j old mid new number counted same taken (inl (inl memory)) = cc memory
+  text_undefined undefined i j old mid new number counted same taken (inl (inr (g, other, refuses))) = cc other
+  text_undefined None i j old mid new number counted same taken (inr (is, (r, reads, unknown))) =
+      let front = gathered_in_turn j.sink (wanted_name j.wanted) (lent_texts (take k texts)) old mid taken in (
+        front.0 ++ r ∷ [],
+        read_next front.0 r front.1 reads,
         record {
           number = number + 1;
           requirement = r;
           numbered = record {
             before = front.0;
-            behind = rest.0;
+            behind = [];
             whole = refl;
             counted =
                 ap (λ n. n + 1) (counted ∙ sym (length-take-le k texts (omega (arith, lt)))
-                ∙ sym (length-map (take k texts) (λ t. t.now)) ∙ sym (AllZip-long Reads before front.0 front.1));
+                ∙ sym (length-map (take k texts) (λ t. t.now))
+                ∙ sym (AllZip-long Reads (lent_texts (take k texts)) front.0 front.1));
           };
-          undefined = subst (λ (t : DemandTaker). HasUndefinedMarker t.sink r) alike unknown;
-          is = told (λ memory. cc (f_is, memory)) ∙ ap (cause.Line (number + 1)) f_is;
+          undefined = subst (λ (t : DemandTaker). HasUndefinedMarker t.sink r) same unknown;
+          is = refl;
         },
-      ))
-    where
-      before : List (List ℕ)
-      before = lent_texts (take k texts)
-
-      front : (qs : List RequirementParts) × AllZip Reads before qs
-          × TakesWanted j.sink (wanted_name j.wanted) old qs mid
-      front = gathered_in_turn j.sink (wanted_name j.wanted) before old mid taken
-
-      rest : AreRead (lent_texts (drop (suc k) texts))
-      rest =
-          let next : number + 1 ≡ suc k = omega (arith, counted) in
-          subst (λ n. AreRead (lent_texts (drop n texts))) next behind
-
-      rs : List RequirementParts
-      rs = front.0 ++ r ∷ rest.0
+      )
+  text_undefined (Some first) i j old mid new number counted same (rs, read, undefined) (inr (is, (r, reads, unknown))) =
+      (rs ++ r ∷ [], read_next rs r read reads, undefined_more j.sink rs r _ undefined)
 
   -- it is refused for something else
   pub text_blamed : (e d : EnvironmentParts) (number : ℕ) (f : LineFault) (c : Cause) → number ≡ k →
@@ -165,6 +179,27 @@ module _ (texts : List (Bor (List ℕ))) (k : ℕ) (x : Bor (List ℕ)) (is : x 
         | inr refused ↦ inr (inl refused)
       ]
   text_blamed e d number f c counted other (inr (undefined, unknown)) none told = absurd (other undefined)
+
+-- all texts are read
+module _ (e : EnvironmentParts) (w : Option (List ℕ)) (texts : List (Bor (List ℕ))) (k : ℕ)
+    (old new : TableParts) (ended : ¬ (k < length texts)) where
+  whole : take k texts ≡ texts
+  whole = take_all k texts (omega (arith, ended))
+
+  pub texts_taken : TextsSoFar e w (lent_texts (take k texts)) None old new →
+      TakesInTurn (GathersText e w) (lent_texts texts) old new
+  texts_taken taken = subst (λ ts. TakesInTurn (GathersText e w) (lent_texts ts) old new) whole taken
+
+  pub texts_undefined : (number : ℕ) (c : Cause) →
+      TextsSoFar e w (lent_texts (take k texts)) (Some number) old new →
+      (line_fault.Undefined ≢ line_fault.Requirement require.NoMemory →
+      c ≡ cause.Line number line_fault.Undefined) → RefusesTexts e (lent_texts texts) c
+  texts_undefined number c (rs, read, undefined) told =
+      inr (inr (
+        rs,
+        subst (λ ts. AllZip Reads (lent_texts ts) rs) whole read,
+        subst (IsUndefinedAt e rs) (sym (told (λ same. cc same))) undefined,
+      ))
 
 -- ---- a project file, read for the extra of the environment
 

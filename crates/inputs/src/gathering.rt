@@ -38,10 +38,10 @@ use crate::input::{Input, Kind};
 use crate::lines::{Taker, take_lines};
 use crate::table_file::take_table;
 use clause_memory::{DemandSink, LineSoFar};
-use documents::{ProjectFile, requirements_behind};
+use documents::ProjectFile;
 use faults::{Cause, Fault, LineFault, Place};
 use pep_marker::{Environment, Name, WrittenName};
-use pep_require::{RequireFault, walk};
+use pep_require::walk;
 use pep_table::Gathering;
 use std::alloc::{AllocError, Global};
 use std::marker::Model;
@@ -181,8 +181,8 @@ impl<'a> DemandTaker<'a> {
         take_lines(alloc, self, gathering, bytes)
     }
 
-    // What is demanded so far and by the texts of a project file, all of which are read before an undefined marker is
-    // told: so behind one that is undefined the others are read.
+    // What is demanded so far and by the texts of a project file. All are read before an undefined marker is told: what
+    // is taken behind one is dropped.
     fn take_texts(&mut self, gathering: Gathering, texts: &[&str]) -> Result<Gathering, Cause>
         ensures same { self.new ≡ self.old }
         ensures ok { IfOk result (TakesInTurn (GathersText self.old.sink
@@ -190,20 +190,23 @@ impl<'a> DemandTaker<'a> {
         ensures refused { IfErr result (RefusesTexts self.old.sink (lent_texts texts.now)) }
     {
         let mut gathering = gathering;
-        let mut number: usize = 0;
+        let mut number: u64 = 0;
+        let mut undefined = None;
         for text in texts {
             number += 1;
             gathering = match self.take(gathering, text) {
                 Ok(new) => new,
-                Err(fault) => {
-                    if let LineFault::Undefined = fault {
-                        requirements_behind(self.alloc, texts, number)?;
-                    }
-                    return Err(Cause::on_line(number as u64, fault));
+                Err(LineFault::Undefined) => {
+                    undefined = undefined.or(Some(number));
+                    Gathering::new(self.alloc)
                 }
+                Err(fault) => return Err(Cause::on_line(number, fault)),
             };
         }
-        Ok(gathering)
+        match undefined {
+            Some(number) => Err(Cause::on_line(number, LineFault::Undefined)),
+            None => Ok(gathering),
+        }
     }
 
     // What is demanded so far and by a project file.

@@ -40,10 +40,6 @@ RefusesAsInput e k group bytes c = (c ≡ NoMemory) ⊎ IsRefused e k group byte
 
 -- ---- the texts of a project file
 
--- each is a requirement
-abbrev pub AreRead : List (List ℕ) → Type 0
-AreRead texts = (rs : List RequirementParts) × AllZip Reads texts rs
-
 -- why they are refused: lack of memory, of which nothing is said, or one that is no requirement; or all are
 -- requirements, of which one has a marker that is undefined in the environment
 abbrev pub RefusesTexts : EnvironmentParts → List (List ℕ) → Cause → Type 0
