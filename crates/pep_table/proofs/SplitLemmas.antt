@@ -28,13 +28,13 @@ module _ (byte : ℕ) (x : List ℕ) (at : ℕ) (first : NoneBefore (Passes (is_
   pub cut_here : IsCutAt byte x (take at x) (drop (at + 1) x)
   cut_here = (
     (let next : suc at ≡ at + 1 = omega arith in
-    subst (λ n. x ≡ take at x ++ byte ∷ drop n x) next)
+        subst (λ n. x ≡ take at x ++ byte ∷ drop n x) next)
         (split_at_index x at byte
         (sym (get_or_default x at byte 0 first.high ∙ same byte (get_or x at 0) here)) first.high),
     all_but_at byte (take at x)
         (λ i lt.
-          let less : i < at = omega (arith, lt, length-take-le at x (omega (arith, first.high))) in
-          other byte (get_or (take at x) i 0)
-          (λ e. first.before i (omega arith) less
-            (subst (λ b. (b == byte) ≡ true) (get_or-take at x i 0 less) e))),
+        let less : i < at = omega (arith, lt, length-take-le at x (omega (arith, first.high))) in
+        other byte (get_or (take at x) i 0)
+        (λ e. first.before i (omega arith) less
+        (subst (λ b. (b == byte) ≡ true) (get_or-take at x i 0 less) e))),
   )
