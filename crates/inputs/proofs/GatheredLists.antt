@@ -5,7 +5,7 @@ use Rattle.std.proofs.Common.{option_map, get_or, refl, sym, ap, subst, ◌∙�
 use Rattle.std.specs.Prelude.{unwrap_or}
 use Rattle.std.specs.List.{AllZip}
 use Rattle.std.specs.Option.{option_or}
-use Rattle.std.proofs.lemmas.List.{length-map, take_all, take_more}
+use Rattle.std.proofs.lemmas.List.{length-map, take_more}
 use Rattle.std.proofs.lemmas.Option.{same_Some}
 use Rattle.std.proofs.lemmas.Slice.Zip.{AllZip-long}
 use Rattle.pep_marker.specs.Environment.{EnvironmentParts, extra_in, value_at}
@@ -34,7 +34,7 @@ use Rattle.inputs.specs.Way.GatheredLines.{GathersBytes, GathersInputs, RefusesA
 use Rattle.inputs.specs.Way.LineReading.{TakesInTurn}
 use Rattle.inputs.specs.Refusal.{IsRefused, IsUndefinedAt, RefusesInputs, no_memory}
 use Rattle.inputs.specs.Way.TakenTexts.{GathersText, RefusesTextIn}
-use Rattle.inputs.specs.Way.Wanted.{TakesWanted, wanted_name}
+use Rattle.inputs.specs.Way.Wanted.{wanted_name}
 use Rattle.inputs.proofs.AcceptedInputs.{refused_in}
 use Rattle.inputs.proofs.TakenLines.{in_turn-append}
 use Rattle.inputs.proofs.TakenTexts.{gathered_in_turn}
@@ -81,7 +81,7 @@ input_blamed_in e inputs k number i c f lt is counted refuses same none at =
 -- ---- texts of a project file
 
 -- the texts so far are taken; or all are requirements, of which this one has a marker that is undefined
-pub TextsSoFar : EnvironmentParts → Option (List ℕ) → List (List ℕ) → Option ℕ → TableParts →
+abbrev pub TextsSoFar : EnvironmentParts → Option (List ℕ) → List (List ℕ) → Option ℕ → TableParts →
     TableParts → Type 0
 TextsSoFar e w texts None old new = TakesInTurn (GathersText e w) texts old new
 TextsSoFar e w texts (Some number) old new =
@@ -132,22 +132,27 @@ module _ (texts : List (Bor (List ℕ))) (k : ℕ) (x : Bor (List ℕ)) (is : x 
   text_taken (Some number) i j old mid new same (rs, read, undefined) (r, reads, taken) =
       (rs ++ r ∷ [], read_next rs r read reads, undefined_more j.sink rs r _ undefined)
 
+  undefined_read : (e : EnvironmentParts) (f : LineFault) → f ≡ line_fault.Undefined → RefusesTextIn e x.now f →
+      (r : RequirementParts) × Reads x.now r × HasUndefinedMarker e r
+  undefined_read e f is (inl (inl memory)) = cc (is, memory)
+  undefined_read e f is (inl (inr (g, other, refuses))) = cc (is, other)
+  undefined_read e f is (inr (same, found)) = found
+
   -- its marker is undefined
   pub text_undefined : (undefined : Option ℕ) (i j : DemandTaker) (old mid new : TableParts)
-      (number : ℕ) → number ≡ k → i ≡ j →
+      (number : ℕ) (f : LineFault) → number ≡ k → i ≡ j →
       TextsSoFar j.sink (wanted_name j.wanted) (lent_texts (take k texts)) undefined old mid →
-      RefusesTextIn i.sink x.now line_fault.Undefined →
+      f ≡ line_fault.Undefined → RefusesTextIn i.sink x.now f →
       TextsSoFar j.sink (wanted_name j.wanted) (lent_texts (take (k + 1) texts))
       (option_or undefined (Some (number + 1))) old new
-  text_undefined undefined i j old mid new number counted same taken (inl (inl memory)) = cc memory
-  text_undefined undefined i j old mid new number counted same taken (inl (inr (g, other, refuses))) = cc other
-  text_undefined None i j old mid new number counted same taken (inr (is, (r, reads, unknown))) =
-      let front = gathered_in_turn j.sink (wanted_name j.wanted) (lent_texts (take k texts)) old mid taken in (
-        front.0 ++ r ∷ [],
-        read_next front.0 r front.1 reads,
+  text_undefined None i j old mid new number f counted same taken is refuses =
+      let front = gathered_in_turn j.sink (wanted_name j.wanted) (lent_texts (take k texts)) old mid taken in
+      let one = undefined_read i.sink f is refuses in (
+        front.0 ++ one.0 ∷ [],
+        read_next front.0 one.0 front.1 one.1,
         record {
           number = number + 1;
-          requirement = r;
+          requirement = one.0;
           numbered = record {
             before = front.0;
             behind = [];
@@ -157,12 +162,13 @@ module _ (texts : List (Bor (List ℕ))) (k : ℕ) (x : Bor (List ℕ)) (is : x 
                 ∙ sym (length-map (take k texts) (λ t. t.now))
                 ∙ sym (AllZip-long Reads (lent_texts (take k texts)) front.0 front.1));
           };
-          undefined = subst (λ (t : DemandTaker). HasUndefinedMarker t.sink r) same unknown;
+          undefined = subst (λ (t : DemandTaker). HasUndefinedMarker t.sink one.0) same one.2;
           is = refl;
         },
       )
-  text_undefined (Some first) i j old mid new number counted same (rs, read, undefined) (inr (is, (r, reads, unknown))) =
-      (rs ++ r ∷ [], read_next rs r read reads, undefined_more j.sink rs r _ undefined)
+  text_undefined (Some first) i j old mid new number f counted same (rs, read, undefined) is refuses =
+      let one = undefined_read i.sink f is refuses in
+      (rs ++ one.0 ∷ [], read_next rs one.0 read one.1, undefined_more j.sink rs one.0 _ undefined)
 
   -- it is refused for something else
   pub text_blamed : (e d : EnvironmentParts) (number : ℕ) (f : LineFault) (c : Cause) → number ≡ k →
@@ -179,27 +185,6 @@ module _ (texts : List (Bor (List ℕ))) (k : ℕ) (x : Bor (List ℕ)) (is : x 
         | inr refused ↦ inr (inl refused)
       ]
   text_blamed e d number f c counted other (inr (undefined, unknown)) none told = absurd (other undefined)
-
--- all texts are read
-module _ (e : EnvironmentParts) (w : Option (List ℕ)) (texts : List (Bor (List ℕ))) (k : ℕ)
-    (old new : TableParts) (ended : ¬ (k < length texts)) where
-  whole : take k texts ≡ texts
-  whole = take_all k texts (omega (arith, ended))
-
-  pub texts_taken : TextsSoFar e w (lent_texts (take k texts)) None old new →
-      TakesInTurn (GathersText e w) (lent_texts texts) old new
-  texts_taken taken = subst (λ ts. TakesInTurn (GathersText e w) (lent_texts ts) old new) whole taken
-
-  pub texts_undefined : (number : ℕ) (c : Cause) →
-      TextsSoFar e w (lent_texts (take k texts)) (Some number) old new →
-      (line_fault.Undefined ≢ line_fault.Requirement require.NoMemory →
-      c ≡ cause.Line number line_fault.Undefined) → RefusesTexts e (lent_texts texts) c
-  texts_undefined number c (rs, read, undefined) told =
-      inr (inr (
-        rs,
-        subst (λ ts. AllZip Reads (lent_texts ts) rs) whole read,
-        subst (IsUndefinedAt e rs) (sym (told (λ same. cc same))) undefined,
-      ))
 
 -- ---- a project file, read for the extra of the environment
 

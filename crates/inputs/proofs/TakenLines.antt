@@ -1,5 +1,5 @@
 -- The loop over the lines of a list, whatever their texts are taken for.
-use Rattle.std.proofs.Common.{◌≡◌, ℕ, ◌+◌, ◌≤◌, true, false, not, List, [], ◌∷◌}
+use Rattle.std.proofs.Common.{◌≡◌, ℕ, ◌+◌, ◌≤◌, not, List, [], ◌∷◌}
 use Rattle.std.proofs.Common.{◌++◌, length, length-append, map, refl, sym, ap, subst, ◌∙◌}
 use Rattle.std.proofs.Common.{append_assoc, append-nil, arith, None, Some, Option}
 use Rattle.std.specs.Prelude.{IsUtf8, filter}

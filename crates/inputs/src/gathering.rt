@@ -196,11 +196,13 @@ impl<'a> DemandTaker<'a> {
             number += 1;
             gathering = match self.take(gathering, text) {
                 Ok(new) => new,
-                Err(LineFault::Undefined) => {
-                    undefined = undefined.or(Some(number));
-                    Gathering::new(self.alloc)
-                }
-                Err(fault) => return Err(Cause::on_line(number, fault)),
+                Err(fault) => match fault {
+                    LineFault::Undefined => {
+                        undefined = undefined.or(Some(number));
+                        Gathering::new(self.alloc)
+                    }
+                    _ => return Err(Cause::on_line(number, fault)),
+                },
             };
         }
         match undefined {
