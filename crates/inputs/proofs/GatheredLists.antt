@@ -80,7 +80,8 @@ input_blamed_in e inputs k number i c f lt is counted refuses same none at =
 
 -- ---- texts of a project file
 
--- the texts so far are taken; or all are requirements, of which this one has a marker that is undefined
+-- the texts so far are taken; or all are requirements, of which the one with this number has a marker that is
+-- undefined
 abbrev pub TextsSoFar : EnvironmentParts → Option (List ℕ) → List (List ℕ) → Option ℕ → TableParts →
     TableParts → Type 0
 TextsSoFar e w texts None old new = TakesInTurn (GathersText e w) texts old new

@@ -181,8 +181,8 @@ impl<'a> DemandTaker<'a> {
         take_lines(alloc, self, gathering, bytes)
     }
 
-    // What is demanded so far and by the texts of a project file. All are read before an undefined marker is told: what
-    // is taken behind one is dropped.
+    // What is demanded so far and by the texts of a project file. Behind an undefined marker the others are read too,
+    // since one that is no requirement is told first. What they demand is dropped.
     fn take_texts(&mut self, gathering: Gathering, texts: &[&str]) -> Result<Gathering, Cause>
         ensures same { self.new ≡ self.old }
         ensures ok { IfOk result (TakesInTurn (GathersText self.old.sink

@@ -1,4 +1,4 @@
-// The words that the text of a cut begins with. They are written and read by these names.
+// The words that the text of a cut begins with, for its writers and its readers.
 
 /// It stands in front of a version. The cut lies just before that version.
 pub(crate) const BEFORE: &str = "before ";

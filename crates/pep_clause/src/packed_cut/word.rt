@@ -23,7 +23,7 @@ pub(crate) const NUMBER: u64 = 1 << 25;
 // A digit has at most 7 bits.
 pub(crate) const DIGIT: u64 = 1 << 7;
 
-// It stands past a release where the stage of a version stands, and is above each stage.
+// In the word of a cut past a release, this stands in place of a stage. It is above each stage.
 pub(crate) const PAST_STAGE: u64 = 5;
 
 /// The numbers of a release, with 0 for those that it lacks of four. `None` where it has more than four.

@@ -1,4 +1,4 @@
--- What stands in front of a table's lines.
+-- What stands on a table's lines, and in front of them.
 use Rattle.std.specs.Prelude.{◌≡◌, ◌==◌, ℕ, codes, List, ◌++◌, ◌∷◌, All, map, not, true}
 use Rattle.std.specs.List.{list_all}
 use Rattle.std.specs.declared.cmp.Ordering.TheVariants.{Less}
@@ -8,13 +8,17 @@ use Rattle.pep_require.specs.Requirement.{IsAscending}
 pub use Rattle.texts.specs.Lines.{HasNoFeed}
 use Rattle.pep_table.specs.TableText.{kind_lines, range_text}
 
--- no such byte stands in the text
+-- ---- texts cut at a byte
+
+-- no such byte stands in the text (`HasNoFeed` says so of line feeds)
 abbrev pub Lacks : ℕ → List ℕ → Type 0
 Lacks byte x = list_all (λ b. not (b == byte)) x ≡ true
 
 -- the text is these two, round its first such byte
 abbrev pub IsCutAt : ℕ → List ℕ → List ℕ → List ℕ → Type 0
 IsCutAt byte x front behind = (x ≡ front ++ byte ∷ behind) × Lacks byte front
+
+-- ---- lines of a kind
 
 -- what a line of the kind begins with
 abbrev pub kind_front : List ℕ → List ℕ
