@@ -44,6 +44,7 @@ fn behind_byte(text: &[u8], byte: u8) -> Option<&[u8]>
 }
 
 // The release in front, with a `.*` that stands behind it.
+#[inline(always)]
 fn operand_at(text: &[u8]) -> Operand<'_>
     ensures { ReadsOperand text.now result }
 {
@@ -80,6 +81,7 @@ fn operand_at(text: &[u8]) -> Operand<'_>
 }
 
 // What the clause of this operator and release demands, where its packed cuts are told at once.
+#[inline(always)]
 fn release_demand(operator: Op, release: &[u64], starred: bool) -> Option<PackedSet>
     ensures { IfSome result (MakesDemand operator release.now starred) }
 {

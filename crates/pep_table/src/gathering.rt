@@ -205,6 +205,7 @@ impl Gathering {
 
     /// What is demanded so far, and of one package by a line, whose sets are moved: the line may be anything until it
     /// is cleared. The only fault is `NoMemory`, 42.
+    #[inline(always)]
     pub fn take_line(
         self,
         alloc: Global,
