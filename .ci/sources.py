@@ -13,7 +13,9 @@ PATHS = {
     "pep_marker": ["pep_marker"],
     "pep_require": ["pep_require"],
     "pep_table": ["demands", "pep_table"],
-    "pep_tool": ["inputs", "documents", "reasons", "shards", "command_line", "devices", "faults", "pep_tool"],
+    "pep_tool": ["inputs", "documents", "command_line", "devices", "faults", "pep_tool"],
+    "reasons": ["reasons"],
+    "shards": ["shards"],
     "pep_c": ["pep_c"],
 }
 NOT_NAMED = {"LineSink", "WrittenName", "PackedCut", "Gathering::take_line"}

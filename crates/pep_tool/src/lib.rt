@@ -14,5 +14,3 @@ pub use inputs::{
     Input, Kind, ProjectFile, check_bytes, environment_of, gather, gather_reader, laws, list_of,
     merge_bytes, merge_reader, project_of, text_of_line,
 };
-pub use reasons::{Claim, PlacedClaim, Reason, clashes, reasons_text, why};
-pub use shards::{shard_of, shards_of};
