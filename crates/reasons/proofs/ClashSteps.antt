@@ -3,13 +3,11 @@ use Rattle.std.proofs.Common.{◌≡◌, ◌≢◌, ℕ, Bool, true, false, List
 use Rattle.std.proofs.Common.{append_assoc, arith, length, refl, sym, ap, subst, ◌∙◌, inl, inr}
 use Rattle.std.specs.Prelude.{slice_index_or}
 use Rattle.std.proofs.lemmas.List.{append-nil}
-use denote.Enum.Bare.{sameb}
 use Rattle.std.proofs.lemmas.List.Elements.{Contains-append_cases, Contains-append_left}
 use Rattle.std.proofs.lemmas.List.Elements.{Contains-append_right}
 use Rattle.pep_require.proofs.Members.{in_none}
 use Rattle.demands.specs.declared.verdict.Verdict.{Verdict}
 use Rattle.demands.specs.declared.verdict.Verdict.TheVariants.{Possible, Nothing, Conflict}
-use Rattle.demands.specs.contracts.verdict.Verdict.{the_type}
 use Rattle.demands.specs.Verdict.{IsVerdict}
 use Rattle.reasons.proofs.FoundClashes.{fewer_admit, more_conflict, more_nothing}
 use Rattle.reasons.proofs.PickedClaims.{all_at, at_among, at_in_order, claims_picked, indices_rise}
@@ -60,29 +58,6 @@ told_by name w v ps qs true among all some alike unlike =
     tells_same name w qs (subst (IsVerdict (Claimed qs name)) (alike refl) some)
 told_by name w v ps qs false among all some alike unlike =
     tells_other name w v ps qs among all some (unlike refl)
-
--- the test of two verdicts tells whether they are the same
-pub same_verdict : (v w : Verdict) → sameb the_type v w ≡ true → v ≡ w
-same_verdict Possible Possible h = refl
-same_verdict Nothing Nothing h = refl
-same_verdict Conflict Conflict h = refl
-same_verdict Possible Nothing h = cc h
-same_verdict Possible Conflict h = cc h
-same_verdict Nothing Possible h = cc h
-same_verdict Nothing Conflict h = cc h
-same_verdict Conflict Possible h = cc h
-same_verdict Conflict Nothing h = cc h
-
-pub other_verdict : (v w : Verdict) → sameb the_type v w ≡ false → v ≢ w
-other_verdict Possible Possible h = λ e. cc h
-other_verdict Nothing Nothing h = λ e. cc h
-other_verdict Conflict Conflict h = λ e. cc h
-other_verdict Possible Nothing h = λ e. cc e
-other_verdict Possible Conflict h = λ e. cc e
-other_verdict Nothing Possible h = λ e. cc e
-other_verdict Nothing Conflict h = λ e. cc e
-other_verdict Conflict Possible h = λ e. cc e
-other_verdict Conflict Nothing h = λ e. cc e
 
 pub told_enough : (name : List ℕ) (w : Verdict) (qs : List PlacedParts) (b : Bool) → b ≡ true →
     IsTold name w qs b → Clashing name w qs

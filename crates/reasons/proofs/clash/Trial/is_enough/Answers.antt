@@ -1,7 +1,9 @@
 use Rattle.std.proofs.Common.{◌∙◌, map, sym}
 use Rattle.reasons.specs.Claims.{Claimed}
 use Rattle.reasons.specs.View.{placed_parts}
-use Rattle.reasons.proofs.ClashSteps.{other_verdict, same_verdict, told_by}
+use denote.Enum.Bare.{same_false, same_true}
+use Rattle.demands.specs.contracts.verdict.Verdict.{the_type}
+use Rattle.reasons.proofs.ClashSteps.{told_by}
 use Rattle.reasons.proofs.WeighedDemands.{weighed_verdict}
 use Rattle.reasons.proofs.clash.Trial.is_enough.Goals as goal
 
@@ -11,4 +13,4 @@ returns c = λ qs among h.
     (map placed_parts c.args.self.now.claims.now) qs c.eq.result among c.requires.verdict
     (weighed_verdict (Claimed qs c.args.self.now.name.now) c.args.entry.now c.in_ok-verdict.verdict
     c.versions.ensures.valid h c.in_ok-verdict.ensures.entry)
-    (λ same. same_verdict _ _ (sym c.eq.ensures ∙ same)) (λ same. other_verdict _ _ (sym c.eq.ensures ∙ same))
+    (λ same. same_true the_type tt _ _ (sym c.eq.ensures ∙ same)) (λ same. same_false the_type _ _ (sym c.eq.ensures ∙ same))
