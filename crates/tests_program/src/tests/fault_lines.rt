@@ -9,7 +9,7 @@ use pep_version::VersionFault;
 use std::alloc::{AllocError, Global};
 use std::fmt::Display;
 use std::test::Fail;
-use tests_kit::REQUIRE_FAULTS;
+use tests_requirements::REQUIRE_FAULTS;
 
 // A fault of a line: its code, the code inside it and its text.
 fn line_fault_line(alloc: Global, fault: LineFault) -> Result<String, AllocError> {

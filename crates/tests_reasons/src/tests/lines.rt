@@ -1,4 +1,4 @@
-//! Lines of rows that are compared.
+//! Rows that are compared.
 
 use std::process::Abort;
 

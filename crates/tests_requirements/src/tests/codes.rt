@@ -1,5 +1,6 @@
 //! Codes of faults, their texts, and the faults that are made of others.
 
+use crate::REQUIRE_FAULTS;
 use crate::tests::lines::{expect_line, expect_same};
 use pep_clause::ClauseFault;
 use pep_marker::{MarkerFault, Variable};
@@ -8,7 +9,6 @@ use pep_version::VersionFault;
 use std::alloc::{AllocError, Global};
 use std::fmt::Display;
 use std::process::Abort;
-use tests_kit::REQUIRE_FAULTS;
 
 // Faults of versions, each with its code and its text.
 const VERSION_FAULTS: [(VersionFault, &str); 3] = [

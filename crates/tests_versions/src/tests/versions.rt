@@ -1,12 +1,14 @@
 //! Versions by PEP 440: what texts are read as, their normal texts, and their parts.
 
-use crate::tests::lines::{Kind, expect, expect_lines, expect_same};
-use crate::tests::ordered::ORDERED;
+use crate::tests::lines::{expect, expect_none, expect_same};
 use pep_version::{Key, Label, Phase, Version, VersionFault};
 use std::alloc::{AllocError, Global};
 use std::cmp::Ordering;
 use std::hash::{DefaultHasher, Hash, Hasher};
-use tests_kit::repeated;
+use tests_kit::{
+    Difference, Kind, ORDERED, first_difference, first_difference_from, first_not_itself,
+    push_numbered, repeated,
+};
 use texts::{first_part, is_separator};
 
 const LARGEST: &str =
@@ -41,23 +43,23 @@ const SPELLINGS: [(&str, &str); 25] = [
     ("0!1.0rev", "1.0.post0"),
 ];
 
-/// What a line of a version is made by.
-pub(crate) enum Line {
-    /// Its normal text.
+// What a line of a version is made by.
+enum Line {
+    // Its normal text.
     Normal,
-    /// The normal text of that.
+    // The normal text of that.
     Again,
-    /// The text of its copy.
+    // The text of its copy.
     Copied,
-    /// What it appends to a text.
+    // What it appends to a text.
     Pushed,
-    /// How many numbers its release has, and the last of them.
+    // How many numbers its release has, and the last of them.
     Release,
-    /// The text of its key.
+    // The text of its key.
     Placed,
-    /// The text of its key's copy.
+    // The text of its key's copy.
     CopiedKey,
-    /// What its key appends to a text.
+    // What its key appends to a text.
     PushedKey,
 }
 
@@ -71,9 +73,10 @@ impl Kind for Line {
 
 // The version that a text is read as, or the one that is made of parts.
 fn version_of(alloc: Global, row: &str) -> Result<Version, VersionFault> {
-    match row {
-        OF_PARTS => version_of_parts(alloc),
-        _ => Version::read(alloc, row),
+    match row.strip_prefix(OF_SUFFIXES) {
+        Some(suffixes) => version_of_suffixes(alloc, suffixes),
+        None if row == OF_PARTS => version_of_parts(alloc),
+        None => Version::read(alloc, row),
     }
 }
 
@@ -120,20 +123,56 @@ fn release_line(alloc: Global, version: &Version) -> Result<String, VersionFault
 // Each normal text is its own normal text.
 #[test]
 fn texts(rt: HostRuntime) -> Result<(), VersionFault> {
-    expect_lines(&rt, &Line::Normal, &SPELLINGS)?;
-    expect_lines(&rt, &Line::Again, &SPELLINGS)?;
-    expect_lines(
+    expect_none(&rt, first_difference(rt.alloc(), &Line::Normal, &SUFFIXED)?);
+    expect_none(
         &rt,
-        &Line::Copied,
-        &[(OF_PARTS, "1!2.0rc3.post4.dev5+a0.7")],
-    )?;
-    expect_lines(
+        first_difference(rt.alloc(), &Line::Normal, &SPELLINGS)?,
+    );
+    expect_none(&rt, first_difference(rt.alloc(), &Line::Again, &SPELLINGS)?);
+    expect_none(
         &rt,
-        &Line::CopiedKey,
-        &[(OF_PARTS, "1!2rc3.post4.dev5+a0.7")],
-    )?;
-    expect_lines(&rt, &Line::Pushed, &[("v1.0RC3", "x 1.0rc3")])?;
-    expect_lines(&rt, &Line::PushedKey, &[("1.0", "x 1")])
+        first_difference(
+            rt.alloc(),
+            &Line::Copied,
+            &[(OF_PARTS, "1!2.0rc3.post4.dev5+a0.7")],
+        )?,
+    );
+    expect_none(
+        &rt,
+        first_difference(
+            rt.alloc(),
+            &Line::CopiedKey,
+            &[(OF_PARTS, "1!2rc3.post4.dev5+a0.7")],
+        )?,
+    );
+    expect_none(
+        &rt,
+        first_difference(rt.alloc(), &Line::Pushed, &[("v1.0RC3", "x 1.0rc3")])?,
+    );
+    expect_none(
+        &rt,
+        first_difference(rt.alloc(), &Line::PushedKey, &[("1.0", "x 1")])?,
+    );
+    Ok(())
+}
+
+// A row with another line is found, with its line and the wanted one.
+#[test]
+fn tells_differences(rt: HostRuntime) -> Result<(), VersionFault> {
+    let found = first_difference(rt.alloc(), &Line::Normal, &[("1", "1"), ("v2", "v2")])?;
+    expect_same(&rt, "pairs", told(&found), Some(("v2", "2", "v2")));
+    let found = first_difference_from(rt.alloc(), &Line::Normal, &["v2", "3"], "2")?;
+    expect_same(&rt, "one line", told(&found), Some(("3", "3", "2")));
+    let found = first_not_itself(rt.alloc(), &Line::Normal, &["1", "v2"])?;
+    expect_same(&rt, "own lines", told(&found), Some(("v2", "2", "v2")));
+    Ok(())
+}
+
+fn told<'a>(found: &'a Difference<'a>) -> Option<(&'a str, &'a str, &'a str)> {
+    match found {
+        Some((row, line, want)) => Some((row, line.as_str(), want)),
+        None => None,
+    }
 }
 
 #[test]
@@ -141,7 +180,40 @@ fn reads_a_long_text(rt: HostRuntime) -> Result<(), VersionFault> {
     // Two characters a number, and then one more.
     let text = repeated(rt.alloc(), "1", ".0", 32_767, "7")?;
     assert!(rt; text.len() == 65_536);
-    expect_lines(&rt, &Line::Release, &[(text.as_str(), "32768 Some(7)")])
+    expect_none(
+        &rt,
+        first_difference(
+            rt.alloc(),
+            &Line::Release,
+            &[(text.as_str(), "32768 Some(7)")],
+        )?,
+    );
+    Ok(())
+}
+
+// A version of 20,002 release numbers and a label of 1,000 segments.
+fn long_text(alloc: Global) -> Result<String, AllocError> {
+    let mut text = repeated(alloc, "1", ".0", 20_000, ".7+0")?;
+    push_numbered(alloc, &mut text, ".", 1..1000, "")?;
+    Ok(text)
+}
+
+#[test]
+fn long_versions(rt: HostRuntime) -> Result<(), VersionFault> {
+    let text = long_text(rt.alloc())?;
+    expect_none(
+        &rt,
+        first_not_itself(rt.alloc(), &Line::Normal, &[text.as_str()])?,
+    );
+    expect_none(
+        &rt,
+        first_not_itself(rt.alloc(), &Line::Copied, &[text.as_str()])?,
+    );
+    expect_none(
+        &rt,
+        first_not_itself(rt.alloc(), &Line::Placed, &[text.as_str()])?,
+    );
+    Ok(())
 }
 
 const NO_VERSIONS: [&str; 22] = [
@@ -190,7 +262,8 @@ const EQUAL: [(&str, &str); 8] = [
     ("1.0+1.a", "1+01-A"),
 ];
 
-fn key(alloc: Global, text: &str) -> Result<Key, VersionFault> {
+/// The key of the version that a text is read as.
+pub(crate) fn key(alloc: Global, text: &str) -> Result<Key, VersionFault> {
     Key::of(alloc, &Version::read(alloc, text)?)
 }
 
@@ -265,6 +338,31 @@ fn version_of_parts(alloc: Global) -> Result<Version, VersionFault> {
     let release = Vec::from_slice(alloc, &[2, 0])?;
     let pre = Some((Phase::Rc, 3));
     let version = Version::of_parts(1, release, pre, Some(4), Some(5), label(alloc)?);
+    version.ok_or(VersionFault::NotAVersion)
+}
+
+// What stands in a row in front of the suffixes of a version that is made of parts.
+const OF_SUFFIXES: &str = "with ";
+
+// Versions that are made of parts, with some of the suffixes and without.
+const SUFFIXED: [(&str, &str); 8] = [
+    ("with none", "1.0"),
+    ("with dev", "1.0.dev0"),
+    ("with post", "1.0.post3"),
+    ("with post and dev", "1.0.post3.dev0"),
+    ("with pre", "1.0b1"),
+    ("with pre and dev", "1.0b1.dev0"),
+    ("with pre and post", "1.0b1.post3"),
+    ("with pre, post and dev", "1.0b1.post3.dev0"),
+];
+
+// `1.0` with some of the suffixes `b1`, `.post3` and `.dev0`.
+fn version_of_suffixes(alloc: Global, suffixes: &str) -> Result<Version, VersionFault> {
+    let release = Vec::from_slice(alloc, &[1, 0])?;
+    let pre = suffixes.contains("pre").then_some((Phase::Beta, 1));
+    let post = suffixes.contains("post").then_some(3);
+    let dev = suffixes.contains("dev").then_some(0);
+    let version = Version::of_parts(0, release, pre, post, dev, Vec::new(alloc));
     version.ok_or(VersionFault::NotAVersion)
 }
 

@@ -1,11 +1,12 @@
 //! Names of packages, and the runs of bytes that they are found by.
 
-use crate::tests::lines::{Kind, expect, expect_lines};
+use crate::tests::lines::{expect, expect_none};
 use pep_marker::{MarkerFault, Name};
 use std::alloc::Global;
 use std::cmp::Ordering;
 use std::hash::{DefaultHasher, Hash, Hasher};
 use std::process::Abort;
+use tests_kit::{Kind, first_difference, first_not_itself, repeated};
 use texts::{blank_run, is_blank_byte, is_name_byte, name_run, stripped, without_outer_blanks};
 
 // Names in their order, by the bytes of their normal texts. Some share their first eight bytes.
@@ -47,7 +48,7 @@ const NO_NAMES: [&str; 11] = [
 ];
 
 /// The text of a name.
-pub(crate) struct Text;
+struct Text;
 
 impl Kind for Text {
     type Fault = MarkerFault;
@@ -63,7 +64,8 @@ fn fault_of(alloc: Global, text: &str) -> Option<MarkerFault> {
 
 #[test]
 fn names(rt: HostRuntime) -> Result<(), MarkerFault> {
-    expect_lines(&rt, &Text, &NAMES)
+    expect_none(&rt, first_difference(rt.alloc(), &Text, &NAMES)?);
+    Ok(())
 }
 
 #[test]
@@ -127,8 +129,8 @@ fn is_one_name(alloc: Global, one: &str, other: &str) -> Result<bool, MarkerFaul
     Ok(is_order(&one, &other, Ordering::Equal))
 }
 
-/// Whether the copy of a name is equal to it, with its text.
-pub(crate) fn has_copy(alloc: Global, text: &str) -> Result<bool, MarkerFault> {
+// Whether the copy of a name is equal to it, with its text.
+fn has_copy(alloc: Global, text: &str) -> Result<bool, MarkerFault> {
     let name = Name::read(alloc, text)?;
     let copy = name.copied(alloc)?;
     Ok(copy == name && copy.text() == name.text())
@@ -186,4 +188,12 @@ fn trims_names(rt: HostRuntime) {
     for &(text, want) in &TRIMMED {
         expect(&rt, text, without_outer_blanks(text) == want);
     }
+}
+
+#[test]
+fn long_names(rt: HostRuntime) -> Result<(), MarkerFault> {
+    let text = repeated(rt.alloc(), "", "a-b", 20_000, "")?;
+    expect_none(&rt, first_not_itself(rt.alloc(), &Text, &[text.as_str()])?);
+    assert!(rt; has_copy(rt.alloc(), text.as_str())?);
+    Ok(())
 }

@@ -1,11 +1,11 @@
 //! Sets of clauses: their cuts, with carries at the largest number, and which versions they hold.
 
-use crate::tests::lines::{Kind, expect, expect_line, expect_lines, expect_row};
-use crate::tests::ordered::ORDERED;
+use crate::tests::lines::{expect, expect_line, expect_none, expect_row};
 use pep_clause::{Clause, ClauseFault, Range, Turns, VersionSet};
-use pep_version::{Key, Phase, Version, VersionFault};
+use pep_version::{Key, Version, VersionFault};
 use std::alloc::Global;
 use std::process::Abort;
+use tests_kit::{Kind, ORDERED, first_difference};
 
 const OPERATORS: [&str; 8] = ["~=", "==", "!=", "<=", ">=", "<", ">", "==="];
 
@@ -85,50 +85,43 @@ fn push_range(alloc: Global, line: &mut String, range: &Range) -> Result<(), Cla
     Ok(())
 }
 
-// Numbers of a release, the parts behind them, and whether `>=1.0` and `<1.0` hold the version.
-type Held = (
-    [u64; 2],
-    Option<(Phase, u64)>,
-    Option<u64>,
-    Option<u64>,
-    (bool, bool),
-);
-
-const HELD: [Held; 11] = [
-    ([1, 0], None, None, None, (true, false)),
-    ([1, 1], None, None, None, (true, false)),
-    ([1, 0], None, Some(1), None, (true, false)),
-    ([1, 0], None, Some(1), Some(0), (true, false)),
-    ([1, 1], Some((Phase::Beta, 1)), None, None, (true, false)),
-    ([1, 0], Some((Phase::Beta, 1)), None, None, (false, false)),
-    ([1, 0], None, None, Some(0), (false, false)),
-    ([0, 9], None, None, None, (false, true)),
-    ([0, 9], None, Some(3), None, (false, true)),
-    ([0, 9], Some((Phase::Beta, 1)), None, None, (false, true)),
-    ([0, 0], None, None, Some(0), (false, true)),
+// Versions, and which of the sets of `>=1.0` and `<1.0` holds them.
+const HELD: [(&str, &str); 11] = [
+    ("1.0", "the first"),
+    ("1.1", "the first"),
+    ("1.0.post1", "the first"),
+    ("1.0.post1.dev0", "the first"),
+    ("1.1b1", "the first"),
+    ("1.0b1", "none"),
+    ("1.0.dev0", "none"),
+    ("0.9", "the second"),
+    ("0.9.post3", "the second"),
+    ("0.9b1", "the second"),
+    ("0.0.dev0", "the second"),
 ];
 
-// The place of a version of two release numbers.
-fn place(
-    alloc: Global,
-    release: &[u64],
-    pre: Option<(Phase, u64)>,
-    post: Option<u64>,
-    dev: Option<u64>,
-) -> Result<Key, VersionFault> {
-    let numbers = Vec::from_slice(alloc, release)?;
-    let version = Version::of_parts(0, numbers, pre, post, dev, Vec::new(alloc));
-    Key::of(alloc, &version.ok_or(VersionFault::NotAVersion)?)
+// Which of the sets of two clauses holds the version of a row.
+struct HoldingSet;
+
+impl Kind for HoldingSet {
+    type Fault = ClauseFault;
+
+    fn line(&self, alloc: Global, row: &str) -> Result<String, ClauseFault> {
+        let key = Key::of(alloc, &Version::read(alloc, row)?)?;
+        let (from, below) = (set(alloc, ">=1.0")?, set(alloc, "<1.0")?);
+        let told = match (from.contains(&key), below.contains(&key)) {
+            (true, true) => "both",
+            (true, false) => "the first",
+            (false, true) => "the second",
+            (false, false) => "none",
+        };
+        Ok(String::from_str(alloc, told)?)
+    }
 }
 
 #[test]
 fn holds_what_a_clause_admits(rt: HostRuntime) -> Result<(), ClauseFault> {
-    let (from, below) = (set(rt.alloc(), ">=1.0")?, set(rt.alloc(), "<1.0")?);
-    for &(release, pre, post, dev, want) in &HELD {
-        let key = place(rt.alloc(), release.as_slice(), pre, post, dev)?;
-        let held = (from.contains(&key), below.contains(&key));
-        expect(&rt, release, held == want);
-    }
+    expect_none(&rt, first_difference(rt.alloc(), &HoldingSet, &HELD)?);
     Ok(())
 }
 
@@ -184,55 +177,53 @@ impl Kind for RangesOfRow {
 
 #[test]
 fn ranges(rt: HostRuntime) -> Result<(), ClauseFault> {
-    expect_lines(&rt, &RangesOfRow, &RANGES)
+    expect_none(&rt, first_difference(rt.alloc(), &RangesOfRow, &RANGES)?);
+    Ok(())
 }
 
 // The set of all these clauses, each joined to those before it.
-fn joined(alloc: Global, clauses: &[&str]) -> Result<VersionSet, ClauseFault> {
+fn joined(alloc: Global, clauses: &str) -> Result<VersionSet, ClauseFault> {
     let mut joined = VersionSet::all(alloc)?;
-    for clause in clauses {
+    for clause in clauses.split(' ') {
         joined = joined.joined(alloc, &set(alloc, clause)?)?;
     }
     Ok(joined)
 }
 
 // The same, in place.
-fn kept(alloc: Global, clauses: &[&str]) -> Result<VersionSet, ClauseFault> {
+fn kept(alloc: Global, clauses: &str) -> Result<VersionSet, ClauseFault> {
     let mut kept = VersionSet::all(alloc)?;
-    for clause in clauses {
+    for clause in clauses.split(' ') {
         kept.join(alloc, &set(alloc, clause)?)?;
     }
     Ok(kept)
 }
 
 // The same of sets that are used up.
-fn common(alloc: Global, clauses: &[&str]) -> Result<VersionSet, ClauseFault> {
+fn common(alloc: Global, clauses: &str) -> Result<VersionSet, ClauseFault> {
     let mut common = VersionSet::all(alloc)?;
-    for clause in clauses {
+    for clause in clauses.split(' ') {
         common = common.common(alloc, set(alloc, clause)?)?;
     }
     Ok(common)
 }
 
-// Clauses, and the ranges of their set.
-const JOINED: [(&[&str], &str); 11] = [
+// Clauses, separated by blanks, and the ranges of their set.
+const JOINED: [(&str, &str); 11] = [
     (
-        &["!=1.0"],
+        "!=1.0",
         "[before 0.dev0 to before 1][before 1.post0.dev0 to end]",
     ),
-    (&["<0"], "none"),
-    (&[">=1"], "[before 1 to end]"),
-    (&[">=1", ">=0.5"], "[before 1 to end]"),
-    (&[">=1", "<2"], "[before 1 to before 2.dev0]"),
-    (&[">=1", ">=0.5", "<2"], "[before 1 to before 2.dev0]"),
-    (&[">=1", "<2", "<3"], "[before 1 to before 2.dev0]"),
-    (&[">=1", "<2", ">=1.5"], "[before 1.5 to before 2.dev0]"),
-    (&[">=1", "<2", "<3", ">=2"], "none"),
-    (&[">=1", "<2", ">=1.5", ">=2"], "none"),
-    (
-        &[">=1", "<2", ">=1.5", "===x"],
-        "[before 1.5 to before 2.dev0]",
-    ),
+    ("<0", "none"),
+    (">=1", "[before 1 to end]"),
+    (">=1 >=0.5", "[before 1 to end]"),
+    (">=1 <2", "[before 1 to before 2.dev0]"),
+    (">=1 >=0.5 <2", "[before 1 to before 2.dev0]"),
+    (">=1 <2 <3", "[before 1 to before 2.dev0]"),
+    (">=1 <2 >=1.5", "[before 1.5 to before 2.dev0]"),
+    (">=1 <2 <3 >=2", "none"),
+    (">=1 <2 >=1.5 >=2", "none"),
+    (">=1 <2 >=1.5 ===x", "[before 1.5 to before 2.dev0]"),
 ];
 
 // The sweep over a set and all versions, whose turns no one sees here.
@@ -241,7 +232,7 @@ fn swept(alloc: Global, set: &VersionSet) -> Result<VersionSet, ClauseFault> {
 }
 
 // The set of all these clauses, by one of five ways.
-fn set_by(alloc: Global, way: &str, clauses: &[&str]) -> Result<VersionSet, ClauseFault> {
+fn set_by(alloc: Global, way: &str, clauses: &str) -> Result<VersionSet, ClauseFault> {
     match way {
         "joined" => joined(alloc, clauses),
         "in place" => kept(alloc, clauses),
@@ -251,7 +242,7 @@ fn set_by(alloc: Global, way: &str, clauses: &[&str]) -> Result<VersionSet, Clau
     }
 }
 
-fn joined_line(alloc: Global, way: &str, clauses: &[&str]) -> Result<String, ClauseFault> {
+fn joined_line(alloc: Global, way: &str, clauses: &str) -> Result<String, ClauseFault> {
     shown(alloc, &set_by(alloc, way, clauses)?)
 }
 
@@ -267,33 +258,33 @@ fn joins(rt: HostRuntime) -> Result<(), ClauseFault> {
 }
 
 // Two lists of clauses, and the ranges that their sets have in common.
-const LISTS: [(&[&str], &[&str], &str); 5] = [
+const LISTS: [(&str, &str, &str); 5] = [
     (
-        &["!=1", "!=3"],
-        &["!=2", "!=3", "!=4", "<5"],
+        "!=1 !=3",
+        "!=2 !=3 !=4 <5",
         "[before 0.dev0 to before 1][before 1.post0.dev0 to before 2][before 2.post0.dev0 to before 3]\
         [before 3.post0.dev0 to before 4][before 4.post0.dev0 to before 5.dev0]",
     ),
     (
-        &[">=1", "!=2.*"],
-        &["<=2.5", "!=1.5"],
+        ">=1 !=2.*",
+        "<=2.5 !=1.5",
         "[before 1 to before 1.5][before 1.5.post0.dev0 to before 2.dev0]",
     ),
     (
-        &["!=1.*"],
-        &["!=1.*"],
+        "!=1.*",
+        "!=1.*",
         "[before 0.dev0 to before 1.dev0][before 2.dev0 to end]",
     ),
     (
-        &["!=1.*", "!=2.*", "!=4.*"],
-        &["!=3.*", "!=2.*"],
+        "!=1.* !=2.* !=4.*",
+        "!=3.* !=2.*",
         "[before 0.dev0 to before 1.dev0][before 5.dev0 to end]",
     ),
-    (&["!=1.*", "<2"], &[">=1", "!=3"], "none"),
+    ("!=1.* <2", ">=1 !=3", "none"),
 ];
 
 // What they have in common, of sets that are used up.
-fn lists_line(alloc: Global, left: &[&str], right: &[&str]) -> Result<String, ClauseFault> {
+fn lists_line(alloc: Global, left: &str, right: &str) -> Result<String, ClauseFault> {
     let both = joined(alloc, left)?.common(alloc, joined(alloc, right)?)?;
     shown(alloc, &both)
 }

@@ -1,37 +1,8 @@
-//! Versions, names and sets that are larger than a body that gives up early would take.
+//! Sets that are larger than a body that gives up early would take.
 
-use crate::tests::lines::expect_own;
-use crate::tests::names::{Text, has_copy};
 use crate::tests::sets::{set, shown};
-use crate::tests::versions::Line;
 use pep_clause::{ClauseFault, VersionSet};
-use pep_marker::MarkerFault;
-use pep_version::VersionFault;
 use std::alloc::{AllocError, Global};
-use tests_kit::{push_numbered, repeated};
-
-// A version of 20,002 release numbers and a label of 1,000 segments.
-fn long_text(alloc: Global) -> Result<String, AllocError> {
-    let mut text = repeated(alloc, "1", ".0", 20_000, ".7+0")?;
-    push_numbered(alloc, &mut text, ".", 1..1000, "")?;
-    Ok(text)
-}
-
-#[test]
-fn long_versions(rt: HostRuntime) -> Result<(), VersionFault> {
-    let text = long_text(rt.alloc())?;
-    expect_own(&rt, &Line::Normal, &[text.as_str()])?;
-    expect_own(&rt, &Line::Copied, &[text.as_str()])?;
-    expect_own(&rt, &Line::Placed, &[text.as_str()])
-}
-
-#[test]
-fn long_names(rt: HostRuntime) -> Result<(), MarkerFault> {
-    let text = repeated(rt.alloc(), "", "a-b", 20_000, "")?;
-    expect_own(&rt, &Text, &[text.as_str()])?;
-    assert!(rt; has_copy(rt.alloc(), text.as_str())?);
-    Ok(())
-}
 
 // The set of all versions but that of a number.
 fn without(alloc: Global, number: u32) -> Result<VersionSet, ClauseFault> {

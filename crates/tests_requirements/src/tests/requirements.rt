@@ -1,13 +1,13 @@
 //! Requirement lines by PEP 508: what they are read as, their texts, and what is wrong with others.
 
-use crate::tests::lines::{Kind, expect, expect_lines, expect_own, expect_same};
+use crate::tests::lines::{expect_none, expect_same};
 use pep_clause::ClauseFault;
 use pep_marker::{Environment, MarkerFault};
 use pep_require::{RequireFault, Requirement, Target, UrlText};
 use std::alloc::{AllocError, Global};
 use std::process::Abort;
 use std::test::Fail;
-use tests_kit::{MACHINE, push_numbered, repeated};
+use tests_kit::{Kind, MACHINE, first_difference, first_not_itself, push_numbered, repeated};
 
 // What a line is made by.
 enum Line {
@@ -50,8 +50,9 @@ fn expect_texts(
     rt: &(impl Abort + AllocGlobal),
     rows: &[(&str, &str)],
 ) -> Result<(), RequireFault> {
-    expect_lines(rt, &Line::Text, rows)?;
-    expect_lines(rt, &Line::Again, rows)
+    expect_none(rt, first_difference(rt.alloc(), &Line::Text, rows)?);
+    expect_none(rt, first_difference(rt.alloc(), &Line::Again, rows)?);
+    Ok(())
 }
 
 const NAMES_AND_EXTRAS: [(&str, &str); 8] = [
@@ -239,7 +240,10 @@ const OWN_TEXTS: [(&str, &str, usize, &str); 4] = [
 fn long_lines(rt: HostRuntime) -> Result<(), RequireFault> {
     for &(front, part, count, behind) in &OWN_TEXTS {
         let line = repeated(rt.alloc(), front, part, count, behind)?;
-        expect_own(&rt, &Line::Text, &[line.as_str()])?;
+        expect_none(
+            &rt,
+            first_not_itself(rt.alloc(), &Line::Text, &[line.as_str()])?,
+        );
     }
     Ok(())
 }
@@ -247,7 +251,11 @@ fn long_lines(rt: HostRuntime) -> Result<(), RequireFault> {
 #[test]
 fn a_name_as_long_as_a_line(rt: HostRuntime) -> Result<(), RequireFault> {
     let line = repeated(rt.alloc(), "", "a", 65_536, "")?;
-    expect_own(&rt, &Line::Name, &[line.as_str()])
+    expect_none(
+        &rt,
+        first_not_itself(rt.alloc(), &Line::Name, &[line.as_str()])?,
+    );
+    Ok(())
 }
 
 // A line with extras in their order.
@@ -261,7 +269,11 @@ fn line_of_extras(alloc: Global) -> Result<String, AllocError> {
 #[test]
 fn many_extras(rt: HostRuntime) -> Result<(), RequireFault> {
     let line = line_of_extras(rt.alloc())?;
-    expect_own(&rt, &Line::Text, &[line.as_str()])
+    expect_none(
+        &rt,
+        first_not_itself(rt.alloc(), &Line::Text, &[line.as_str()])?,
+    );
+    Ok(())
 }
 
 // The same with the fault of the line.
@@ -339,25 +351,38 @@ impl Kind for NameOfLine {
 
 #[test]
 fn parts(rt: HostRuntime) -> Result<(), RequireFault> {
-    expect_lines(
+    expect_none(
         &rt,
-        &Line::Bounds,
-        &[(
-            "Foo[x,B_c]>=1,<2; os_name == 'nt'",
-            "foo[b-c][x] Some(2) true",
-        )],
-    )?;
-    expect_lines(
+        first_difference(
+            rt.alloc(),
+            &Line::Bounds,
+            &[(
+                "Foo[x,B_c]>=1,<2; os_name == 'nt'",
+                "foo[b-c][x] Some(2) true",
+            )],
+        )?,
+    );
+    expect_none(
         &rt,
-        &Line::Url,
-        &[(
-            "a @ HTTPS://X.test/a/../b",
-            "HTTPS://X.test/a/../b https://x.test/b false",
-        )],
-    )?;
+        first_difference(
+            rt.alloc(),
+            &Line::Url,
+            &[(
+                "a @ HTTPS://X.test/a/../b",
+                "HTTPS://X.test/a/../b https://x.test/b false",
+            )],
+        )?,
+    );
     assert!(rt; UrlText::has_common_form("https://x.test/b") && !UrlText::has_common_form("b"));
-    expect_own(&rt, &UrlAlone, &["https://x.test/b"])?;
-    expect_lines(&rt, &NameOfLine, &[(" Foo_.Bar [ ?", "foo-bar")])
+    expect_none(
+        &rt,
+        first_not_itself(rt.alloc(), &UrlAlone, &["https://x.test/b"])?,
+    );
+    expect_none(
+        &rt,
+        first_difference(rt.alloc(), &NameOfLine, &[(" Foo_.Bar [ ?", "foo-bar")])?,
+    );
+    Ok(())
 }
 
 // Lines, and whether they apply on the machine.

@@ -1,11 +1,11 @@
 //! Environments of markers: which pairs make one, what is wrong with others, and the normal form of
 //! texts beside `extra`.
 
-use crate::tests::lines::{Kind, expect, expect_lines, expect_same};
+use crate::tests::lines::{expect, expect_none, expect_same};
 use pep_marker::{Environment, HeaderIn, MarkerFault, Variable, laws, norm_of};
 use std::alloc::{AllocError, Global};
 use std::process::Abort;
-use tests_kit::{MACHINE, MACHINE_HEADER, STANDARD_HEADER, repeated};
+use tests_kit::{Kind, MACHINE, MACHINE_HEADER, STANDARD_HEADER, first_difference, repeated};
 
 const VARIABLES: [Variable; 11] = [
     Variable::OsName,
@@ -245,8 +245,12 @@ impl Kind for Norm {
 
 #[test]
 fn normal_texts(rt: HostRuntime) -> Result<(), MarkerFault> {
-    expect_lines(&rt, &Norm, &NORMAL_TEXTS)?;
+    expect_none(&rt, first_difference(rt.alloc(), &Norm, &NORMAL_TEXTS)?);
     let text = repeated(rt.alloc(), "", "\u{c9}A_.", 20_000, "")?;
     let want = repeated(rt.alloc(), "", "\u{c9}a-", 20_000, "")?;
-    expect_lines(&rt, &Norm, &[(text.as_str(), want.as_str())])
+    expect_none(
+        &rt,
+        first_difference(rt.alloc(), &Norm, &[(text.as_str(), want.as_str())])?,
+    );
+    Ok(())
 }

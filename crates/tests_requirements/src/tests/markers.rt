@@ -1,10 +1,12 @@
 //! Markers: which texts are read, how they are written, and what they say in an environment.
 
-use crate::tests::lines::{Kind, expect, expect_each, expect_lines, expect_own, expect_row};
+use crate::tests::lines::{expect, expect_none, expect_row};
 use pep_marker::{Environment, JudgedMarkers, Marker, MarkerFault};
 use std::alloc::{AllocError, Global};
 use std::process::Abort;
-use tests_kit::{MACHINE, repeated};
+use tests_kit::{
+    Kind, MACHINE, first_difference, first_difference_from, first_not_itself, repeated,
+};
 
 const VARIABLES: [&str; 12] = [
     "os_name",
@@ -330,9 +332,13 @@ fn truth_with_extra(rt: HostRuntime) -> Result<(), MarkerFault> {
 
 #[test]
 fn texts(rt: HostRuntime) -> Result<(), AllocError> {
-    expect_lines(&rt, &Text, &TEXTS)?;
-    expect_own(&rt, &Text, &UNDEFINED)?;
-    expect_each(&rt, &Text, &FAULTY, "refused 26")
+    expect_none(&rt, first_difference(rt.alloc(), &Text, &TEXTS)?);
+    expect_none(&rt, first_not_itself(rt.alloc(), &Text, &UNDEFINED)?);
+    expect_none(
+        &rt,
+        first_difference_from(rt.alloc(), &Text, &FAULTY, "refused 26")?,
+    );
+    Ok(())
 }
 
 // Whether the text of a marker is its own text.
@@ -356,7 +362,11 @@ fn expect_operator(
 ) -> Result<(), AllocError> {
     let left = format!(in rt.alloc(); "{variable} {operator} \"1.0\"")?;
     let right = format!(in rt.alloc(); "\"1.0\" {operator} {variable}")?;
-    expect_own(rt, &Text, &[left.as_str(), right.as_str()])
+    expect_none(
+        rt,
+        first_not_itself(rt.alloc(), &Text, &[left.as_str(), right.as_str()])?,
+    );
+    Ok(())
 }
 
 #[test]
@@ -381,7 +391,8 @@ fn in_parentheses(alloc: Global, count: usize) -> Result<String, AllocError> {
 fn open_parentheses(rt: HostRuntime) -> Result<(), AllocError> {
     for &(count, want) in &[(64, "\"a\" == \"a\""), (65, "refused 27")] {
         let text = in_parentheses(rt.alloc(), count)?;
-        expect_each(&rt, &Text, &[text.as_str()], want)?;
+        let found = first_difference(rt.alloc(), &Text, &[(text.as_str(), want)])?;
+        expect_none(&rt, found);
     }
     Ok(())
 }

@@ -1,7 +1,7 @@
 //! Versions in their order, for several tables.
 
 /// Versions, each below the next (PEP 440, "Summary of permitted suffixes and relative ordering").
-pub(crate) const ORDERED: [&str; 26] = [
+pub const ORDERED: [&str; 26] = [
     "0.dev0",
     "0a0.dev0",
     "0",

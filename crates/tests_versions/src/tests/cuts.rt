@@ -1,12 +1,13 @@
 //! Cuts in their order.
 
-use crate::tests::lines::{expect, expect_each, expect_lines, expect_own};
+use crate::tests::lines::{expect, expect_none};
 use crate::tests::packed::{CutLine, compare_cuts, cut_at, cut_has_copy};
 use crate::tests::sets::set;
 use pep_clause::{ClauseFault, Cut, Range, VersionSet};
 use pep_version::Version;
 use std::alloc::Global;
 use std::process::Abort;
+use tests_kit::{first_difference, first_difference_from, first_not_itself};
 
 fn before(alloc: Global, text: &str) -> Result<Cut, ClauseFault> {
     Cut::before(alloc, &Version::read(alloc, text)?)
@@ -143,13 +144,20 @@ const OTHER_TEXTS: [&str; 38] = [
 
 #[test]
 fn reads_cuts(rt: HostRuntime) -> Result<(), ClauseFault> {
-    expect_own(&rt, &CutLine::Text, &TEXTS)?;
-    expect_each(&rt, &CutLine::Text, &OTHER_TEXTS, "no cut")?;
-    expect_lines(
+    expect_none(&rt, first_not_itself(rt.alloc(), &CutLine::Text, &TEXTS)?);
+    expect_none(
         &rt,
-        &CutLine::Pushed,
-        &[("before 1", "from before 1"), ("end", "from end")],
-    )
+        first_difference_from(rt.alloc(), &CutLine::Text, &OTHER_TEXTS, "no cut")?,
+    );
+    expect_none(
+        &rt,
+        first_difference(
+            rt.alloc(),
+            &CutLine::Pushed,
+            &[("before 1", "from before 1"), ("end", "from end")],
+        )?,
+    );
+    Ok(())
 }
 
 fn range(alloc: Global, low: &Cut, high: &Cut) -> Result<Option<Range>, ClauseFault> {
