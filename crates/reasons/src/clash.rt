@@ -109,6 +109,13 @@ fn begun(alloc: Global, entry: &Entry) -> Result<PackageDemands, TableFault>
     Ok(demands)
 }
 
+// What no claims demand.
+fn nothing(alloc: Global) -> Result<Entry, TableFault>
+    ensures { IfOk result (λ e. e ≡ bare_entry) }
+{
+    PackageDemands::bare().entry(alloc)
+}
+
 // All indices below the number.
 fn indices_below(alloc: Global, count: usize) -> Result<Vec<usize>, TableFault>
     ensures { IfOk result (λ all. all.items ≡ indices count) }
@@ -159,6 +166,21 @@ impl Trial<'_> {
         Ok(verdict == self.verdict)
     }
 
+    // Whether the claims at these indices are enough for the verdict.
+    fn are_enough(&self, few: &[usize]) -> Result<bool, TableFault>
+        requires within { AreWithin (map placed_parts self.now.claims.now) few.now }
+        requires verdict { IsVerdict (Claimed (map placed_parts self.now.claims.now)
+            self.now.name.now) self.now.verdict }
+        ensures { IfOk result (λ b. IsTold self.now.name.now self.now.verdict
+            (claims_at (map placed_parts self.now.claims.now) few.now) b) }
+    {
+        let demanded = {
+            let nothing = nothing(self.alloc)?;
+            self.with_more(&nothing, few)
+        }?;
+        self.is_enough(&demanded)
+    }
+
     // Those of the claims at these indices that are needed beside claims for which the entry stands.
     fn needed(&self, entry: &Entry, picked: &[usize]) -> Result<Vec<usize>, TableFault>
         requires within { AreWithin (map placed_parts self.now.claims.now) picked.now }
@@ -180,11 +202,33 @@ impl Trial<'_> {
             return Ok(Vec::from_slice(self.alloc, picked)?);
         }
         let (front, back) = picked.split_at(picked.len() / 2);
-        let with_front = self.with_more(entry, front)?;
-        let behind = self.needed(&with_front, back)?;
-        let with_behind = self.with_more(entry, behind.as_slice())?;
-        let mut found = self.needed(&with_behind, front)?;
+        // (an entry is dropped in front of the next `?`, since a proof grows with each value that a `?` drops)
+        let behind = {
+            let with_front = self.with_more(entry, front)?;
+            self.needed(&with_front, back)
+        }?;
+        let found = {
+            let with_behind = self.with_more(entry, behind.as_slice())?;
+            self.needed(&with_behind, front)
+        };
+        let mut found = found?;
         found.extend_from_slice(behind.as_slice())?;
+        Ok(found)
+    }
+
+    // Those that are needed of the claims at these indices, which are enough.
+    fn needed_of(&self, picked: &[usize]) -> Result<Vec<usize>, TableFault>
+        requires enough { AreEnough self.now.name.now self.now.verdict
+            (map placed_parts self.now.claims.now) picked.now }
+        requires verdict { IsVerdict (Claimed (map placed_parts self.now.claims.now)
+            self.now.name.now) self.now.verdict }
+        ensures { IfOk result (λ found. AreFound self.now.name.now self.now.verdict
+            (map placed_parts self.now.claims.now) found.items) }
+    {
+        let found = {
+            let nothing = nothing(self.alloc)?;
+            self.needed(&nothing, picked)
+        }?;
         Ok(found)
     }
 
@@ -219,17 +263,15 @@ impl Trial<'_> {
         Ok(few)
     }
 
-    // The indices of claims that are enough: those that are hinted at, or all. The entry stands for no claim.
-    fn enough(&self, nothing: &Entry, hinted: &[usize]) -> Result<Vec<usize>, TableFault>
-        requires nothing { StandsFor self.now.name.now [] nothing.now }
+    // The indices of claims that are enough: those that are hinted at, or all.
+    fn enough(&self, hinted: &[usize]) -> Result<Vec<usize>, TableFault>
         requires verdict { IsVerdict (Claimed (map placed_parts self.now.claims.now)
             self.now.name.now) self.now.verdict }
         ensures { IfOk result (λ picked. AreEnough self.now.name.now self.now.verdict
             (map placed_parts self.now.claims.now) picked.items) }
     {
         let few = self.rising(hinted)?;
-        let demanded = self.with_more(nothing, few.as_slice())?;
-        if self.is_enough(&demanded)? {
+        if self.are_enough(few.as_slice())? {
             return Ok(few);
         }
         indices_below(self.alloc, self.claims.len())
@@ -280,14 +322,12 @@ impl Trial<'_> {
         ensures { IfOk result (λ found. AreFound self.now.name.now self.now.verdict
             (map placed_parts self.now.claims.now) found.items) }
     {
-        let nothing = PackageDemands::bare().entry(self.alloc)?;
-        let Hint { few, points } = self.hint()?;
-        let picked = self.enough(&nothing, few.as_slice())?;
-        if self.are_needed(picked.as_slice(), points.as_slice())? {
+        let hint = self.hint()?;
+        let picked = self.enough(hint.few.as_slice())?;
+        if self.are_needed(picked.as_slice(), hint.points.as_slice())? {
             return Ok(picked);
         }
-        let found = self.needed(&nothing, picked.as_slice())?;
-        Ok(found)
+        self.needed_of(picked.as_slice())
     }
 }
 

@@ -1,10 +1,9 @@
-use Rattle.std.proofs.Common.{◌∙◌, [], List, ℕ, ap, map, subst, sym}
+use Rattle.std.proofs.Common.{◌∙◌, List, ℕ, ap, map, subst, sym}
 use Rattle.std.proofs.lemmas.List.{length-map}
 use Rattle.std.proofs.lemmas.Result.{IfOk-weaker}
-use Rattle.reasons.specs.Way.ClashSearch.{AreEnough, StandsFor, indices}
+use Rattle.reasons.specs.Way.ClashSearch.{AreEnough, Clashing, indices}
 use Rattle.reasons.specs.View.{claims_at, placed_parts}
 use Rattle.reasons.proofs.ClashSteps.{all_enough, told_enough}
-use Rattle.reasons.proofs.PickedClaims.{at_among}
 use Rattle.reasons.proofs.clash.Trial.enough.Goals as goal
 
 pub returns-then-branch : goal.returns-then-branch
@@ -16,10 +15,9 @@ returns-then-branch c =
     record {
       within = c.in_ok-few.ensures.within;
       rising = c.in_ok-few.ensures.rising;
-      enough = told_enough name w (claims_at ps few) c.in_ok-is_enough.field-0 c.if-branch.true
-          (c.in_ok-is_enough.ensures (claims_at ps few) (at_among ps few c.in_ok-few.ensures.within)
-          (subst (λ (ks : List ℕ). StandsFor name (claims_at ps ks) c.in_ok-demanded.demanded)
-          c.as_slice.ensures.value (c.in_ok-demanded.ensures [] c.requires.nothing)));
+      enough = subst (λ (ks : List ℕ). Clashing name w (claims_at ps ks)) c.as_slice.ensures.value
+          (told_enough name w (claims_at ps c.as_slice.result.now) c.in_ok-are_enough.field-0 c.if-branch.true
+          c.in_ok-are_enough.ensures);
     }
 
 pub returns : goal.returns
