@@ -1,4 +1,4 @@
-//! Lines of rows that are compared.
+//! Assertions about rows of tables.
 
 use std::process::Abort;
 

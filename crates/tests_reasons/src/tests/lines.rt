@@ -1,4 +1,4 @@
-//! Rows that are compared.
+//! Assertions about rows of tables.
 
 use std::process::Abort;
 

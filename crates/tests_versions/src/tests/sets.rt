@@ -100,6 +100,11 @@ const HELD: [(&str, &str); 11] = [
     ("0.0.dev0", "the second"),
 ];
 
+fn holds(alloc: Global, clause: &str, version: &str) -> Result<bool, ClauseFault> {
+    let key = Key::of(alloc, &Version::read(alloc, version)?)?;
+    Ok(set(alloc, clause)?.contains(&key))
+}
+
 // Which of the sets of two clauses holds the version of a row.
 struct HoldingSet;
 
@@ -107,9 +112,7 @@ impl Kind for HoldingSet {
     type Fault = ClauseFault;
 
     fn line(&self, alloc: Global, row: &str) -> Result<String, ClauseFault> {
-        let key = Key::of(alloc, &Version::read(alloc, row)?)?;
-        let (from, below) = (set(alloc, ">=1.0")?, set(alloc, "<1.0")?);
-        let told = match (from.contains(&key), below.contains(&key)) {
+        let told = match (holds(alloc, ">=1.0", row)?, holds(alloc, "<1.0", row)?) {
             (true, true) => "both",
             (true, false) => "the first",
             (false, true) => "the second",
@@ -300,11 +303,21 @@ fn uses_up_lists(rt: HostRuntime) -> Result<(), ClauseFault> {
     Ok(())
 }
 
+fn differ(alloc: Global, above: &str, below: &str) -> Result<bool, ClauseFault> {
+    let above = set(alloc, above)?;
+    Ok(above != set(alloc, below)?)
+}
+
+fn set_of_both(alloc: Global, above: &str, below: &str) -> Result<VersionSet, ClauseFault> {
+    let above = set(alloc, above)?;
+    above.joined(alloc, &set(alloc, below)?)
+}
+
 // The ranges of the join of two sets, whether it is that of none, and whether the two differ.
 fn between_line(alloc: Global, above: &str, below: &str) -> Result<String, ClauseFault> {
-    let (above, below) = (set(alloc, above)?, set(alloc, below)?);
-    let both = above.joined(alloc, &below)?;
-    let (is_none, differ) = (both == VersionSet::none(alloc), above != below);
+    let differ = differ(alloc, above, below)?;
+    let both = set_of_both(alloc, above, below)?;
+    let is_none = both == VersionSet::none(alloc);
     let ranges = shown(alloc, &both)?;
     Ok(format!(in alloc; "{ranges} {is_none} {differ}")?)
 }
@@ -495,19 +508,36 @@ fn is_common(
     Ok(common == *both)
 }
 
+fn is_joined_in_place(
+    alloc: Global,
+    (first, second): (&VersionSet, &VersionSet),
+    both: &VersionSet,
+) -> Result<bool, ClauseFault> {
+    let mut joined = first.copied(alloc)?;
+    joined.join(alloc, second)?;
+    Ok(joined == *both)
+}
+
 // Asserts what three ways of joining the sets of two clauses give.
 fn expect_joins(
+    rt: &(impl Abort + AllocGlobal),
+    (first, second): (&VersionSet, &VersionSet),
+    keys: &[Key],
+) -> Result<(), ClauseFault> {
+    let both = first.joined(rt.alloc(), second)?;
+    expect_joined(rt, (first, second), &both, keys);
+    assert!(rt; is_common(rt.alloc(), (first, second), &both)?);
+    assert!(rt; is_joined_in_place(rt.alloc(), (first, second), &both)?);
+    Ok(())
+}
+
+fn expect_joins_of(
     rt: &(impl Abort + AllocGlobal),
     (first, second): (&str, &str),
     keys: &[Key],
 ) -> Result<(), ClauseFault> {
-    let (mut first, second) = (set(rt.alloc(), first)?, set(rt.alloc(), second)?);
-    let both = first.joined(rt.alloc(), &second)?;
-    expect_joined(rt, (&first, &second), &both, keys);
-    assert!(rt; is_common(rt.alloc(), (&first, &second), &both)?);
-    first.join(rt.alloc(), &second)?;
-    assert!(rt; first == both);
-    Ok(())
+    let (first, second) = (set(rt.alloc(), first)?, set(rt.alloc(), second)?);
+    expect_joins(rt, (&first, &second), keys)
 }
 
 const PAIRS: [(&str, &str); 3] = [
@@ -520,7 +550,7 @@ const PAIRS: [(&str, &str); 3] = [
 fn joined_sets_hold_what_both_hold(rt: HostRuntime) -> Result<(), ClauseFault> {
     let keys = keys(rt.alloc())?;
     for &pair in &PAIRS {
-        expect_joins(&rt, pair, keys.as_slice())?;
+        expect_joins_of(&rt, pair, keys.as_slice())?;
     }
     Ok(())
 }
