@@ -109,8 +109,8 @@ fn begun(alloc: Global, entry: &Entry) -> Result<PackageDemands, TableFault>
     Ok(demands)
 }
 
-// What no claims demand.
-fn nothing(alloc: Global) -> Result<Entry, TableFault>
+// The entry of what no claims demand.
+fn bare_entry(alloc: Global) -> Result<Entry, TableFault>
     ensures { IfOk result (λ e. e ≡ bare_entry) }
 {
     PackageDemands::bare().entry(alloc)
@@ -174,9 +174,10 @@ impl Trial<'_> {
         ensures { IfOk result (λ b. IsTold self.now.name.now self.now.verdict
             (claims_at (map placed_parts self.now.claims.now) few.now) b) }
     {
+        // Each entry is dropped at the end of its block. What a later `?` would have to drop makes the proof longer.
         let demanded = {
-            let nothing = nothing(self.alloc)?;
-            self.with_more(&nothing, few)
+            let bare = bare_entry(self.alloc)?;
+            self.with_more(&bare, few)
         }?;
         self.is_enough(&demanded)
     }
@@ -202,32 +203,31 @@ impl Trial<'_> {
             return Ok(Vec::from_slice(self.alloc, picked)?);
         }
         let (front, back) = picked.split_at(picked.len() / 2);
-        // (an entry is dropped in front of the next `?`, since a proof grows with each value that a `?` drops)
         let behind = {
             let with_front = self.with_more(entry, front)?;
             self.needed(&with_front, back)
         }?;
-        let found = {
+        let mut found = {
             let with_behind = self.with_more(entry, behind.as_slice())?;
             self.needed(&with_behind, front)
-        };
-        let mut found = found?;
+        }?;
         found.extend_from_slice(behind.as_slice())?;
         Ok(found)
     }
 
-    // Those that are needed of the claims at these indices, which are enough.
-    fn needed_of(&self, picked: &[usize]) -> Result<Vec<usize>, TableFault>
+    // Some of the claims at these indices, which are enough: they are enough too, and each of them is needed.
+    fn least_of(&self, picked: &[usize]) -> Result<Vec<usize>, TableFault>
         requires enough { AreEnough self.now.name.now self.now.verdict
             (map placed_parts self.now.claims.now) picked.now }
         requires verdict { IsVerdict (Claimed (map placed_parts self.now.claims.now)
             self.now.name.now) self.now.verdict }
-        ensures { IfOk result (λ found. AreFound self.now.name.now self.now.verdict
+        ensures picked { IfOk result (λ found. ArePicked found.items picked.now) }
+        ensures found { IfOk result (λ found. AreFound self.now.name.now self.now.verdict
             (map placed_parts self.now.claims.now) found.items) }
     {
         let found = {
-            let nothing = nothing(self.alloc)?;
-            self.needed(&nothing, picked)
+            let bare = bare_entry(self.alloc)?;
+            self.needed(&bare, picked)
         }?;
         Ok(found)
     }
@@ -327,7 +327,7 @@ impl Trial<'_> {
         if self.are_needed(picked.as_slice(), hint.points.as_slice())? {
             return Ok(picked);
         }
-        self.needed_of(picked.as_slice())
+        self.least_of(picked.as_slice())
     }
 }
 

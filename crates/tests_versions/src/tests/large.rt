@@ -30,13 +30,13 @@ fn sets_of_many_ranges(rt: HostRuntime) -> Result<(), ClauseFault> {
     Ok(())
 }
 
-// The set of both, the second joined to the first.
-fn join_of(alloc: Global, first: u32, second: u32) -> Result<VersionSet, ClauseFault> {
-    let joined = without_each_second(alloc, first)?;
-    joined.joined(alloc, &without_each_second(alloc, second)?)
+// The join of two sets that leave out every second number, each from its own first one on.
+fn join_of(alloc: Global, first: u32, other: u32) -> Result<VersionSet, ClauseFault> {
+    let set = without_each_second(alloc, first)?;
+    set.joined(alloc, &without_each_second(alloc, other)?)
 }
 
-// Its ranges: from what lies behind one of the numbers to the next.
+// The ranges of such a join: from what lies behind one of the numbers to the next.
 fn ranges_of_joins(alloc: Global) -> Result<String, AllocError> {
     let mut text = String::from_str(alloc, "[before 0.dev0")?;
     for number in 1..201 {

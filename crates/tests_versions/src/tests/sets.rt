@@ -508,17 +508,16 @@ fn is_common(
     Ok(common == *both)
 }
 
-fn is_joined_in_place(
+fn joined_in_place(
     alloc: Global,
-    (first, second): (&VersionSet, &VersionSet),
-    both: &VersionSet,
-) -> Result<bool, ClauseFault> {
-    let mut joined = first.copied(alloc)?;
-    joined.join(alloc, second)?;
-    Ok(joined == *both)
+    (first, second): (&str, &str),
+) -> Result<VersionSet, ClauseFault> {
+    let mut joined = set(alloc, first)?;
+    joined.join(alloc, &set(alloc, second)?)?;
+    Ok(joined)
 }
 
-// Asserts what three ways of joining the sets of two clauses give.
+// Asserts what two ways of joining two sets give.
 fn expect_joins(
     rt: &(impl Abort + AllocGlobal),
     (first, second): (&VersionSet, &VersionSet),
@@ -527,16 +526,18 @@ fn expect_joins(
     let both = first.joined(rt.alloc(), second)?;
     expect_joined(rt, (first, second), &both, keys);
     assert!(rt; is_common(rt.alloc(), (first, second), &both)?);
-    assert!(rt; is_joined_in_place(rt.alloc(), (first, second), &both)?);
     Ok(())
 }
 
+// Asserts what three ways of joining the sets of two clauses give.
 fn expect_joins_of(
     rt: &(impl Abort + AllocGlobal),
-    (first, second): (&str, &str),
+    pair: (&str, &str),
     keys: &[Key],
 ) -> Result<(), ClauseFault> {
-    let (first, second) = (set(rt.alloc(), first)?, set(rt.alloc(), second)?);
+    let joined = joined_in_place(rt.alloc(), pair)?;
+    assert!(rt; joined == set_of_both(rt.alloc(), pair.0, pair.1)?);
+    let (first, second) = (set(rt.alloc(), pair.0)?, set(rt.alloc(), pair.1)?);
     expect_joins(rt, (&first, &second), keys)
 }
 

@@ -13,5 +13,5 @@ returns c =
     let few = c.args.few.now in
     IfOk-weaker c.is_enough.result _ _ (λ b told.
     told (claims_at ps few) (at_among ps few c.requires.within)
-    (c.in_ok-demanded.ensures [] (subst (StandsFor name []) (sym c.in_ok-nothing.ensures)
+    (c.in_ok-demanded.ensures [] (subst (StandsFor name []) (sym c.in_ok-bare.ensures)
     (nothing_stands name)))) c.is_enough.ensures

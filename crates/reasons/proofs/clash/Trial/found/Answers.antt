@@ -3,8 +3,8 @@ use Rattle.reasons.specs.Way.ClashSearch.{AreEnough, AreNeeded}
 use Rattle.reasons.specs.View.{claims_at, placed_parts}
 use Rattle.reasons.proofs.clash.Trial.found.Goals as goal
 
-pub needed_of-requires-clause-enough : goal.needed_of-requires-clause-enough
-needed_of-requires-clause-enough c =
+pub least_of-requires-clause-enough : goal.least_of-requires-clause-enough
+least_of-requires-clause-enough c =
     subst (AreEnough c.args.self.now.name.now c.args.self.now.verdict
     (map placed_parts c.args.self.now.claims.now)) (sym c.as_slice-4.ensures.value)
     c.in_ok-picked.ensures
