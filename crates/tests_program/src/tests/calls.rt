@@ -2,42 +2,61 @@
 
 use crate::tests::lines::{expect_line, expect_row};
 use pep_marker::{Environment, Name};
-use pep_require::{RequireFault, Requirement};
-use pep_table::Answer;
+use pep_require::Requirement;
+use pep_table::{Answer, Table};
 use pep_tool::{
-    ArgumentFault, Cause, Fault, Input, Kind, ProjectFile, check_bytes, list_of, merge_bytes,
-    project_of, text_of_line,
+    ArgumentFault, Fault, Input, Kind, ProjectFile, check_bytes, list_of, merge_bytes, project_of,
+    text_of_line,
 };
 use pep_version::Version;
-use std::alloc::{AllocError, Global};
-use std::test::Fail;
+use std::process::Abort;
 use tests_kit::{MACHINE, MACHINE_HEADER, STANDARD_HEADER};
 
 /// An input's kind and its text.
 pub(crate) type Part<'a> = (Kind, &'a str);
 
 /// The environment of the machine.
-pub(crate) fn machine(alloc: Global) -> Result<Environment, Fault> {
-    Environment::of(alloc, &MACHINE).map_err(|_| Fault::no_memory())
+pub(crate) fn machine(rt: &(impl Abort + AllocGlobal)) -> Environment {
+    Environment::of(rt.alloc(), &MACHINE).expect(rt, "the machine")
 }
 
 // The input of a kind and a text.
-fn input_of(alloc: Global, kind: Kind, text: &str) -> Result<Input, AllocError> {
-    let bytes = Vec::from_slice(alloc, text.as_bytes())?;
-    Ok(Input {
+fn input_of(rt: &(impl Abort + AllocGlobal), kind: Kind, text: &str) -> Input {
+    let bytes = Vec::from_slice(rt.alloc(), text.as_bytes()).expect(rt, "room for bytes");
+    Input {
         kind,
         bytes,
         group: None,
-    })
+    }
 }
 
 /// The inputs of these kinds and texts.
-pub(crate) fn inputs_of(alloc: Global, parts: &[Part]) -> Result<Vec<Input>, AllocError> {
-    let mut inputs = Vec::new(alloc);
+pub(crate) fn inputs_of(rt: &(impl Abort + AllocGlobal), parts: &[Part]) -> Vec<Input> {
+    let mut inputs = Vec::new(rt.alloc());
     for &(kind, text) in parts {
-        inputs.push(input_of(alloc, kind, text)?)?;
+        inputs
+            .push(input_of(rt, kind, text))
+            .expect(rt, "room for an input");
     }
-    Ok(inputs)
+    inputs
+}
+
+/// The table of a list on the machine.
+pub(crate) fn table_of(rt: &(impl Abort + AllocGlobal), list: &str) -> Table {
+    let requirements = list_of(rt.alloc(), list.as_bytes()).expect(rt, "requirements");
+    let table = Table::of(rt.alloc(), requirements.as_slice(), &machine(rt));
+    table.expect(rt, "a table")
+}
+
+// What stands behind the header of the machine, owned.
+fn owned_lines(rt: &(impl Abort + AllocGlobal), text: &str) -> String {
+    String::from_str(rt.alloc(), lines_behind(text)).expect(rt, "room for lines")
+}
+
+/// What stands behind the header of the machine in the text of the table.
+pub(crate) fn lines_of(rt: &(impl Abort + AllocGlobal), table: &Table) -> String {
+    let text = table.text(rt.alloc(), &machine(rt));
+    owned_lines(rt, text.expect(rt, "the text of a table").as_str())
 }
 
 /// What stands behind the header of the machine in the text of a table.
@@ -46,22 +65,30 @@ pub(crate) fn lines_behind(text: &str) -> &str {
 }
 
 /// What stands there in the text, or the line of the fault.
-pub(crate) fn lines_or_fault(alloc: Global, found: Result<String, Fault>) -> Result<String, Fault> {
+pub(crate) fn lines_or_fault(
+    rt: &(impl Abort + AllocGlobal),
+    found: Result<String, Fault>,
+) -> String {
     match found {
-        Ok(text) => Ok(String::from_str(alloc, lines_behind(text.as_str()))?),
-        Err(fault) => fault.text(alloc),
+        Ok(text) => owned_lines(rt, text.as_str()),
+        Err(fault) => fault_text(rt, &fault),
     }
 }
 
+/// The line that tells a fault to a program.
+pub(crate) fn fault_text(rt: &(impl Abort + AllocGlobal), fault: &Fault) -> String {
+    fault.text(rt.alloc()).expect(rt, "the line of a fault")
+}
+
 // The table of the inputs on the machine.
-fn merged(alloc: Global, inputs: &[Input]) -> Result<String, Fault> {
-    merge_bytes(alloc, inputs, &machine(alloc)?)
+fn merged(rt: &(impl Abort + AllocGlobal), inputs: &[Input]) -> Result<String, Fault> {
+    merge_bytes(rt.alloc(), inputs, &machine(rt))
 }
 
 // Its lines, or the line of the fault.
-fn table_line(alloc: Global, parts: &[Part]) -> Result<String, Fault> {
-    let inputs = inputs_of(alloc, parts)?;
-    lines_or_fault(alloc, merged(alloc, inputs.as_slice()))
+fn table_line(rt: &(impl Abort + AllocGlobal), parts: &[Part]) -> String {
+    let inputs = inputs_of(rt, parts);
+    lines_or_fault(rt, merged(rt, inputs.as_slice()))
 }
 
 const LIST: Part = (Kind::List, "Flask!=2.1\n");
@@ -94,46 +121,54 @@ const TABLES: [(&[Part], &str); 5] = [
     (&[TABLE, FAULTY], "refused input 2 line 2 code 57 33 12\n"),
 ];
 
-#[test]
-fn tables(rt: HostRuntime) -> Result<(), Fail> {
-    for &(parts, want) in &TABLES {
-        let found = table_line(rt.alloc(), parts)?;
-        expect_line(&rt, found.as_str(), want);
+// Asserts the table of each row.
+fn expect_tables(rt: &(impl Abort + AllocGlobal), rows: &[(&[Part], &str)]) {
+    for &(parts, want) in rows {
+        let found = table_line(rt, parts);
+        expect_line(rt, found.as_str(), want);
     }
-    Ok(())
+}
+
+#[test]
+fn tables(rt: HostRuntime) {
+    expect_tables(&rt, &TABLES);
 }
 
 // Whether the version of flask meets what the inputs demand on the machine.
 fn flask_meets(
-    alloc: Global,
+    rt: &(impl Abort + AllocGlobal),
     inputs: &[Input],
     version: &Version,
     want_pre: bool,
 ) -> Result<Answer, Fault> {
-    let Ok(name) = Name::read(alloc, "Flask") else {
-        return Err(Fault::no_memory());
-    };
-    check_bytes(alloc, inputs, &machine(alloc)?, &name, version, want_pre)
+    let name = Name::read(rt.alloc(), "Flask").expect(rt, "a name");
+    let machine = machine(rt);
+    check_bytes(rt.alloc(), inputs, &machine, &name, version, want_pre)
 }
 
-fn answer(alloc: Global, parts: &[Part], version: &str, want_pre: bool) -> Result<Answer, Fault> {
-    let inputs = inputs_of(alloc, parts)?;
-    match Version::read(alloc, version) {
-        Ok(version) => flask_meets(alloc, inputs.as_slice(), &version, want_pre),
+fn answer(
+    rt: &(impl Abort + AllocGlobal),
+    parts: &[Part],
+    version: &str,
+    want_pre: bool,
+) -> Result<Answer, Fault> {
+    let inputs = inputs_of(rt, parts);
+    match Version::read(rt.alloc(), version) {
+        Ok(version) => flask_meets(rt, inputs.as_slice(), &version, want_pre),
         Err(fault) => Err(Fault::of_argument(ArgumentFault::Version(fault))),
     }
 }
 
 // The same as it is written, or the line of the fault.
 fn answer_line(
-    alloc: Global,
+    rt: &(impl Abort + AllocGlobal),
     parts: &[Part],
     version: &str,
     want_pre: bool,
-) -> Result<String, Fault> {
-    match answer(alloc, parts, version, want_pre) {
-        Ok(answer) => Ok(format!(in alloc; "{answer:?}")?),
-        Err(fault) => fault.text(alloc),
+) -> String {
+    match answer(rt, parts, version, want_pre) {
+        Ok(answer) => format!(in rt.alloc(); "{answer:?}").expect(rt, "room for an answer"),
+        Err(fault) => fault_text(rt, &fault),
     }
 }
 
@@ -158,31 +193,42 @@ const ANSWERS: [(&[Part], &str, bool, &str); 8] = [
     ),
 ];
 
-#[test]
-fn answers(rt: HostRuntime) -> Result<(), Fail> {
-    for &(parts, version, want_pre, want) in &ANSWERS {
-        let found = answer_line(rt.alloc(), parts, version, want_pre)?;
-        expect_line(&rt, found.as_str(), want);
+// Asserts the answer of each row.
+fn expect_answers(rt: &(impl Abort + AllocGlobal), rows: &[(&[Part], &str, bool, &str)]) {
+    for &(parts, version, want_pre, want) in rows {
+        let found = answer_line(rt, parts, version, want_pre);
+        expect_line(rt, found.as_str(), want);
     }
-    Ok(())
+}
+
+#[test]
+fn answers(rt: HostRuntime) {
+    expect_answers(&rt, &ANSWERS);
+}
+
+// Appends a line.
+fn push_line(rt: &impl Abort, text: &mut String, line: &str) {
+    text.push_str(line).expect(rt, "room for a line");
+    text.push_str("\n").expect(rt, "room for a line feed");
 }
 
 // The texts of the requirements, one a line.
-fn lines(alloc: Global, requirements: &[Requirement]) -> Result<String, RequireFault> {
-    let mut text = String::new(alloc);
+fn lines(rt: &(impl Abort + AllocGlobal), requirements: &[Requirement]) -> String {
+    let mut text = String::new(rt.alloc());
     for requirement in requirements {
-        let line = requirement.text(alloc)?;
-        text.push_str(line.as_str())?;
-        text.push_str("\n")?;
+        let line = requirement
+            .text(rt.alloc())
+            .expect(rt, "the text of a requirement");
+        push_line(rt, &mut text, line.as_str());
     }
-    Ok(text)
+    text
 }
 
 // The same, or the line of the fault.
-fn texts(alloc: Global, requirements: Result<Vec<Requirement>, Fault>) -> Result<String, Fault> {
+fn texts(rt: &(impl Abort + AllocGlobal), requirements: Result<Vec<Requirement>, Fault>) -> String {
     match requirements {
-        Ok(requirements) => lines(alloc, requirements.as_slice()).map_err(|_| Fault::no_memory()),
-        Err(fault) => fault.text(alloc),
+        Ok(requirements) => lines(rt, requirements.as_slice()),
+        Err(fault) => fault_text(rt, &fault),
     }
 }
 
@@ -195,17 +241,16 @@ const LISTS: [(&str, &str); 3] = [
     ("a\nb>=\n-c\n", "refused input 1 line 2 code 57 33 12\n"),
 ];
 
-fn list_line(alloc: Global, list: &str) -> Result<String, Fault> {
-    texts(alloc, list_of(alloc, list.as_bytes()))
+fn list_line(rt: &(impl Abort + AllocGlobal), list: &str) -> String {
+    texts(rt, list_of(rt.alloc(), list.as_bytes()))
 }
 
 #[test]
-fn requirements_of_lists(rt: HostRuntime) -> Result<(), Fail> {
+fn requirements_of_lists(rt: HostRuntime) {
     for &(list, want) in &LISTS {
-        let found = list_line(rt.alloc(), list)?;
+        let found = list_line(&rt, list);
         expect_line(&rt, found.as_str(), want);
     }
-    Ok(())
 }
 
 const TWO_ARRAYS: &str = "project.optional-dependencies = {x = ['a<2', 'b'], 'Y.z' = ['a<3']}\n\
@@ -230,17 +275,16 @@ const PROJECTS: [(&str, &str, &str); 7] = [
     ("", "x", "refused input 1 code 53\n"),
 ];
 
-fn project_line(alloc: Global, project: &str, extra: &str) -> Result<String, Fault> {
-    texts(alloc, project_of(alloc, project.as_bytes(), extra, None))
+fn project_line(rt: &(impl Abort + AllocGlobal), project: &str, extra: &str) -> String {
+    texts(rt, project_of(rt.alloc(), project.as_bytes(), extra, None))
 }
 
 #[test]
-fn requirements_of_projects(rt: HostRuntime) -> Result<(), Fail> {
+fn requirements_of_projects(rt: HostRuntime) {
     for &(project, extra, want) in &PROJECTS {
-        let found = project_line(rt.alloc(), project, extra)?;
+        let found = project_line(&rt, project, extra);
         expect_row(&rt, project, found.as_str(), want);
     }
-    Ok(())
 }
 
 // An extra, and the texts that a file is asked for with it, each on a line.
@@ -250,23 +294,22 @@ const ASKED: [(&str, &str); 3] = [
     ("Y_z", "a>=1\na<3\n"),
 ];
 
-fn asked_lines(alloc: Global, file: &ProjectFile, extra: &str) -> Result<String, Cause> {
-    let mut lines = String::new(alloc);
-    for text in file.texts(alloc, extra, None)?.as_slice() {
-        lines.push_str(text)?;
-        lines.push_str("\n")?;
+fn asked_lines(rt: &(impl Abort + AllocGlobal), file: &ProjectFile, extra: &str) -> String {
+    let texts = file.texts(rt.alloc(), extra, None).expect(rt, "texts");
+    let mut lines = String::new(rt.alloc());
+    for text in texts.as_slice() {
+        push_line(rt, &mut lines, text);
     }
-    Ok(lines)
+    lines
 }
 
 #[test]
-fn texts_of_a_file(rt: HostRuntime) -> Result<(), Fail> {
-    let file = ProjectFile::read(rt.alloc(), TWO_ARRAYS.as_bytes())?;
+fn texts_of_a_file(rt: HostRuntime) {
+    let file = ProjectFile::read(rt.alloc(), TWO_ARRAYS.as_bytes()).expect(&rt, "a project file");
     for &(extra, want) in &ASKED {
-        let found = asked_lines(rt.alloc(), &file, extra)?;
+        let found = asked_lines(&rt, &file, extra);
         expect_row(&rt, extra, found.as_str(), want);
     }
-    Ok(())
 }
 
 // Lines of lists, and the texts of their requirements.
@@ -315,21 +358,18 @@ const GROUPS: [(&str, &str, &str); 4] = [
     ),
 ];
 
-fn group_line(alloc: Global, project: &str, group: &str) -> Result<String, Fault> {
-    let Ok(group) = Name::read(alloc, group) else {
-        return Err(Fault::no_memory());
-    };
+fn group_line(rt: &(impl Abort + AllocGlobal), project: &str, group: &str) -> String {
+    let group = Name::read(rt.alloc(), group).expect(rt, "a name");
     texts(
-        alloc,
-        project_of(alloc, project.as_bytes(), "", Some(&group)),
+        rt,
+        project_of(rt.alloc(), project.as_bytes(), "", Some(&group)),
     )
 }
 
 #[test]
-fn requirements_of_groups(rt: HostRuntime) -> Result<(), Fail> {
+fn requirements_of_groups(rt: HostRuntime) {
     for &(project, group, want) in &GROUPS {
-        let found = group_line(rt.alloc(), project, group)?;
+        let found = group_line(&rt, project, group);
         expect_row(&rt, project, found.as_str(), want);
     }
-    Ok(())
 }

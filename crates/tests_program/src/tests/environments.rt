@@ -4,7 +4,7 @@ use crate::tests::lines::expect_row;
 use pep_marker::Environment;
 use pep_tool::environment_of;
 use std::alloc::{AllocError, Global};
-use std::test::Fail;
+use std::process::Abort;
 use tests_kit::MACHINE;
 
 // What a variable is read as.
@@ -20,23 +20,29 @@ fn value_of(
 }
 
 // The same, or what the file is refused for.
-fn value_line(alloc: Global, file: &str, variable: &str) -> Result<String, AllocError> {
-    match environment_of(alloc, file.as_bytes()) {
-        Ok(environment) => value_of(alloc, &environment, variable),
-        Err(fault) => format!(in alloc; "{fault}"),
-    }
+fn value_line(rt: &(impl Abort + AllocGlobal), file: &str, variable: &str) -> String {
+    let line = match environment_of(rt.alloc(), file.as_bytes()) {
+        Ok(environment) => value_of(rt.alloc(), &environment, variable),
+        Err(fault) => format!(in rt.alloc(); "{fault}"),
+    };
+    line.expect(rt, "room for a line")
+}
+
+// Appends a variable.
+fn push_variable(rt: &(impl Abort + AllocGlobal), file: &mut String, variable: &str, value: &str) {
+    let line = format!(in rt.alloc(); "\n{variable} = '{value}'").expect(rt, "room for a line");
+    file.push_str(line.as_str()).expect(rt, "room for a line");
 }
 
 // A text, and behind it the variables of the machine but this one.
-fn file(alloc: Global, text: &str, left_out: &str) -> Result<String, AllocError> {
-    let mut file = String::from_str(alloc, text)?;
+fn file(rt: &(impl Abort + AllocGlobal), text: &str, left_out: &str) -> String {
+    let mut file = String::from_str(rt.alloc(), text).expect(rt, "room for a text");
     for &(variable, value) in &MACHINE {
         if variable != left_out {
-            let line = format!(in alloc; "\n{variable} = '{value}'")?;
-            file.push_str(line.as_str())?;
+            push_variable(rt, &mut file, variable, value);
         }
     }
-    Ok(file)
+    file
 }
 
 // The extra, which may be missing, and names that no variable has.
@@ -51,18 +57,22 @@ const OTHERS: [(&str, &str); 8] = [
     ("os_name ", "none"),
 ];
 
-#[test]
-fn values(rt: HostRuntime) -> Result<(), Fail> {
-    let file = file(rt.alloc(), "", "")?;
+// The variables of the machine have their values.
+fn expect_machine(rt: &(impl Abort + AllocGlobal), file: &str) {
     for &(variable, value) in &MACHINE {
-        let found = value_line(rt.alloc(), file.as_str(), variable)?;
+        let found = value_line(rt, file, variable);
         assert!(rt; found.as_str().strip_prefix("= ") == Some(value));
     }
+}
+
+#[test]
+fn values(rt: HostRuntime) {
+    let file = file(&rt, "", "");
+    expect_machine(&rt, file.as_str());
     for &(name, want) in &OTHERS {
-        let found = value_line(rt.alloc(), file.as_str(), name)?;
+        let found = value_line(&rt, file.as_str(), name);
         expect_row(&rt, name, found.as_str(), want);
     }
-    Ok(())
 }
 
 // The front of a file, a variable that stands nowhere else, and what it is read as.
@@ -95,18 +105,17 @@ const FORMS: [(&str, &str, &str); 16] = [
 ];
 
 // What a variable is read as that stands in the text alone.
-fn form_line(alloc: Global, text: &str, variable: &str) -> Result<String, AllocError> {
-    let file = file(alloc, text, variable)?;
-    value_line(alloc, file.as_str(), variable)
+fn form_line(rt: &(impl Abort + AllocGlobal), text: &str, variable: &str) -> String {
+    let file = file(rt, text, variable);
+    value_line(rt, file.as_str(), variable)
 }
 
 #[test]
-fn forms(rt: HostRuntime) -> Result<(), Fail> {
+fn forms(rt: HostRuntime) {
     for &(text, variable, want) in &FORMS {
-        let found = form_line(rt.alloc(), text, variable)?;
+        let found = form_line(&rt, text, variable);
         expect_row(&rt, text, found.as_str(), want);
     }
-    Ok(())
 }
 
 // What is told of a missing variable, before its name and behind it.
@@ -120,12 +129,11 @@ fn missing(told: &str) -> Option<&str> {
 }
 
 #[test]
-fn missing_variables(rt: HostRuntime) -> Result<(), Fail> {
+fn missing_variables(rt: HostRuntime) {
     for &(variable, _) in &MACHINE {
-        let found = form_line(rt.alloc(), "extra = ''", variable)?;
+        let found = form_line(&rt, "extra = ''", variable);
         assert!(rt; missing(found.as_str()) == Some(variable));
     }
-    Ok(())
 }
 
 // Files, and the first missing variable in the order of the variables.
@@ -136,10 +144,9 @@ const FIRST_MISSING: [(&str, &str); 3] = [
 ];
 
 #[test]
-fn first_missing_variables(rt: HostRuntime) -> Result<(), Fail> {
+fn first_missing_variables(rt: HostRuntime) {
     for &(file, variable) in &FIRST_MISSING {
-        let found = value_line(rt.alloc(), file, "")?;
+        let found = value_line(&rt, file, "");
         assert!(rt; missing(found.as_str()) == Some(variable));
     }
-    Ok(())
 }

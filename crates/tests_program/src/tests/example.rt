@@ -5,7 +5,7 @@ use crate::tests::lines::expect_line;
 use pep_marker::Environment;
 use pep_tool::{Fault, Input, Kind, merge_bytes};
 use std::alloc::Global;
-use std::test::Fail;
+use std::process::Abort;
 
 fn merged(alloc: Global, list: &str, environment: &Environment) -> Result<String, Fault> {
     let bytes = Vec::from_slice(alloc, list.as_bytes())?;
@@ -15,8 +15,8 @@ fn merged(alloc: Global, list: &str, environment: &Environment) -> Result<String
 }
 
 // The lines of the table of a list on the machine, or the line of the fault.
-fn merged_line(alloc: Global, list: &str) -> Result<String, Fault> {
-    lines_or_fault(alloc, merged(alloc, list, &machine(alloc)?))
+fn merged_line(rt: &(impl Abort + AllocGlobal), list: &str) -> String {
+    lines_or_fault(rt, merged(rt.alloc(), list, &machine(rt)))
 }
 
 const EXAMPLES: [(&str, &str); 2] = [
@@ -31,10 +31,9 @@ const EXAMPLES: [(&str, &str); 2] = [
 ];
 
 #[test]
-fn example(rt: HostRuntime) -> Result<(), Fail> {
+fn example(rt: HostRuntime) {
     for &(list, want) in &EXAMPLES {
-        let found = merged_line(rt.alloc(), list)?;
+        let found = merged_line(&rt, list);
         expect_line(&rt, found.as_str(), want);
     }
-    Ok(())
 }

@@ -1,5 +1,6 @@
 //! Codes of the faults of a run, and their texts.
 
+use crate::tests::calls::fault_text;
 use crate::tests::lines::expect_line;
 use pep_clause::ClauseFault;
 use pep_marker::MarkerFault;
@@ -8,7 +9,7 @@ use pep_tool::{ArgumentFault, Cause, Failed, Fault, LineFault, OpenFault, Place}
 use pep_version::VersionFault;
 use std::alloc::{AllocError, Global};
 use std::fmt::Display;
-use std::test::Fail;
+use std::process::Abort;
 use tests_requirements::REQUIRE_FAULTS;
 
 // A fault of a line: its code, the code inside it and its text.
@@ -31,17 +32,20 @@ const OF_LINES: [(LineFault, &str); 4] = [
     (LineFault::OtherEnvironment, "43 of another environment"),
 ];
 
+// Asserts what a fault of a line is told as.
+fn expect_line_fault(rt: &(impl Abort + AllocGlobal), fault: LineFault, want: &str) {
+    let found = line_fault_line(rt.alloc(), fault).expect(rt, "room for a line");
+    expect_line(rt, found.as_str(), want);
+}
+
 #[test]
-fn faults_of_lines(rt: HostRuntime) -> Result<(), Fail> {
+fn faults_of_lines(rt: HostRuntime) {
     for &(fault, want) in &REQUIRE_FAULTS {
-        let found = line_fault_line(rt.alloc(), LineFault::from(fault))?;
-        expect_line(&rt, found.as_str(), want);
+        expect_line_fault(&rt, LineFault::from(fault), want);
     }
     for &(fault, want) in &OF_LINES {
-        let found = line_fault_line(rt.alloc(), fault)?;
-        expect_line(&rt, found.as_str(), want);
+        expect_line_fault(&rt, fault, want);
     }
-    Ok(())
 }
 
 // A cause: its code and its text.
@@ -78,19 +82,23 @@ const CAUSES: [(Cause, &str); 17] = [
     (Cause::Line(1, LineFault::NotUtf8), "57 line 1: not UTF-8"),
 ];
 
-#[test]
-fn causes(rt: HostRuntime) -> Result<(), Fail> {
-    for (cause, want) in &CAUSES {
-        let found = cause_line(rt.alloc(), cause)?;
-        expect_line(&rt, found.as_str(), want);
+// Asserts what each cause is told as.
+fn expect_causes(rt: &(impl Abort + AllocGlobal), rows: &[(Cause, &str)]) {
+    for (cause, want) in rows {
+        let found = cause_line(rt.alloc(), cause).expect(rt, "room for a line");
+        expect_line(rt, found.as_str(), want);
     }
-    Ok(())
+}
+
+#[test]
+fn causes(rt: HostRuntime) {
+    expect_causes(&rt, &CAUSES);
 }
 
 // A fault: the line that tells it to a program, and behind it what people are told.
-fn fault_line(alloc: Global, fault: &Fault) -> Result<String, Fault> {
-    let line = fault.text(alloc)?;
-    Ok(format!(in alloc; "{line}{fault}")?)
+fn fault_line(rt: &(impl Abort + AllocGlobal), fault: &Fault) -> String {
+    let line = fault_text(rt, fault);
+    format!(in rt.alloc(); "{line}{fault}").expect(rt, "room for a line")
 }
 
 const BAD_VERSION: LineFault = LineFault::Requirement(RequireFault::BadClause(
@@ -149,13 +157,16 @@ const OF_VERSIONS: [(VersionFault, &str); 3] = [
     (VersionFault::NoMemory, "refused code 60\nout of memory"),
 ];
 
-#[test]
-fn faults(rt: HostRuntime) -> Result<(), Fail> {
-    for (fault, want) in &FAULTS {
-        let found = fault_line(rt.alloc(), fault)?;
-        expect_line(&rt, found.as_str(), want);
+// Asserts what each fault is told as.
+fn expect_faults(rt: &(impl Abort + AllocGlobal), rows: &[(Fault, &str)]) {
+    for (fault, want) in rows {
+        expect_line(rt, fault_line(rt, fault).as_str(), want);
     }
-    Ok(())
+}
+
+#[test]
+fn faults(rt: HostRuntime) {
+    expect_faults(&rt, &FAULTS);
 }
 
 // Faults of the third line of an input.
@@ -171,55 +182,49 @@ const ON_LINES: [(LineFault, &str); 2] = [
 ];
 
 #[test]
-fn faults_on_lines(rt: HostRuntime) -> Result<(), Fail> {
+fn faults_on_lines(rt: HostRuntime) {
     for &(fault, want) in &ON_LINES {
         let fault = Fault::of(Place::Input(1), Cause::on_line(3, fault));
-        let found = fault_line(rt.alloc(), &fault)?;
-        expect_line(&rt, found.as_str(), want);
+        expect_line(&rt, fault_line(&rt, &fault).as_str(), want);
     }
-    Ok(())
 }
 
 #[test]
-fn faults_of_versions(rt: HostRuntime) -> Result<(), Fail> {
+fn faults_of_versions(rt: HostRuntime) {
     for &(fault, want) in &OF_VERSIONS {
-        let found = fault_line(
-            rt.alloc(),
-            &Fault::of_argument(ArgumentFault::Version(fault)),
-        )?;
-        expect_line(&rt, found.as_str(), want);
+        let fault = Fault::of_argument(ArgumentFault::Version(fault));
+        expect_line(&rt, fault_line(&rt, &fault).as_str(), want);
     }
-    Ok(())
 }
 
 #[test]
-fn bad_words(rt: HostRuntime) -> Result<(), Fail> {
-    let words = String::from_str(rt.alloc(), "no such word\n")?;
+fn bad_words(rt: HostRuntime) {
+    let words = String::from_str(rt.alloc(), "no such word\n").expect(&rt, "room for words");
     let fault = Fault {
         place: Place::Nowhere,
         cause: Cause::BadWords(words),
     };
     assert!(rt; fault.cause.code() == 61);
-    let line = fault.text(rt.alloc())?;
+    let line = fault_text(&rt, &fault);
     expect_line(&rt, line.as_str(), "refused code 61\nno such word\n");
-    Ok(())
 }
 
 // What is told of a fault that is no more than its text.
-fn text_line(alloc: Global, fault: &impl Display) -> Result<String, AllocError> {
-    format!(in alloc; "{fault}")
+fn text_line(rt: &(impl Abort + AllocGlobal), fault: &impl Display) -> String {
+    format!(in rt.alloc(); "{fault}").expect(rt, "room for a line")
 }
 
 #[test]
-fn faults_of_devices(rt: HostRuntime) -> Result<(), Fail> {
-    let failed = text_line(rt.alloc(), &Failed)?;
-    expect_line(&rt, failed.as_str(), "a read or a write failed");
+fn faults_of_devices(rt: HostRuntime) {
+    expect_line(
+        &rt,
+        text_line(&rt, &Failed).as_str(),
+        "a read or a write failed",
+    );
     for &(fault, want) in &[
         (OpenFault::CannotOpen, "a file can't be opened"),
         (OpenFault::NoMemory, "out of memory"),
     ] {
-        let found = text_line(rt.alloc(), &fault)?;
-        expect_line(&rt, found.as_str(), want);
+        expect_line(&rt, text_line(&rt, &fault).as_str(), want);
     }
-    Ok(())
 }

@@ -3,31 +3,50 @@
 use crate::tests::lines::expect_line;
 use crate::tests::plans::owned;
 use crate::tests::streams::{NEVER, Reader};
-use pep_tool::{Bytes, Counted, Disk, Fault, Folder, OpenFault, Source, run_in};
-use std::alloc::Global;
+use pep_tool::{Bytes, Counted, Disk, Folder, OpenFault, Source, run_in};
+use std::alloc::AllocError;
+use std::env::Env;
+use std::fs::Files;
 use std::path::PathBuf;
-use std::test::Fail;
+use std::process::Abort;
 use std::{env, fs, process};
 
 // A run over the files of the folder and over an input that it would refuse: its status, how often it
 // read the input, what it prints and what it tells.
-fn run_line<D: Folder>(alloc: Global, folder: &D, words: &[&str]) -> Result<String, Fault> {
-    let words = owned(alloc, words)?;
+fn run_line<D: Folder>(rt: &(impl Abort + AllocGlobal), folder: &D, words: &[&str]) -> String {
+    let words = owned(rt, words);
+    words_line(rt, folder, words.as_slice())
+}
+
+// The same with owned words.
+fn words_line<D: Folder>(rt: &(impl Abort + AllocGlobal), folder: &D, words: &[String]) -> String {
     let mut input = Bytes::new(b"-");
-    let mut printed = Vec::new(alloc);
-    let mut told = Vec::new(alloc);
+    let mut printed = Vec::new(rt.alloc());
+    let mut told = Vec::new(rt.alloc());
     let status = run_in(
-        alloc,
+        rt.alloc(),
         folder,
-        words.as_slice(),
+        words,
         &mut input,
         &mut Counted::new(&mut printed),
         &mut Counted::new(&mut told),
     );
     let reads = input.calls();
-    let printed = str::from_utf8(printed.as_slice()).unwrap_or("?");
-    let told = str::from_utf8(told.as_slice()).unwrap_or("?");
-    Ok(format!(in alloc; "{status} {reads} [{printed}] [{told}]")?)
+    outcome_line(rt, status, reads, printed.as_slice(), told.as_slice())
+}
+
+// What a run is told as, where its outputs are texts.
+fn outcome_line(
+    rt: &(impl Abort + AllocGlobal),
+    status: u8,
+    reads: u64,
+    printed: &[u8],
+    told: &[u8],
+) -> String {
+    let printed = str::from_utf8(printed).unwrap_or("?");
+    let told = str::from_utf8(told).unwrap_or("?");
+    let line = format!(in rt.alloc(); "{status} {reads} [{printed}] [{told}]");
+    line.expect(rt, "room for a line")
 }
 
 // A folder of one file, whose bytes it tells.
@@ -67,16 +86,15 @@ const PATHS: [(&str, &str); 6] = [
 ];
 
 #[test]
-fn paths(rt: HostRuntime) -> Result<(), Fail> {
+fn paths(rt: HostRuntime) {
     let folder = OneFile {
         path: "r",
         bytes: b"A >= 1\nb [x]",
     };
     for &(path, want) in &PATHS {
-        let found = run_line(rt.alloc(), &folder, &["lines", path])?;
+        let found = run_line(&rt, &folder, &["lines", path]);
         expect_line(&rt, found.as_str(), want);
     }
-    Ok(())
 }
 
 // The environment of the machine.
@@ -117,9 +135,10 @@ impl Folder for Failing {
 }
 
 // A run over such a folder, with words apart by blanks.
-fn failing_line(alloc: Global, words: &str, fails_at: u64) -> Result<String, Fault> {
-    let words: Vec<&str> = words.split(' ').collect(alloc)?;
-    run_line(alloc, &Failing { fails_at }, words.as_slice())
+fn failing_line(rt: &(impl Abort + AllocGlobal), words: &str, fails_at: u64) -> String {
+    let words: Result<Vec<&str>, AllocError> = words.split(' ').collect(rt.alloc());
+    let words = words.expect(rt, "room for words");
+    run_line(rt, &Failing { fails_at }, words.as_slice())
 }
 
 // Words, the number of the call of `r` that fails, and what the run is.
@@ -175,32 +194,54 @@ const FAILING: [(&str, u64, &str); 14] = [
 ];
 
 #[test]
-fn files_that_fail(rt: HostRuntime) -> Result<(), Fail> {
+fn files_that_fail(rt: HostRuntime) {
     for &(words, fails_at, want) in &FAILING {
-        let found = failing_line(rt.alloc(), words, fails_at)?;
+        let found = failing_line(&rt, words, fails_at);
         expect_line(&rt, found.as_str(), want);
     }
-    Ok(())
 }
 
-// A folder of this test's own, made anew.
-fn temporary(rt: &HostRuntime, test: &str) -> Result<PathBuf, Fail> {
-    let name = format!(in rt.alloc(); "tubrambutan-{}-{test}", process::id(rt.process()))?;
-    let folder = env::temp_dir(rt)?.join(rt.alloc(), name.as_str())?;
+// The name of a folder of this test's own.
+fn temporary_name(rt: &HostRuntime, test: &str) -> Result<String, AllocError> {
+    format!(in rt.alloc(); "tubrambutan-{}-{test}", process::id(rt.process()))
+}
+
+// The path of the folder of this name.
+fn temporary_path(rt: &(impl Abort + Env + AllocGlobal), name: &str) -> PathBuf {
+    let parent = env::temp_dir(rt).expect(rt, "the folder of temporary files");
+    parent.join(rt.alloc(), name).expect(rt, "room for a path")
+}
+
+// This folder, made anew.
+fn temporary(rt: &(impl Abort + Env + Files + AllocGlobal), name: &str) -> PathBuf {
+    let folder = temporary_path(rt, name);
     let _ = fs::remove_dir_all(rt, folder.as_path());
-    fs::create_dir(rt, folder.as_path())?;
-    Ok(folder)
+    fs::create_dir(rt, folder.as_path()).expect(rt, "a folder");
+    folder
+}
+
+// A run over the disk.
+fn disk_line(rt: &(impl Abort + Files + AllocGlobal), path: &str) -> String {
+    run_line(rt, &Disk(rt), &["lines", path])
+}
+
+// A run over a file of these bytes in the folder of this name, which is removed behind it.
+fn file_line(rt: &(impl Abort + Env + Files + AllocGlobal), name: &str, bytes: &[u8]) -> String {
+    let folder = temporary(rt, name);
+    let file = folder
+        .join(rt.alloc(), "list")
+        .expect(rt, "room for a path");
+    fs::write(rt, file.as_path(), bytes).expect(rt, "a file");
+    let line = disk_line(rt, file.as_str());
+    fs::remove_dir_all(rt, folder.as_path()).expect(rt, "a folder to remove");
+    line
 }
 
 #[test]
-fn a_file_on_disk(rt: HostRuntime) -> Result<(), Fail> {
-    let folder = temporary(&rt, "files")?;
-    let file = folder.join(rt.alloc(), "list")?;
-    fs::write(&rt, file.as_path(), b"A>=1\nb[x]\n".as_slice())?;
-    let found = run_line(rt.alloc(), &Disk(&rt), &["lines", file.as_str()])?;
-    fs::remove_dir_all(&rt, folder.as_path())?;
+fn a_file_on_disk(rt: HostRuntime) {
+    let name = temporary_name(&rt, "files").expect(&rt, "room for a name");
+    let found = file_line(&rt, name.as_str(), b"A>=1\nb[x]\n");
     expect_line(&rt, found.as_str(), "0 0 [a>=1\nb[x]\n] []");
-    let found = run_line(rt.alloc(), &Disk(&rt), &["lines", "a\0b"])?;
+    let found = disk_line(&rt, "a\0b");
     expect_line(&rt, found.as_str(), "2 0 [] [refused input 1 code 58\n]");
-    Ok(())
 }

@@ -1,53 +1,35 @@
 //! One table, whatever the order, the grouping and the repeats of what is merged.
 
-use crate::tests::calls::{Part, inputs_of, lines_behind, machine};
+use crate::tests::calls::{Part, inputs_of, lines_of, machine, table_of};
 use crate::tests::lines::expect;
 use pep_marker::Name;
-use pep_table::{Join, Table, TableFault, Verdict, join_all};
-use pep_tool::{Kind, gather, list_of};
-use std::alloc::{AllocError, Global};
+use pep_table::{Join, Table, Verdict, join_all};
+use pep_tool::{Kind, gather};
+use std::ops::Range;
 use std::process::Abort;
-use std::test::Fail;
-
-// The table of a list on the machine.
-fn table(alloc: Global, list: &str) -> Result<Table, TableFault> {
-    let (Ok(requirements), Ok(machine)) = (list_of(alloc, list.as_bytes()), machine(alloc)) else {
-        return Err(TableFault::NoMemory);
-    };
-    Table::of(alloc, requirements.as_slice(), &machine)
-}
 
 // The table that is gathered of inputs on the machine.
-fn gathered(alloc: Global, parts: &[Part]) -> Result<Table, TableFault> {
-    let (Ok(inputs), Ok(machine)) = (inputs_of(alloc, parts), machine(alloc)) else {
-        return Err(TableFault::NoMemory);
-    };
-    match gather(alloc, inputs.as_slice(), &machine) {
-        Ok(gathering) => gathering.finish(alloc),
-        Err(_) => Err(TableFault::NoMemory),
-    }
+fn gathered(rt: &(impl Abort + AllocGlobal), parts: &[Part]) -> Table {
+    let (inputs, machine) = (inputs_of(rt, parts), machine(rt));
+    let gathering = gather(rt.alloc(), inputs.as_slice(), &machine).expect(rt, "tables");
+    gathering
+        .finish(rt.alloc())
+        .expect(rt, "the join of tables")
 }
 
-// What stands behind the header of the machine in the text of the table.
-fn lines_of(alloc: Global, table: &Table) -> Result<String, TableFault> {
-    let Ok(machine) = machine(alloc) else {
-        return Err(TableFault::NoMemory);
-    };
-    let text = table.text(alloc, &machine)?;
-    Ok(String::from_str(alloc, lines_behind(text.as_str()))?)
-}
-
-fn has_lines(alloc: Global, table: &Table, lines: &str) -> Result<bool, TableFault> {
-    Ok(lines_of(alloc, table)?.as_str() == lines)
+fn has_lines(rt: &(impl Abort + AllocGlobal), table: &Table, lines: &str) -> bool {
+    lines_of(rt, table).as_str() == lines
 }
 
 // The tables of lists.
-fn tables(alloc: Global, lists: &[&str]) -> Result<Vec<Table>, TableFault> {
-    let mut tables = Vec::with_capacity(alloc, lists.len())?;
+fn tables(rt: &(impl Abort + AllocGlobal), lists: &[&str]) -> Vec<Table> {
+    let mut tables = Vec::new(rt.alloc());
     for list in lists {
-        tables.push(table(alloc, list)?)?;
+        tables
+            .push(table_of(rt, list))
+            .expect(rt, "room for a table");
     }
-    Ok(tables)
+    tables
 }
 
 const FLASK: &str = "flask open\n  range before 2 to before 3.dev0\n";
@@ -57,17 +39,22 @@ const LOW: Part = (Kind::List, "flask>=2.0");
 const HIGH: Part = (Kind::List, "Flask<3");
 
 // The join of the tables of lists.
-fn all_joined(alloc: Global, lists: &[&str]) -> Result<Table, TableFault> {
-    join_all(alloc, Table::empty(alloc), tables(alloc, lists)?.iter())
+fn all_joined(rt: &(impl Abort + AllocGlobal), lists: &[&str]) -> Table {
+    join(rt, tables(rt, lists).as_slice())
+}
+
+// The join of tables.
+fn join(rt: &(impl Abort + AllocGlobal), tables: &[Table]) -> Table {
+    let empty = Table::empty(rt.alloc());
+    join_all(rt.alloc(), empty, tables.iter()).expect(rt, "the join of tables")
 }
 
 #[test]
-fn one_table(rt: HostRuntime) -> Result<(), Fail> {
-    let whole = table(rt.alloc(), "Flask<3\nflask>=2.0\nflask>=2.0")?;
-    assert!(rt; has_lines(rt.alloc(), &whole, FLASK)?);
-    assert!(rt; all_joined(rt.alloc(), &[HIGH.1, LOW.1, LOW.1])? == whole);
-    assert!(rt; gathered(rt.alloc(), &[HIGH, LOW, LOW])? == whole);
-    Ok(())
+fn one_table(rt: HostRuntime) {
+    let whole = table_of(&rt, "Flask<3\nflask>=2.0\nflask>=2.0");
+    assert!(rt; has_lines(&rt, &whole, FLASK));
+    assert!(rt; all_joined(&rt, &[HIGH.1, LOW.1, LOW.1]) == whole);
+    assert!(rt; gathered(&rt, &[HIGH, LOW, LOW]) == whole);
 }
 
 // The table of `a @ https://x.test/1` and `a @ https://x.test/2`.
@@ -89,152 +76,183 @@ const LATER: [&str; 7] = [
 const ALL: &str = "a conflict\n  extra x\n  url https://x.test/1\n  url https://x.test/2\n  \
     text 1.0\nb open\n  range before 0.dev0 to end\n";
 
-fn is_conflict(alloc: Global, table: &Table) -> Result<bool, TableFault> {
-    let Ok(a) = Name::read(alloc, "a") else {
-        return Err(TableFault::NoMemory);
-    };
-    Ok(table.verdict(alloc, &a)? == Some(Verdict::Conflict))
+fn is_conflict(rt: &(impl Abort + AllocGlobal), table: &Table) -> bool {
+    let a = Name::read(rt.alloc(), "a").expect(rt, "a name");
+    let verdict = table.verdict(rt.alloc(), &a).expect(rt, "a verdict");
+    verdict == Some(Verdict::Conflict)
 }
 
-// The join with the table of a list on the right.
-fn joined(alloc: Global, both: &Table, list: &str) -> Result<Table, TableFault> {
-    both.joined(alloc, &table(alloc, list)?)
+// The join of two tables.
+fn both_joined(rt: &(impl Abort + AllocGlobal), left: &Table, right: &Table) -> Table {
+    left.joined(rt.alloc(), right)
+        .expect(rt, "the join of two tables")
+}
+
+/// The join with the table of a list on the right.
+pub(crate) fn joined(rt: &(impl Abort + AllocGlobal), both: &Table, list: &str) -> Table {
+    both_joined(rt, both, &table_of(rt, list))
 }
 
 // The same on the left.
-fn joined_left(alloc: Global, both: &Table, list: &str) -> Result<Table, TableFault> {
-    table(alloc, list)?.joined(alloc, both)
+fn joined_left(rt: &(impl Abort + AllocGlobal), both: &Table, list: &str) -> Table {
+    both_joined(rt, &table_of(rt, list), both)
+}
+
+// Whether two tables are one, with a conflict.
+fn is_one_conflict(rt: &(impl Abort + AllocGlobal), left: &Table, right: &Table) -> bool {
+    is_conflict(rt, right) && left == right
+}
+
+fn copied(rt: &(impl Abort + AllocGlobal), table: &Table) -> Table {
+    table.copied(rt.alloc()).expect(rt, "the copy of a table")
 }
 
 // Joins each later table to one with a conflict, on its right and on its left.
-fn expect_conflicts(rt: &(impl Abort + AllocGlobal), both: Table) -> Result<(), TableFault> {
-    let mut right = both.copied(rt.alloc())?;
+fn expect_conflicts(rt: &(impl Abort + AllocGlobal), both: Table) {
+    let mut right = copied(rt, &both);
     let mut left = both;
     for list in &LATER {
-        right = joined(rt.alloc(), &right, list)?;
-        left = joined_left(rt.alloc(), &left, list)?;
-        let stays = is_conflict(rt.alloc(), &right)? && left == right;
-        expect(rt, list, stays);
+        right = joined(rt, &right, list);
+        left = joined_left(rt, &left, list);
+        expect(rt, list, is_one_conflict(rt, &left, &right));
     }
-    assert!(rt; has_lines(rt.alloc(), &left, ALL)?);
-    Ok(())
+    assert!(rt; has_lines(rt, &left, ALL));
 }
 
 const URLS: [&str; 2] = ["a @ https://x.test/1", "a @ https://x.test/2"];
 
 #[test]
-fn conflicts_stay_in_joins(rt: HostRuntime) -> Result<(), Fail> {
-    let (first, second) = (table(rt.alloc(), URLS[0])?, table(rt.alloc(), URLS[1])?);
-    let both = first.joined(rt.alloc(), &second)?;
-    assert!(rt; has_lines(rt.alloc(), &both, CONFLICT)?);
-    expect_conflicts(&rt, both)?;
-    expect_conflicts(&rt, second.joined(rt.alloc(), &first)?)?;
-    Ok(())
+fn conflicts_stay_in_joins(rt: HostRuntime) {
+    let (first, second) = (table_of(&rt, URLS[0]), table_of(&rt, URLS[1]));
+    let both = both_joined(&rt, &first, &second);
+    assert!(rt; has_lines(&rt, &both, CONFLICT));
+    expect_conflicts(&rt, both);
+    expect_conflicts(&rt, both_joined(&rt, &second, &first));
+}
+
+// Appends a number and a line feed, between these texts.
+fn push_line(
+    rt: &(impl Abort + AllocGlobal),
+    text: &mut String,
+    front: &str,
+    number: u32,
+    back: &str,
+) {
+    let line = format!(in rt.alloc(); "{front}{number}{back}\n").expect(rt, "room for a line");
+    text.push_str(line.as_str()).expect(rt, "room for a line");
+}
+
+// Appends the numbers, each in a line of its own, between these texts.
+fn push_lines(
+    rt: &(impl Abort + AllocGlobal),
+    text: &mut String,
+    front: &str,
+    numbers: Range<u32>,
+    back: &str,
+) {
+    for number in numbers {
+        push_line(rt, text, front, number, back);
+    }
 }
 
 // A line for each of 2,000 names, with this behind it.
-fn lines_of_names(alloc: Global, behind: &str) -> Result<String, AllocError> {
-    let mut text = String::new(alloc);
-    for i in 1_000..3_000 {
-        let line = format!(in alloc; "n{i}{behind}\n")?;
-        text.push_str(line.as_str())?;
-    }
-    Ok(text)
+fn lines_of_names(rt: &(impl Abort + AllocGlobal), behind: &str) -> String {
+    let mut text = String::new(rt.alloc());
+    push_lines(rt, &mut text, "n", 1_000..3_000, behind);
+    text
 }
 
-fn table_of_names(alloc: Global, behind: &str) -> Result<Table, TableFault> {
-    table(alloc, lines_of_names(alloc, behind)?.as_str())
+fn table_of_names(rt: &(impl Abort + AllocGlobal), behind: &str) -> Table {
+    table_of(rt, lines_of_names(rt, behind).as_str())
 }
 
-fn joined_names(alloc: Global, low: &Table) -> Result<Table, TableFault> {
-    low.joined(alloc, &table_of_names(alloc, "[y]<2")?)
+fn joined_names(rt: &(impl Abort + AllocGlobal), low: &Table) -> Table {
+    both_joined(rt, low, &table_of_names(rt, "[y]<2"))
 }
 
 const OF_BOTH: &str = " open\n  extra x\n  extra y\n  range before 1 to before 2.dev0";
 
 #[test]
-fn tables_of_many_names(rt: HostRuntime) -> Result<(), Fail> {
-    let low = table_of_names(rt.alloc(), "[x]>=1")?;
-    let joined = joined_names(rt.alloc(), &low)?;
-    assert!(rt; lines_of(rt.alloc(), &joined)? == lines_of_names(rt.alloc(), OF_BOTH)?);
-    assert!(rt; joined.copied(rt.alloc())? == joined && joined != low);
-    Ok(())
-}
-
-// Appends the numbers 10,000 to 14,999, each in a line of its own, between these texts.
-fn push_lines(alloc: Global, text: &mut String, front: &str, back: &str) -> Result<(), AllocError> {
-    for i in 10_000..15_000 {
-        let line = format!(in alloc; "{front}{i}{back}\n")?;
-        text.push_str(line.as_str())?;
-    }
-    Ok(())
+fn tables_of_many_names(rt: HostRuntime) {
+    let low = table_of_names(&rt, "[x]>=1");
+    let joined = joined_names(&rt, &low);
+    assert!(rt; lines_of(&rt, &joined) == lines_of_names(&rt, OF_BOTH));
+    assert!(rt; copied(&rt, &joined) == joined);
+    assert!(rt; joined != low);
 }
 
 // Extras, URLs and texts, 5,000 each, on one name.
-fn many_demands(alloc: Global) -> Result<String, AllocError> {
-    let mut list = String::new(alloc);
-    push_lines(alloc, &mut list, "a===1.", "")?;
+fn many_demands(rt: &(impl Abort + AllocGlobal)) -> String {
+    let mut list = String::new(rt.alloc());
+    push_lines(rt, &mut list, "a===1.", 10_000..15_000, "");
     push_lines(
-        alloc,
+        rt,
         &mut list,
         "a @ https://x.test/",
+        10_000..15_000,
         " ; os_name == 'posix'",
-    )?;
-    push_lines(alloc, &mut list, "a[x", "]")?;
-    Ok(list)
+    );
+    push_lines(rt, &mut list, "a[x", 10_000..15_000, "]");
+    list
 }
 
 // Their table.
-fn many_demanded(alloc: Global) -> Result<String, AllocError> {
-    let mut text = String::from_str(alloc, "a conflict\n")?;
-    push_lines(alloc, &mut text, "  extra x", "")?;
-    push_lines(alloc, &mut text, "  url https://x.test/", "")?;
-    push_lines(alloc, &mut text, "  text 1.", "")?;
-    text.push_str("  range before 0.dev0 to end\n")?;
-    Ok(text)
+fn many_demanded(rt: &(impl Abort + AllocGlobal)) -> String {
+    let mut text = String::new(rt.alloc());
+    text.push_str("a conflict\n").expect(rt, "room for a line");
+    push_lines(rt, &mut text, "  extra x", 10_000..15_000, "");
+    push_lines(rt, &mut text, "  url https://x.test/", 10_000..15_000, "");
+    push_lines(rt, &mut text, "  text 1.", 10_000..15_000, "");
+    text.push_str("  range before 0.dev0 to end\n")
+        .expect(rt, "room for a line");
+    text
 }
 
-fn table_of_demands(alloc: Global) -> Result<Table, TableFault> {
-    table(alloc, many_demands(alloc)?.as_str())
+fn table_of_demands(rt: &(impl Abort + AllocGlobal)) -> Table {
+    table_of(rt, many_demands(rt).as_str())
 }
 
 #[test]
-fn tables_of_many_demands(rt: HostRuntime) -> Result<(), Fail> {
-    let table = table_of_demands(rt.alloc())?;
-    let again = table.joined(rt.alloc(), &table.copied(rt.alloc())?)?;
+fn tables_of_many_demands(rt: HostRuntime) {
+    let table = table_of_demands(&rt);
+    let again = both_joined(&rt, &table, &copied(&rt, &table));
     assert!(rt; again == table);
-    assert!(rt; lines_of(rt.alloc(), &again)? == many_demanded(rt.alloc())?);
-    Ok(())
+    assert!(rt; lines_of(&rt, &again) == many_demanded(&rt));
+}
+
+// The table of a list with an extra and a bound of this number.
+fn numbered_table(rt: &(impl Abort + AllocGlobal), number: u32) -> Table {
+    let list = format!(in rt.alloc(); "a[x{number}]>={number}").expect(rt, "room for a list");
+    table_of(rt, list.as_str())
 }
 
 // As many tables, each with an extra of its own.
-fn many_tables(alloc: Global) -> Result<Vec<Table>, TableFault> {
-    let mut tables = Vec::new(alloc);
-    for i in 100..300 {
-        let list = format!(in alloc; "a[x{i}]>={i}")?;
-        tables.push(table(alloc, list.as_str())?)?;
+fn many_tables(rt: &(impl Abort + AllocGlobal)) -> Vec<Table> {
+    let mut tables = Vec::new(rt.alloc());
+    for number in 100..300 {
+        tables
+            .push(numbered_table(rt, number))
+            .expect(rt, "room for a table");
     }
-    Ok(tables)
+    tables
 }
 
-fn joined_tables(alloc: Global) -> Result<Table, TableFault> {
-    join_all(alloc, Table::empty(alloc), many_tables(alloc)?.iter())
+fn joined_tables(rt: &(impl Abort + AllocGlobal)) -> Table {
+    join(rt, many_tables(rt).as_slice())
 }
 
 // The text of their join.
-fn many_joined(alloc: Global) -> Result<String, AllocError> {
-    let mut text = String::from_str(alloc, "a open\n")?;
-    for i in 100..300 {
-        let line = format!(in alloc; "  extra x{i}\n")?;
-        text.push_str(line.as_str())?;
-    }
-    text.push_str("  range before 299 to end\n")?;
-    Ok(text)
+fn many_joined(rt: &(impl Abort + AllocGlobal)) -> String {
+    let mut text = String::new(rt.alloc());
+    text.push_str("a open\n").expect(rt, "room for a line");
+    push_lines(rt, &mut text, "  extra x", 100..300, "");
+    text.push_str("  range before 299 to end\n")
+        .expect(rt, "room for a line");
+    text
 }
 
 #[test]
-fn joins_of_many_tables(rt: HostRuntime) -> Result<(), Fail> {
-    let joined = joined_tables(rt.alloc())?;
-    assert!(rt; lines_of(rt.alloc(), &joined)? == many_joined(rt.alloc())?);
-    Ok(())
+fn joins_of_many_tables(rt: HostRuntime) {
+    let joined = joined_tables(&rt);
+    assert!(rt; lines_of(&rt, &joined) == many_joined(&rt));
 }

@@ -1,26 +1,37 @@
 //! The plans that words are.
 
+use crate::tests::calls::fault_text;
 use crate::tests::lines::expect_line;
-use pep_tool::{Fault, plan_of};
-use std::alloc::{AllocError, Global};
-use std::test::Fail;
+use pep_tool::{Fault, Plan, plan_of};
+use std::process::Abort;
 
 /// The words, owned.
-pub(crate) fn owned(alloc: Global, words: &[&str]) -> Result<Vec<String>, AllocError> {
-    let mut list = Vec::with_capacity(alloc, words.len())?;
+pub(crate) fn owned(rt: &(impl Abort + AllocGlobal), words: &[&str]) -> Vec<String> {
+    let mut list = Vec::new(rt.alloc());
     for word in words {
-        list.push(String::from_str(alloc, word)?)?;
+        let word = String::from_str(rt.alloc(), word).expect(rt, "room for a word");
+        list.push(word).expect(rt, "room for words");
     }
-    Ok(list)
+    list
 }
 
-// The plan of the words, as it is written for people, or the line of the fault.
-fn plan_line(alloc: Global, words: &[&str]) -> Result<String, Fault> {
-    let words = owned(alloc, words)?;
-    match plan_of(alloc, words.as_slice()) {
-        Ok(plan) => Ok(format!(in alloc; "{plan:?}")?),
-        Err(fault) => fault.text(alloc),
+// A plan as it is written for people.
+fn written(rt: &(impl Abort + AllocGlobal), plan: &Plan) -> String {
+    format!(in rt.alloc(); "{plan:?}").expect(rt, "room for a plan")
+}
+
+// The same, or the line of the fault.
+fn written_or_fault(rt: &(impl Abort + AllocGlobal), plan: Result<Plan, Fault>) -> String {
+    match plan {
+        Ok(plan) => written(rt, &plan),
+        Err(fault) => fault_text(rt, &fault),
     }
+}
+
+// The same of the plan of the words.
+fn plan_line(rt: &(impl Abort + AllocGlobal), words: &[&str]) -> String {
+    let words = owned(rt, words);
+    written_or_fault(rt, plan_of(rt.alloc(), words.as_slice()))
 }
 
 // A check of one file, and one of two that takes pre-releases.
@@ -94,11 +105,15 @@ const PLANS: [(&[&str], &str); 23] = [
     ),
 ];
 
-#[test]
-fn plans(rt: HostRuntime) -> Result<(), Fail> {
-    for &(words, want) in &PLANS {
-        let found = plan_line(rt.alloc(), words)?;
-        expect_line(&rt, found.as_str(), want);
+// Asserts the plan of each row.
+fn expect_plans(rt: &(impl Abort + AllocGlobal), rows: &[(&[&str], &str)]) {
+    for &(words, want) in rows {
+        let found = plan_line(rt, words);
+        expect_line(rt, found.as_str(), want);
     }
-    Ok(())
+}
+
+#[test]
+fn plans(rt: HostRuntime) {
+    expect_plans(&rt, &PLANS);
 }

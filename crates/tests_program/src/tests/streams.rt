@@ -1,14 +1,16 @@
 //! The program over readers and writers that fail at a call, that give bytes without end, or that
 //! take none.
 
-use crate::tests::calls::machine;
+use crate::tests::calls::{fault_text, machine};
 use crate::tests::lines::expect_line;
 use crate::tests::plans::owned;
+use pep_table::Table;
 use pep_tool::{Bytes, Counted, Failed, Fault, Sink, Source, merge_reader, run, write_text};
 use std::alloc::{AllocError, Global};
+use std::fs::Files;
 use std::io;
 use std::io::Write;
-use std::test::Fail;
+use std::process::Abort;
 use tests_kit::STANDARD_HEADER;
 
 const LIST: &[u8] = b"flask>=2.0\nFlask<3\n";
@@ -250,36 +252,49 @@ fn shown(alloc: Global, printed: &[u8]) -> Result<String, AllocError> {
     }
 }
 
-// Of the devices of a run: the calls of its reader and of the writer of its output, what is printed
+// Behind a run: its status, the calls of its reader and of the writer of its output, what is printed
 // and what is told.
 fn devices_line(
-    alloc: Global,
+    rt: &(impl Abort + AllocGlobal),
+    status: u8,
     input: &Reader,
     output: &Writer,
     faults: &Writer,
-) -> Result<String, AllocError> {
+) -> String {
     let (reads, writes) = (input.calls(), output.calls);
     let (read, written) = (mark(input.failed), mark(output.failed));
-    let printed = shown(alloc, output.bytes.as_slice())?;
     let told = text(faults.bytes.as_slice());
-    format!(in alloc; "{reads}{read} {writes}{written} [{printed}] [{told}]")
+    let shown = shown(rt.alloc(), output.bytes.as_slice()).expect(rt, "room for lines");
+    let line = format!(in rt.alloc();
+        "{status} {reads}{read} {writes}{written} [{shown}] [{told}]"
+    );
+    line.expect(rt, "room for a line")
 }
 
 // A run over a reader and two writers whose calls of these numbers fail: its status, and what the
 // devices are behind it.
 fn run_line(
-    rt: &HostRuntime,
+    rt: &(impl Abort + Files + AllocGlobal),
     words: &[&str],
     list: &[u8],
     fails_at: [u64; 3],
-) -> Result<String, AllocError> {
-    let words = owned(rt.alloc(), words)?;
+) -> String {
+    let words = owned(rt, words);
+    words_line(rt, words.as_slice(), list, fails_at)
+}
+
+// The same with owned words.
+fn words_line(
+    rt: &(impl Abort + Files + AllocGlobal),
+    words: &[String],
+    list: &[u8],
+    fails_at: [u64; 3],
+) -> String {
     let mut input = Reader::new(list, fails_at[0]);
     let mut output = Writer::new(rt.alloc(), fails_at[1]);
     let mut faults = Writer::new(rt.alloc(), fails_at[2]);
-    let status = run(rt, words.as_slice(), &mut input, &mut output, &mut faults);
-    let devices = devices_line(rt.alloc(), &input, &output, &faults)?;
-    format!(in rt.alloc(); "{status} {devices}")
+    let status = run(rt, words, &mut input, &mut output, &mut faults);
+    devices_line(rt, status, &input, &output, &faults)
 }
 
 // A list, the number of the call of its reader that fails, and what the run is. The list comes in
@@ -314,12 +329,11 @@ const READS: [(&[u8], u64, &str); 9] = [
 ];
 
 #[test]
-fn reads_that_fail(rt: HostRuntime) -> Result<(), Fail> {
+fn reads_that_fail(rt: HostRuntime) {
     for &(list, fails_at, want) in &READS {
-        let found = run_line(&rt, &[], list, [fails_at, NEVER, NEVER])?;
+        let found = run_line(&rt, &[], list, [fails_at, NEVER, NEVER]);
         expect_line(&rt, found.as_str(), want);
     }
-    Ok(())
 }
 
 // A list of 106 bytes, which comes in 16 pieces.
@@ -327,17 +341,22 @@ const LONG_LIST: &[u8] = b"flask>=2.0\nFlask<3\ntomli ; python_version < '3.11'\
     # a line that is no requirement, and long\n\n";
 
 // A run over the long list whose read with this number fails.
-fn cut_line(rt: &HostRuntime, fails_at: u64) -> Result<String, AllocError> {
+fn cut_line(rt: &(impl Abort + Files + AllocGlobal), fails_at: u64) -> String {
     run_line(rt, &[], LONG_LIST, [fails_at, NEVER, NEVER])
 }
 
+// What it is.
+fn wanted_line(rt: &(impl Abort + AllocGlobal), fails_at: u64) -> String {
+    let line = format!(in rt.alloc(); "2 {fails_at}! 0 [] [refused input 1 code 58\n]");
+    line.expect(rt, "room for a line")
+}
+
 #[test]
-fn each_read_that_fails(rt: HostRuntime) -> Result<(), Fail> {
+fn each_read_that_fails(rt: HostRuntime) {
     for fails_at in 1..=17u64 {
-        let want = format!(in rt.alloc(); "2 {fails_at}! 0 [] [refused input 1 code 58\n]")?;
-        expect_line(&rt, cut_line(&rt, fails_at)?.as_str(), want.as_str());
+        let want = wanted_line(&rt, fails_at);
+        expect_line(&rt, cut_line(&rt, fails_at).as_str(), want.as_str());
     }
-    Ok(())
 }
 
 // The number of the call of the writer of the output that fails, and what the run is. The table goes
@@ -363,12 +382,11 @@ const WRITES: [(u64, &str); 8] = [
 ];
 
 #[test]
-fn writes_that_fail(rt: HostRuntime) -> Result<(), Fail> {
+fn writes_that_fail(rt: HostRuntime) {
     for &(fails_at, want) in &WRITES {
-        let found = run_line(&rt, &[], LIST, [NEVER, fails_at, NEVER])?;
+        let found = run_line(&rt, &[], LIST, [NEVER, fails_at, NEVER]);
         expect_line(&rt, found.as_str(), want);
     }
-    Ok(())
 }
 
 // The number of the call of the writer of faults that fails, and what the run is. The line goes in
@@ -384,29 +402,28 @@ const TELLS: [(u64, &str); 7] = [
 ];
 
 #[test]
-fn faults_that_cannot_be_told(rt: HostRuntime) -> Result<(), Fail> {
+fn faults_that_cannot_be_told(rt: HostRuntime) {
     for &(fails_at, want) in &TELLS {
-        let found = run_line(&rt, &["table"], LIST, [1, NEVER, fails_at])?;
+        let found = run_line(&rt, &["table"], LIST, [1, NEVER, fails_at]);
         expect_line(&rt, found.as_str(), want);
     }
-    Ok(())
 }
 
 // A run over a reader without end: its status, how many bytes it read by how many calls, and what it
 // told.
 fn endless_line(
-    rt: &HostRuntime,
+    rt: &(impl Abort + Files + AllocGlobal),
     piece: usize,
     line: usize,
     faulty: u64,
-) -> Result<String, AllocError> {
+) -> String {
     let mut input = Endless::new(piece, line, faulty);
     let mut output = Writer::new(rt.alloc(), NEVER);
     let mut faults = Writer::new(rt.alloc(), NEVER);
     let status = run(rt, &[], &mut input, &mut output, &mut faults);
     let (given, calls) = (input.given, input.calls);
     let told = text(faults.bytes.as_slice());
-    format!(in rt.alloc(); "{status} {given} {calls} [{told}]")
+    format!(in rt.alloc(); "{status} {given} {calls} [{told}]").expect(rt, "room for a line")
 }
 
 // How many bytes a call gives, between line feeds, the call with a line at fault, and what the run is.
@@ -433,24 +450,28 @@ const ENDLESS: [(usize, usize, u64, &str); 3] = [
 ];
 
 #[test]
-fn readers_without_end(rt: HostRuntime) -> Result<(), Fail> {
+fn readers_without_end(rt: HostRuntime) {
     for &(piece, line, faulty, want) in &ENDLESS {
-        let found = endless_line(&rt, piece, line, faulty)?;
+        let found = endless_line(&rt, piece, line, faulty);
         expect_line(&rt, found.as_str(), want);
     }
-    Ok(())
+}
+
+// Why a merge is refused.
+fn refusal(rt: &(impl Abort + AllocGlobal), merged: Result<Table, Fault>) -> String {
+    match merged {
+        Ok(_) => String::from_str(rt.alloc(), "merged").expect(rt, "room for a word"),
+        Err(fault) => fault_text(rt, &fault),
+    }
 }
 
 // Why a merge over a reader without end is refused, and how many bytes it read by how many calls.
-fn endless_merge(alloc: Global, piece: usize, line: usize) -> Result<String, Fault> {
-    let machine = machine(alloc)?;
+fn endless_merge(rt: &(impl Abort + AllocGlobal), piece: usize, line: usize) -> String {
+    let machine = machine(rt);
     let mut input = Endless::new(piece, line, NEVER);
-    let told = match merge_reader(alloc, &mut input, &machine) {
-        Ok(_) => String::from_str(alloc, "merged")?,
-        Err(fault) => fault.text(alloc)?,
-    };
+    let told = refusal(rt, merge_reader(rt.alloc(), &mut input, &machine));
     let (given, calls) = (input.given, input.calls);
-    Ok(format!(in alloc; "{given} {calls} [{told}]")?)
+    format!(in rt.alloc(); "{given} {calls} [{told}]").expect(rt, "room for a line")
 }
 
 // How many bytes a call gives, between line feeds, and what the merge is: line feeds without end, and a
@@ -461,17 +482,16 @@ const ENDLESS_MERGES: [(usize, usize, &str); 2] = [
 ];
 
 #[test]
-fn merges_over_readers_without_end(rt: HostRuntime) -> Result<(), Fail> {
+fn merges_over_readers_without_end(rt: HostRuntime) {
     for &(piece, line, want) in &ENDLESS_MERGES {
-        let found = endless_merge(rt.alloc(), piece, line)?;
+        let found = endless_merge(&rt, piece, line);
         expect_line(&rt, found.as_str(), want);
     }
-    Ok(())
 }
 
 // A run over a list and writers of std: its status, the calls of its reader, what is printed and what
 // is told.
-fn std_line(rt: &HostRuntime) -> Result<String, AllocError> {
+fn std_line(rt: &(impl Abort + Files + AllocGlobal)) -> String {
     let mut printed = Vec::new(rt.alloc());
     let mut told = Vec::new(rt.alloc());
     let mut input = Counted::new(LIST);
@@ -483,20 +503,20 @@ fn std_line(rt: &HostRuntime) -> Result<String, AllocError> {
         &mut Counted::new(&mut told),
     );
     let (reads, read) = (input.calls(), mark(input.failed()));
-    let printed = shown(rt.alloc(), printed.as_slice())?;
+    let printed = shown(rt.alloc(), printed.as_slice()).expect(rt, "room for what is printed");
     let told = text(told.as_slice());
-    format!(in rt.alloc(); "{status} {reads}{read} [{printed}] [{told}]")
+    let line = format!(in rt.alloc(); "{status} {reads}{read} [{printed}] [{told}]");
+    line.expect(rt, "room for a line")
 }
 
 #[test]
-fn devices_over_std(rt: HostRuntime) -> Result<(), Fail> {
-    let line = std_line(&rt)?;
+fn devices_over_std(rt: HostRuntime) {
+    let line = std_line(&rt);
     expect_line(
         &rt,
         line.as_str(),
         "0 2 [@flask open\n  range before 2 to before 3.dev0\n] []",
     );
-    Ok(())
 }
 
 // Whether the text is written to a full writer, whether the writer failed, and its calls.

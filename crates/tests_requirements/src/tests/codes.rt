@@ -112,6 +112,14 @@ fn require_line(alloc: Global, fault: RequireFault) -> Result<String, AllocError
     }
 }
 
+// Asserts what each fault of a requirement line is told as.
+fn expect_require_lines(rt: &(impl Abort + AllocGlobal), rows: &[(RequireFault, &str)]) {
+    for &(fault, want) in rows {
+        let line = require_line(rt.alloc(), fault).expect(rt, "room for a line");
+        expect_line(rt, line.as_str(), want);
+    }
+}
+
 // The fault of a requirement line with this fault of a clause in it.
 fn of_clause(fault: ClauseFault) -> RequireFault {
     match fault {
@@ -152,10 +160,7 @@ const INSIDE: [(RequireFault, &str); 3] = [
 ];
 
 #[test]
-fn faults_of_requirements(rt: HostRuntime) -> Result<(), AllocError> {
-    for &(fault, want) in REQUIRE_FAULTS.iter().chain(&INSIDE) {
-        let line = require_line(rt.alloc(), fault)?;
-        expect_line(&rt, line.as_str(), want);
-    }
-    Ok(())
+fn faults_of_requirements(rt: HostRuntime) {
+    expect_require_lines(&rt, &REQUIRE_FAULTS);
+    expect_require_lines(&rt, &INSIDE);
 }

@@ -1,11 +1,11 @@
 //! Environments of markers: which pairs make one, what is wrong with others, and the normal form of
 //! texts beside `extra`.
 
-use crate::tests::lines::{expect, expect_none, expect_same};
+use crate::tests::lines::{expect, expect_lines, expect_same, long_text};
 use pep_marker::{Environment, HeaderIn, MarkerFault, Variable, laws, norm_of};
 use std::alloc::{AllocError, Global};
 use std::process::Abort;
-use tests_kit::{Kind, MACHINE, MACHINE_HEADER, STANDARD_HEADER, first_difference, repeated};
+use tests_kit::{Kind, MACHINE, MACHINE_HEADER, STANDARD_HEADER};
 
 const VARIABLES: [Variable; 11] = [
     Variable::OsName,
@@ -23,17 +23,17 @@ const VARIABLES: [Variable; 11] = [
 
 // The pairs of the machine but those at two places, from the last to the first.
 fn pairs_without(
-    alloc: Global,
+    rt: &(impl Abort + AllocGlobal),
     first: usize,
     second: usize,
-) -> Result<Vec<(&'static str, &'static str)>, AllocError> {
-    let mut pairs = Vec::new(alloc);
-    for i in (0..11).rev() {
+) -> Vec<(&'static str, &'static str)> {
+    let mut pairs = Vec::new(rt.alloc());
+    for (i, pair) in MACHINE.iter().enumerate().rev() {
         if i != first && i != second {
-            pairs.push(MACHINE[i])?;
+            pairs.push(*pair).expect(rt, "room for a pair");
         }
     }
-    Ok(pairs)
+    pairs
 }
 
 // Names that no variable has.
@@ -57,17 +57,16 @@ fn values(rt: HostRuntime) -> Result<(), MarkerFault> {
 }
 
 // The environment of the machine from the last variable to the first, with an extra.
-fn machine_from_behind(alloc: Global) -> Result<Environment, MarkerFault> {
-    let mut pairs = pairs_without(alloc, 11, 11)?;
-    pairs.push(("extra", "Dev_Tools"))?;
-    Environment::of(alloc, &pairs)
+fn machine_from_behind(rt: &(impl Abort + AllocGlobal), extra: &'static str) -> Environment {
+    let mut pairs = pairs_without(rt, 11, 11);
+    pairs.push(("extra", extra)).expect(rt, "room for a pair");
+    Environment::of(rt.alloc(), &pairs).expect(rt, "an environment")
 }
 
 #[test]
-fn extra_and_order(rt: HostRuntime) -> Result<(), MarkerFault> {
-    let environment = machine_from_behind(rt.alloc())?;
+fn extra_and_order(rt: HostRuntime) {
+    let environment = machine_from_behind(&rt, "Dev_Tools");
     expect_machine(&rt, &environment, "Dev_Tools");
-    Ok(())
 }
 
 // Extras, and the last line of a header with each.
@@ -79,20 +78,18 @@ const LAST_LINES: [(&str, &str); 4] = [
 ];
 
 // Whether the header of the machine with this extra has this last line, and else that of the machine.
-fn has_header(alloc: Global, extra: &'static str, last: &str) -> Result<bool, MarkerFault> {
-    let mut pairs = pairs_without(alloc, 11, 11)?;
-    pairs.push(("extra", extra))?;
-    let header = Environment::of(alloc, &pairs)?.header(alloc)?;
-    Ok(header.as_str().strip_suffix(last) == MACHINE_HEADER.strip_suffix("env extra=\n"))
+fn has_header(rt: &(impl Abort + AllocGlobal), extra: &'static str, last: &str) -> bool {
+    let environment = machine_from_behind(rt, extra);
+    let header = environment.header(rt.alloc()).expect(rt, "a header");
+    header.as_str().strip_suffix(last) == MACHINE_HEADER.strip_suffix("env extra=\n")
 }
 
 #[test]
-fn headers(rt: HostRuntime) -> Result<(), MarkerFault> {
+fn headers(rt: HostRuntime) {
     for &(extra, last) in &LAST_LINES {
-        expect(&rt, extra, has_header(rt.alloc(), extra, last)?);
+        expect(&rt, extra, has_header(&rt, extra, last));
     }
     laws::one_header();
-    Ok(())
 }
 
 // Texts, and what header stands in front of each, seen from the machine.
@@ -104,25 +101,27 @@ const IN_FRONT: [(&str, &str); 4] = [
 ];
 
 fn header_in(
-    alloc: Global,
+    rt: &(impl Abort + AllocGlobal),
     environment: &Environment,
     text: &str,
-) -> Result<&'static str, MarkerFault> {
-    match environment.header_in(alloc, text)? {
-        HeaderIn::Missing => Ok("none"),
-        HeaderIn::Own(_) => Ok("its own"),
-        HeaderIn::Other(_, _) => Ok("that of another environment"),
-        HeaderIn::Bad(_) => Ok("that of no environment"),
+) -> &'static str {
+    match environment
+        .header_in(rt.alloc(), text)
+        .expect(rt, "room for an environment")
+    {
+        HeaderIn::Missing => "none",
+        HeaderIn::Own(_) => "its own",
+        HeaderIn::Other(_, _) => "that of another environment",
+        HeaderIn::Bad(_) => "that of no environment",
     }
 }
 
 #[test]
-fn headers_in_front(rt: HostRuntime) -> Result<(), MarkerFault> {
-    let machine = Environment::of(rt.alloc(), &MACHINE)?;
+fn headers_in_front(rt: HostRuntime) {
+    let machine = Environment::of(rt.alloc(), &MACHINE).expect(&rt, "the machine");
     for &(text, wanted) in &IN_FRONT {
-        expect_same(&rt, text, header_in(rt.alloc(), &machine, text)?, wanted);
+        expect_same(&rt, text, header_in(&rt, &machine, text), wanted);
     }
-    Ok(())
 }
 
 const FAULTY_PAIRS: [(&[(&str, &str)], MarkerFault); 10] = [
@@ -154,32 +153,31 @@ fn fault_of(alloc: Global, pairs: &[(&str, &str)]) -> Option<MarkerFault> {
     Environment::of(alloc, pairs).err()
 }
 
+fn expect_fault(rt: &(impl Abort + AllocGlobal), pairs: &[(&str, &str)], fault: MarkerFault) {
+    expect_same(rt, pairs, fault_of(rt.alloc(), pairs), Some(fault));
+}
+
 #[test]
 fn faulty_pairs(rt: HostRuntime) {
     for &(pairs, fault) in &FAULTY_PAIRS {
-        let found = fault_of(rt.alloc(), pairs);
-        expect(&rt, pairs, found == Some(fault));
+        expect_fault(&rt, pairs, fault);
     }
 }
 
 // What is wrong with the pairs of the machine but those at two places.
 fn fault_without(
-    alloc: Global,
+    rt: &(impl Abort + AllocGlobal),
     first: usize,
     second: usize,
-) -> Result<Option<MarkerFault>, AllocError> {
-    let pairs = pairs_without(alloc, first, second)?;
-    Ok(fault_of(alloc, pairs.as_slice()))
+) -> Option<MarkerFault> {
+    let pairs = pairs_without(rt, first, second);
+    fault_of(rt.alloc(), pairs.as_slice())
 }
 
 // The first of the missing variables is told.
-fn expect_missing(
-    rt: &(impl Abort + AllocGlobal),
-    place: usize,
-    variable: Variable,
-) -> Result<(), AllocError> {
+fn expect_missing(rt: &(impl Abort + AllocGlobal), place: usize, variable: Variable) {
     for other in place..11 {
-        let found = fault_without(rt.alloc(), place, other)?;
+        let found = fault_without(rt, place, other);
         expect_same(
             rt,
             other,
@@ -187,15 +185,13 @@ fn expect_missing(
             Some(MarkerFault::MissingVariable(variable)),
         );
     }
-    Ok(())
 }
 
 #[test]
-fn missing_variables(rt: HostRuntime) -> Result<(), AllocError> {
+fn missing_variables(rt: HostRuntime) {
     for (place, variable) in VARIABLES.iter().enumerate() {
-        expect_missing(&rt, place, *variable)?;
+        expect_missing(&rt, place, *variable);
     }
-    Ok(())
 }
 
 // What is wrong with a value of `a` and this character, alone.
@@ -244,13 +240,9 @@ impl Kind for Norm {
 }
 
 #[test]
-fn normal_texts(rt: HostRuntime) -> Result<(), MarkerFault> {
-    expect_none(&rt, first_difference(rt.alloc(), &Norm, &NORMAL_TEXTS)?);
-    let text = repeated(rt.alloc(), "", "\u{c9}A_.", 20_000, "")?;
-    let want = repeated(rt.alloc(), "", "\u{c9}a-", 20_000, "")?;
-    expect_none(
-        &rt,
-        first_difference(rt.alloc(), &Norm, &[(text.as_str(), want.as_str())])?,
-    );
-    Ok(())
+fn normal_texts(rt: HostRuntime) {
+    expect_lines(&rt, &Norm, &NORMAL_TEXTS);
+    let text = long_text(&rt, "", "\u{c9}A_.", 20_000, "");
+    let want = long_text(&rt, "", "\u{c9}a-", 20_000, "");
+    expect_lines(&rt, &Norm, &[(text.as_str(), want.as_str())]);
 }

@@ -1,12 +1,45 @@
-//! Assertions about rows of tables.
+//! Assertions about lines, and about rows of `const` tables.
 
 use std::fmt::Debug;
 use std::process::Abort;
-use tests_kit::Difference;
+use tests_kit::{Difference, Kind, first_difference, first_not_itself, repeated};
 
 /// Asserts that no row has another line than the wanted one.
 pub(crate) fn expect_none(rt: &impl Abort, found: Difference) {
     assert!(rt; found.is_none(), "{found:?}");
+}
+
+/// Asserts that each row has the line behind it.
+pub(crate) fn expect_lines<K: Kind>(
+    rt: &(impl Abort + AllocGlobal),
+    kind: &K,
+    rows: &[(&str, &str)],
+)
+where
+    K::Fault: Debug,
+{
+    let found = first_difference(rt.alloc(), kind, rows);
+    expect_none(rt, found.expect(rt, "a line of each row"));
+}
+
+/// Asserts that each row is its own line.
+pub(crate) fn expect_own_lines<K: Kind>(rt: &(impl Abort + AllocGlobal), kind: &K, rows: &[&str])
+where
+    K::Fault: Debug,
+{
+    let found = first_not_itself(rt.alloc(), kind, rows);
+    expect_none(rt, found.expect(rt, "a line of each row"));
+}
+
+/// The text, so many times the part, and the text behind it.
+pub(crate) fn long_text(
+    rt: &(impl Abort + AllocGlobal),
+    front: &str,
+    part: &str,
+    count: usize,
+    behind: &str,
+) -> String {
+    repeated(rt.alloc(), front, part, count, behind).expect(rt, "room for a text")
 }
 
 /// Asserts that a line is the wanted one.

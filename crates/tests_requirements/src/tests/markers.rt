@@ -1,12 +1,12 @@
 //! Markers: which texts are read, how they are written, and what they say in an environment.
 
-use crate::tests::lines::{expect, expect_none, expect_row};
+use crate::tests::lines::{
+    expect, expect_lines, expect_none, expect_own_lines, expect_row, long_text,
+};
 use pep_marker::{Environment, JudgedMarkers, Marker, MarkerFault};
 use std::alloc::{AllocError, Global};
 use std::process::Abort;
-use tests_kit::{
-    Kind, MACHINE, first_difference, first_difference_from, first_not_itself, repeated,
-};
+use tests_kit::{Kind, MACHINE, first_difference_from};
 
 const VARIABLES: [&str; 12] = [
     "os_name",
@@ -239,14 +239,18 @@ fn expect_truths(
     }
 }
 
+// The environment of the machine.
+fn machine(rt: &(impl Abort + AllocGlobal)) -> Environment {
+    Environment::of(rt.alloc(), &MACHINE).expect(rt, "the machine")
+}
+
 #[test]
-fn truths(rt: HostRuntime) -> Result<(), MarkerFault> {
-    let machine = Environment::of(rt.alloc(), &MACHINE)?;
+fn truths(rt: HostRuntime) {
+    let machine = machine(&rt);
     expect_truths(&rt, &machine, &TRUTHS);
     for text in &UNDEFINED {
         expect_truth(&rt, &machine, text, "refused 28");
     }
-    Ok(())
 }
 
 // The memory says of a text what is wanted, and says so again.
@@ -261,54 +265,56 @@ fn expect_judged(
 }
 
 // By `==` where the number is even, which holds of one, and else by `!=`, which holds.
-fn expect_micro(
-    rt: &(impl Abort + AllocGlobal),
-    markers: &mut JudgedMarkers<'_>,
-    micro: u32,
-) -> Result<(), AllocError> {
+fn expect_micro(rt: &(impl Abort + AllocGlobal), markers: &mut JudgedMarkers<'_>, micro: u32) {
     let is_even = micro % 2 == 0;
     let operator = if is_even { "==" } else { "!=" };
-    let text = format!(in rt.alloc(); "python_full_version {operator} '3.9.{micro}'")?;
     let want = if is_even && micro != 18 {
         "false"
     } else {
         "true"
     };
+    let text = format!(in rt.alloc(); "python_full_version {operator} '3.9.{micro}'");
+    let text = text.expect(rt, "room for a marker");
     expect_judged(rt, markers, text.as_str(), want);
-    Ok(())
 }
 
 // Five thousand markers in two rounds, where a memory has 4,096 places, so that some are shared.
 #[test]
-fn more_markers_than_are_remembered(rt: HostRuntime) -> Result<(), MarkerFault> {
-    let machine = Environment::of(rt.alloc(), &MACHINE)?;
+fn more_markers_than_are_remembered(rt: HostRuntime) {
+    let machine = machine(&rt);
     let mut markers = JudgedMarkers::new(rt.alloc(), &machine);
     for round in 0..10_000u32 {
-        expect_micro(&rt, &mut markers, round % 5_000)?;
+        expect_micro(&rt, &mut markers, round % 5_000);
     }
-    Ok(())
+}
+
+// The memory says of each text what it is on the machine.
+fn expect_truths_judged(rt: &(impl Abort + AllocGlobal), markers: &mut JudgedMarkers<'_>) {
+    for &(text, truth) in &TRUTHS {
+        expect_judged(rt, markers, text, truth);
+    }
+}
+
+// The memory says of each text without a truth that it has none.
+fn expect_undefined_judged(rt: &(impl Abort + AllocGlobal), markers: &mut JudgedMarkers<'_>) {
+    for text in &UNDEFINED {
+        expect_judged(rt, markers, text, "refused 28");
+    }
+}
+
+// A marker of 21 comparisons, the last of which doesn't hold.
+fn long_marker(rt: &(impl Abort + AllocGlobal)) -> String {
+    long_text(rt, "(", "os_name == 'posix' and ", 20, "os_name == 'nt')")
 }
 
 #[test]
-fn remembered_markers(rt: HostRuntime) -> Result<(), MarkerFault> {
-    let machine = Environment::of(rt.alloc(), &MACHINE)?;
+fn remembered_markers(rt: HostRuntime) {
+    let machine = machine(&rt);
     let mut markers = JudgedMarkers::new(rt.alloc(), &machine);
-    for &(text, truth) in &TRUTHS {
-        expect_judged(&rt, &mut markers, text, truth);
-    }
-    for text in &UNDEFINED {
-        expect_judged(&rt, &mut markers, text, "refused 28");
-    }
-    let long = repeated(
-        rt.alloc(),
-        "(",
-        "os_name == 'posix' and ",
-        20,
-        "os_name == 'nt')",
-    )?;
-    expect_judged(&rt, &mut markers, long.as_str(), "false");
+    expect_truths_judged(&rt, &mut markers);
+    expect_undefined_judged(&rt, &mut markers);
+    expect_judged(&rt, &mut markers, long_marker(&rt).as_str(), "false");
     expect_judged(&rt, &mut markers, "os_name = 'nt'", "refused 26");
-    Ok(())
 }
 
 const WITH_EXTRA: [(&str, &str); 4] = [
@@ -318,26 +324,26 @@ const WITH_EXTRA: [(&str, &str); 4] = [
     ("extra == \"dev\"", "false"),
 ];
 
-fn machine_with_extra(alloc: Global) -> Result<Environment, MarkerFault> {
-    let mut pairs = Vec::from_array(alloc, MACHINE)?;
-    pairs.push(("extra", "dev-tools"))?;
-    Environment::of(alloc, &pairs)
+fn machine_with_extra(rt: &(impl Abort + AllocGlobal)) -> Environment {
+    let copied = Vec::from_slice(rt.alloc(), &MACHINE);
+    let mut pairs = copied.expect(rt, "the pairs of the machine");
+    pairs
+        .push(("extra", "dev-tools"))
+        .expect(rt, "room for a pair");
+    Environment::of(rt.alloc(), &pairs).expect(rt, "an environment")
 }
 
 #[test]
-fn truth_with_extra(rt: HostRuntime) -> Result<(), MarkerFault> {
-    expect_truths(&rt, &machine_with_extra(rt.alloc())?, &WITH_EXTRA);
-    Ok(())
+fn truth_with_extra(rt: HostRuntime) {
+    expect_truths(&rt, &machine_with_extra(&rt), &WITH_EXTRA);
 }
 
 #[test]
 fn texts(rt: HostRuntime) -> Result<(), AllocError> {
-    expect_none(&rt, first_difference(rt.alloc(), &Text, &TEXTS)?);
-    expect_none(&rt, first_not_itself(rt.alloc(), &Text, &UNDEFINED)?);
-    expect_none(
-        &rt,
-        first_difference_from(rt.alloc(), &Text, &FAULTY, "refused 26")?,
-    );
+    expect_lines(&rt, &Text, &TEXTS);
+    expect_own_lines(&rt, &Text, &UNDEFINED);
+    let found = first_difference_from(rt.alloc(), &Text, &FAULTY, "refused 26")?;
+    expect_none(&rt, found);
     Ok(())
 }
 
@@ -347,54 +353,50 @@ fn is_stable(alloc: Global, text: &str) -> Result<bool, MarkerFault> {
     Ok(text_of(alloc, once.as_str())? == once)
 }
 
-#[test]
-fn texts_of_texts(rt: HostRuntime) -> Result<(), MarkerFault> {
-    for &(text, _) in TEXTS.iter().chain(&TRUTHS) {
-        expect(&rt, text, is_stable(rt.alloc(), text)?);
+// The text of each marker is its own text.
+fn expect_stable(rt: &(impl Abort + AllocGlobal), rows: &[(&str, &str)]) {
+    for &(text, _) in rows {
+        let stable = is_stable(rt.alloc(), text).expect(rt, "the text of a marker");
+        expect(rt, text, stable);
     }
-    Ok(())
-}
-
-fn expect_operator(
-    rt: &(impl Abort + AllocGlobal),
-    variable: &str,
-    operator: &str,
-) -> Result<(), AllocError> {
-    let left = format!(in rt.alloc(); "{variable} {operator} \"1.0\"")?;
-    let right = format!(in rt.alloc(); "\"1.0\" {operator} {variable}")?;
-    expect_none(
-        rt,
-        first_not_itself(rt.alloc(), &Text, &[left.as_str(), right.as_str()])?,
-    );
-    Ok(())
 }
 
 #[test]
-fn variables_and_operators(rt: HostRuntime) -> Result<(), AllocError> {
+fn texts_of_texts(rt: HostRuntime) {
+    expect_stable(&rt, &TEXTS);
+    expect_stable(&rt, &TRUTHS);
+}
+
+fn expect_operator(rt: &(impl Abort + AllocGlobal), variable: &str, operator: &str) {
+    let left = format!(in rt.alloc(); "{variable} {operator} \"1.0\"");
+    expect_own_lines(rt, &Text, &[left.expect(rt, "room for a marker").as_str()]);
+    let right = format!(in rt.alloc(); "\"1.0\" {operator} {variable}");
+    expect_own_lines(rt, &Text, &[right.expect(rt, "room for a marker").as_str()]);
+}
+
+#[test]
+fn variables_and_operators(rt: HostRuntime) {
     for variable in &VARIABLES {
         for operator in &OPERATORS {
-            expect_operator(&rt, variable, operator)?;
+            expect_operator(&rt, variable, operator);
         }
     }
-    Ok(())
 }
 
 // ---- long and deep markers
 
 // A comparison in so many parentheses.
-fn in_parentheses(alloc: Global, count: usize) -> Result<String, AllocError> {
-    let text = repeated(alloc, "", "(", count, "'a'=='a'")?;
-    repeated(alloc, text.as_str(), ")", count, "")
+fn in_parentheses(rt: &(impl Abort + AllocGlobal), count: usize) -> String {
+    let text = long_text(rt, "", "(", count, "'a'=='a'");
+    long_text(rt, text.as_str(), ")", count, "")
 }
 
 #[test]
-fn open_parentheses(rt: HostRuntime) -> Result<(), AllocError> {
+fn open_parentheses(rt: HostRuntime) {
     for &(count, want) in &[(64, "\"a\" == \"a\""), (65, "refused 27")] {
-        let text = in_parentheses(rt.alloc(), count)?;
-        let found = first_difference(rt.alloc(), &Text, &[(text.as_str(), want)])?;
-        expect_none(&rt, found);
+        let text = in_parentheses(&rt, count);
+        expect_lines(&rt, &Text, &[(text.as_str(), want)]);
     }
-    Ok(())
 }
 
 // What stands in front, what is repeated and how often, what stands behind, and whether all is a marker.
@@ -440,36 +442,32 @@ fn reading_word(alloc: Global, text: &str) -> &'static str {
     }
 }
 
-fn expect_reading(rt: &(impl Abort + AllocGlobal), row: Long) -> Result<(), AllocError> {
+fn expect_reading(rt: &(impl Abort + AllocGlobal), row: Long) {
     let (front, part, count, behind, want) = row;
-    let text = repeated(rt.alloc(), front, part, count, behind)?;
+    let text = long_text(rt, front, part, count, behind);
     expect_row(rt, front, reading_word(rt.alloc(), text.as_str()), want);
-    Ok(())
 }
 
-fn expect_readings(rt: &(impl Abort + AllocGlobal), rows: &[Long]) -> Result<(), AllocError> {
+fn expect_readings(rt: &(impl Abort + AllocGlobal), rows: &[Long]) {
     for row in rows {
-        expect_reading(rt, *row)?;
+        expect_reading(rt, *row);
     }
-    Ok(())
 }
 
 #[test]
-fn long_and_deep_texts(rt: HostRuntime) -> Result<(), AllocError> {
-    expect_readings(&rt, &DEEP)?;
-    expect_readings(&rt, &COMPARISONS)?;
+fn long_and_deep_texts(rt: HostRuntime) {
+    expect_readings(&rt, &DEEP);
+    expect_readings(&rt, &COMPARISONS);
     for front in &NO_MARKERS {
-        expect_reading(&rt, (*front, "(", 65, "+", "refused 26"))?;
+        expect_reading(&rt, (*front, "(", 65, "+", "refused 26"));
     }
-    Ok(())
 }
 
 #[test]
-fn truth_of_many_comparisons(rt: HostRuntime) -> Result<(), MarkerFault> {
-    let machine = Environment::of(rt.alloc(), &MACHINE)?;
+fn truth_of_many_comparisons(rt: HostRuntime) {
+    let machine = machine(&rt);
     for &(behind, truth) in &[("os_name=='posix'", "true"), ("os_name=='nt'", "false")] {
-        let text = repeated(rt.alloc(), "", "python_version>='3' and ", 1023, behind)?;
+        let text = long_text(&rt, "", "python_version>='3' and ", 1023, behind);
         expect_truth(&rt, &machine, text.as_str(), truth);
     }
-    Ok(())
 }

@@ -1,12 +1,12 @@
 //! Names of packages, and the runs of bytes that they are found by.
 
-use crate::tests::lines::{expect, expect_none};
+use crate::tests::lines::{expect, expect_lines, expect_own_lines, long_text};
 use pep_marker::{MarkerFault, Name};
 use std::alloc::Global;
 use std::cmp::Ordering;
 use std::hash::{DefaultHasher, Hash, Hasher};
 use std::process::Abort;
-use tests_kit::{Kind, first_difference, first_not_itself, repeated};
+use tests_kit::Kind;
 use texts::{blank_run, is_blank_byte, is_name_byte, name_run, stripped, without_outer_blanks};
 
 // Names in their order, by the bytes of their normal texts. Some share their first eight bytes.
@@ -63,9 +63,8 @@ fn fault_of(alloc: Global, text: &str) -> Option<MarkerFault> {
 }
 
 #[test]
-fn names(rt: HostRuntime) -> Result<(), MarkerFault> {
-    expect_none(&rt, first_difference(rt.alloc(), &Text, &NAMES)?);
-    Ok(())
+fn names(rt: HostRuntime) {
+    expect_lines(&rt, &Text, &NAMES);
 }
 
 #[test]
@@ -124,25 +123,25 @@ const EQUAL: [(&str, &str); 3] = [
 ];
 
 // Whether two texts are one name.
-fn is_one_name(alloc: Global, one: &str, other: &str) -> Result<bool, MarkerFault> {
-    let (one, other) = (Name::read(alloc, one)?, Name::read(alloc, other)?);
-    Ok(is_order(&one, &other, Ordering::Equal))
+fn is_one_name(rt: &(impl Abort + AllocGlobal), one: &str, other: &str) -> bool {
+    let one = Name::read(rt.alloc(), one).expect(rt, "a name");
+    let other = Name::read(rt.alloc(), other).expect(rt, "a name");
+    is_order(&one, &other, Ordering::Equal)
 }
 
 // Whether the copy of a name is equal to it, with its text.
-fn has_copy(alloc: Global, text: &str) -> Result<bool, MarkerFault> {
-    let name = Name::read(alloc, text)?;
-    let copy = name.copied(alloc)?;
-    Ok(copy == name && copy.text() == name.text())
+fn has_copy(rt: &(impl Abort + AllocGlobal), text: &str) -> bool {
+    let name = Name::read(rt.alloc(), text).expect(rt, "a name");
+    let copy = name.copied(rt.alloc()).expect(rt, "the copy of a name");
+    copy == name && copy.text() == name.text()
 }
 
 #[test]
-fn equal_names(rt: HostRuntime) -> Result<(), MarkerFault> {
+fn equal_names(rt: HostRuntime) {
     for &(one, other) in &EQUAL {
-        expect(&rt, (one, other), is_one_name(rt.alloc(), one, other)?);
-        expect(&rt, one, has_copy(rt.alloc(), one)?);
+        expect(&rt, (one, other), is_one_name(&rt, one, other));
+        expect(&rt, one, has_copy(&rt, one));
     }
-    Ok(())
 }
 
 #[test]
@@ -191,9 +190,8 @@ fn trims_names(rt: HostRuntime) {
 }
 
 #[test]
-fn long_names(rt: HostRuntime) -> Result<(), MarkerFault> {
-    let text = repeated(rt.alloc(), "", "a-b", 20_000, "")?;
-    expect_none(&rt, first_not_itself(rt.alloc(), &Text, &[text.as_str()])?);
-    assert!(rt; has_copy(rt.alloc(), text.as_str())?);
-    Ok(())
+fn long_names(rt: HostRuntime) {
+    let text = long_text(&rt, "", "a-b", 20_000, "");
+    expect_own_lines(&rt, &Text, &[text.as_str()]);
+    assert!(rt; has_copy(&rt, text.as_str()));
 }

@@ -1,13 +1,12 @@
 //! Requirement lines by PEP 508: what they are read as, their texts, and what is wrong with others.
 
-use crate::tests::lines::{expect_none, expect_same};
+use crate::tests::lines::{expect_lines, expect_own_lines, expect_same, long_text};
 use pep_clause::ClauseFault;
 use pep_marker::{Environment, MarkerFault};
 use pep_require::{RequireFault, Requirement, Target, UrlText};
 use std::alloc::{AllocError, Global};
 use std::process::Abort;
-use std::test::Fail;
-use tests_kit::{Kind, MACHINE, first_difference, first_not_itself, push_numbered, repeated};
+use tests_kit::{Kind, MACHINE, push_numbered};
 
 // What a line is made by.
 enum Line {
@@ -46,13 +45,9 @@ fn text_of(alloc: Global, line: &str) -> Result<String, RequireFault> {
 }
 
 // Lines and their texts; each text is its own text.
-fn expect_texts(
-    rt: &(impl Abort + AllocGlobal),
-    rows: &[(&str, &str)],
-) -> Result<(), RequireFault> {
-    expect_none(rt, first_difference(rt.alloc(), &Line::Text, rows)?);
-    expect_none(rt, first_difference(rt.alloc(), &Line::Again, rows)?);
-    Ok(())
+fn expect_texts(rt: &(impl Abort + AllocGlobal), rows: &[(&str, &str)]) {
+    expect_lines(rt, &Line::Text, rows);
+    expect_lines(rt, &Line::Again, rows);
 }
 
 const NAMES_AND_EXTRAS: [(&str, &str); 8] = [
@@ -120,11 +115,11 @@ const MARKERS: [(&str, &str); 4] = [
 ];
 
 #[test]
-fn texts(rt: HostRuntime) -> Result<(), RequireFault> {
-    expect_texts(&rt, &NAMES_AND_EXTRAS)?;
-    expect_texts(&rt, &CLAUSES)?;
-    expect_texts(&rt, &URLS)?;
-    expect_texts(&rt, &MARKERS)
+fn texts(rt: HostRuntime) {
+    expect_texts(&rt, &NAMES_AND_EXTRAS);
+    expect_texts(&rt, &CLAUSES);
+    expect_texts(&rt, &URLS);
+    expect_texts(&rt, &MARKERS);
 }
 
 const NO_OPERATOR: RequireFault = RequireFault::BadClause(ClauseFault::NoOperator);
@@ -237,25 +232,17 @@ const OWN_TEXTS: [(&str, &str, usize, &str); 4] = [
 ];
 
 #[test]
-fn long_lines(rt: HostRuntime) -> Result<(), RequireFault> {
+fn long_lines(rt: HostRuntime) {
     for &(front, part, count, behind) in &OWN_TEXTS {
-        let line = repeated(rt.alloc(), front, part, count, behind)?;
-        expect_none(
-            &rt,
-            first_not_itself(rt.alloc(), &Line::Text, &[line.as_str()])?,
-        );
+        let line = long_text(&rt, front, part, count, behind);
+        expect_own_lines(&rt, &Line::Text, &[line.as_str()]);
     }
-    Ok(())
 }
 
 #[test]
-fn a_name_as_long_as_a_line(rt: HostRuntime) -> Result<(), RequireFault> {
-    let line = repeated(rt.alloc(), "", "a", 65_536, "")?;
-    expect_none(
-        &rt,
-        first_not_itself(rt.alloc(), &Line::Name, &[line.as_str()])?,
-    );
-    Ok(())
+fn a_name_as_long_as_a_line(rt: HostRuntime) {
+    let line = long_text(&rt, "", "a", 65_536, "");
+    expect_own_lines(&rt, &Line::Name, &[line.as_str()]);
 }
 
 // A line with extras in their order.
@@ -267,13 +254,9 @@ fn line_of_extras(alloc: Global) -> Result<String, AllocError> {
 }
 
 #[test]
-fn many_extras(rt: HostRuntime) -> Result<(), RequireFault> {
-    let line = line_of_extras(rt.alloc())?;
-    expect_none(
-        &rt,
-        first_not_itself(rt.alloc(), &Line::Text, &[line.as_str()])?,
-    );
-    Ok(())
+fn many_extras(rt: HostRuntime) {
+    let line = line_of_extras(rt.alloc()).expect(&rt, "room for a line");
+    expect_own_lines(&rt, &Line::Text, &[line.as_str()]);
 }
 
 // The same with the fault of the line.
@@ -284,9 +267,9 @@ const TOO_LONG: [(&str, &str, usize, &str, RequireFault); 3] = [
 ];
 
 #[test]
-fn lines_that_are_too_long(rt: HostRuntime) -> Result<(), AllocError> {
+fn lines_that_are_too_long(rt: HostRuntime) {
     for &(front, part, count, behind, wanted) in &TOO_LONG {
-        let line = repeated(rt.alloc(), front, part, count, behind)?;
+        let line = long_text(&rt, front, part, count, behind);
         expect_same(
             &rt,
             front,
@@ -294,7 +277,6 @@ fn lines_that_are_too_long(rt: HostRuntime) -> Result<(), AllocError> {
             Some(wanted),
         );
     }
-    Ok(())
 }
 
 // ---- parts
@@ -307,14 +289,25 @@ fn clause_count(target: &Target) -> Option<usize> {
     }
 }
 
-fn bounds_line(alloc: Global, read: &Requirement) -> Result<String, AllocError> {
+// Appends an extra in brackets.
+fn push_extra(line: &mut String, extra: &str) -> Result<(), AllocError> {
+    line.push_str("[")?;
+    line.push_str(extra)?;
+    line.push_str("]")
+}
+
+// The name, and the extras in brackets.
+fn names_line(alloc: Global, read: &Requirement) -> Result<String, AllocError> {
     let mut line = String::from_str(alloc, read.name().text())?;
     for extra in read.extras() {
-        line.push_str("[")?;
-        line.push_str(extra.text())?;
-        line.push_str("]")?;
+        push_extra(&mut line, extra.text())?;
     }
+    Ok(line)
+}
+
+fn bounds_line(alloc: Global, read: &Requirement) -> Result<String, AllocError> {
     let (count, is_marked) = (clause_count(read.target()), read.marker().is_some());
+    let line = names_line(alloc, read)?;
     format!(in alloc; "{line} {count:?} {is_marked}")
 }
 
@@ -350,39 +343,26 @@ impl Kind for NameOfLine {
 }
 
 #[test]
-fn parts(rt: HostRuntime) -> Result<(), RequireFault> {
-    expect_none(
+fn parts(rt: HostRuntime) {
+    expect_lines(
         &rt,
-        first_difference(
-            rt.alloc(),
-            &Line::Bounds,
-            &[(
-                "Foo[x,B_c]>=1,<2; os_name == 'nt'",
-                "foo[b-c][x] Some(2) true",
-            )],
-        )?,
+        &Line::Bounds,
+        &[(
+            "Foo[x,B_c]>=1,<2; os_name == 'nt'",
+            "foo[b-c][x] Some(2) true",
+        )],
     );
-    expect_none(
+    expect_lines(
         &rt,
-        first_difference(
-            rt.alloc(),
-            &Line::Url,
-            &[(
-                "a @ HTTPS://X.test/a/../b",
-                "HTTPS://X.test/a/../b https://x.test/b false",
-            )],
-        )?,
+        &Line::Url,
+        &[(
+            "a @ HTTPS://X.test/a/../b",
+            "HTTPS://X.test/a/../b https://x.test/b false",
+        )],
     );
     assert!(rt; UrlText::has_common_form("https://x.test/b") && !UrlText::has_common_form("b"));
-    expect_none(
-        &rt,
-        first_not_itself(rt.alloc(), &UrlAlone, &["https://x.test/b"])?,
-    );
-    expect_none(
-        &rt,
-        first_difference(rt.alloc(), &NameOfLine, &[(" Foo_.Bar [ ?", "foo-bar")])?,
-    );
-    Ok(())
+    expect_own_lines(&rt, &UrlAlone, &["https://x.test/b"]);
+    expect_lines(&rt, &NameOfLine, &[(" Foo_.Bar [ ?", "foo-bar")]);
 }
 
 // Lines, and whether they apply on the machine.
@@ -394,19 +374,19 @@ const APPLYING: [(&str, Result<bool, MarkerFault>); 4] = [
 ];
 
 fn applying(
-    alloc: Global,
+    rt: &(impl Abort + AllocGlobal),
     line: &str,
     environment: &Environment,
-) -> Result<Result<bool, MarkerFault>, RequireFault> {
-    Ok(Requirement::read(alloc, line)?.applies(alloc, environment))
+) -> Result<bool, MarkerFault> {
+    let requirement = Requirement::read(rt.alloc(), line).expect(rt, "a requirement");
+    requirement.applies(rt.alloc(), environment)
 }
 
 #[test]
-fn applies(rt: HostRuntime) -> Result<(), Fail> {
-    let environment = Environment::of(rt.alloc(), &MACHINE)?;
+fn applies(rt: HostRuntime) {
+    let environment = Environment::of(rt.alloc(), &MACHINE).expect(&rt, "the machine");
     for &(line, wanted) in &APPLYING {
-        let found = applying(rt.alloc(), line, &environment)?;
+        let found = applying(&rt, line, &environment);
         expect_same(&rt, line, found, wanted);
     }
-    Ok(())
 }

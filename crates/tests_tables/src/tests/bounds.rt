@@ -2,58 +2,70 @@
 
 use crate::tests::lines::expect_row;
 use packed_cuts::{LeftOut, PackedRange, PackedSet};
-use pep_clause::{Clause, ClauseFault, Cut, PackedCut, VersionSet};
-use std::alloc::Global;
+use pep_clause::{Clause, Cut, PackedCut, VersionSet};
+use std::process::Abort;
 
 // The text, and the other one behind it where they differ.
-fn one_text(alloc: Global, text: &str, other: &str) -> Result<String, ClauseFault> {
-    if text == other {
-        Ok(String::from_str(alloc, text)?)
+fn one_text(rt: &(impl Abort + AllocGlobal), text: &str, other: &str) -> String {
+    let both = if text == other {
+        String::from_str(rt.alloc(), text)
     } else {
-        Ok(format!(in alloc; "{text}, and {other}")?)
-    }
+        format!(in rt.alloc(); "{text}, and {other}")
+    };
+    both.expect(rt, "room for a text")
 }
 
-fn text_of_cut(alloc: Global, cut: PackedCut) -> Result<String, ClauseFault> {
-    Cut::of_packed(cut).text(alloc)
+fn text_of_cut(rt: &(impl Abort + AllocGlobal), cut: PackedCut) -> String {
+    let text = Cut::of_packed(cut).text(rt.alloc());
+    text.expect(rt, "the text of a cut")
 }
 
-fn pushed(alloc: Global, cut: PackedCut) -> Result<String, ClauseFault> {
-    let mut pushed = String::new(alloc);
-    cut.put_text(&mut pushed)?;
-    Ok(pushed)
+fn pushed(rt: &(impl Abort + AllocGlobal), cut: PackedCut) -> String {
+    let mut pushed = String::new(rt.alloc());
+    cut.put_text(&mut pushed).expect(rt, "room for a cut");
+    pushed
 }
 
 // The text of a packed cut, by its cut and by itself.
-fn cut_text(alloc: Global, cut: PackedCut) -> Result<String, ClauseFault> {
-    let text = text_of_cut(alloc, cut)?;
-    one_text(alloc, text.as_str(), pushed(alloc, cut)?.as_str())
+fn cut_text(rt: &(impl Abort + AllocGlobal), cut: PackedCut) -> String {
+    let text = text_of_cut(rt, cut);
+    one_text(rt, text.as_str(), pushed(rt, cut).as_str())
 }
 
 // The two packed cuts.
-fn bounds_text(alloc: Global, bounds: PackedRange) -> Result<String, ClauseFault> {
-    let low = cut_text(alloc, bounds.low)?;
-    let high = cut_text(alloc, bounds.high)?;
-    Ok(format!(in alloc; "{low} to {high}")?)
+fn bounds_text(rt: &(impl Abort + AllocGlobal), bounds: PackedRange) -> String {
+    let low = cut_text(rt, bounds.low);
+    let high = cut_text(rt, bounds.high);
+    format!(in rt.alloc(); "{low} to {high}").expect(rt, "room for two cuts")
 }
 
-fn left_out_text(alloc: Global, bounds: PackedRange) -> Result<String, ClauseFault> {
-    let text = bounds_text(alloc, bounds)?;
-    Ok(format!(in alloc; "not {text}")?)
+fn left_out_text(rt: &(impl Abort + AllocGlobal), bounds: PackedRange) -> String {
+    let text = bounds_text(rt, bounds);
+    format!(in rt.alloc(); "not {text}").expect(rt, "room for two cuts")
+}
+
+// The set of versions that the clause of a text admits.
+fn admitted(rt: &(impl Abort + AllocGlobal), text: &str) -> VersionSet {
+    let clause = Clause::read(rt.alloc(), text).expect(rt, "a clause");
+    VersionSet::of(rt.alloc(), &clause).expect(rt, "the set of a clause")
 }
 
 // What the clause of a text admits, where it is between packed cuts or outside of them.
-fn set_of(alloc: Global, text: &str) -> Result<Option<PackedSet>, ClauseFault> {
-    let clause = Clause::read(alloc, text)?;
-    Ok(PackedSet::of(&VersionSet::of(alloc, &clause)?))
+fn set_of(rt: &(impl Abort + AllocGlobal), text: &str) -> Option<PackedSet> {
+    PackedSet::of(&admitted(rt, text))
+}
+
+// No bounds.
+fn no_bounds(rt: &(impl Abort + AllocGlobal)) -> String {
+    String::from_str(rt.alloc(), "none").expect(rt, "room for a text")
 }
 
 // The cuts between which the clause of this text admits versions, or leaves them out, where both have a packed cut.
-fn bounds_line(alloc: Global, text: &str) -> Result<String, ClauseFault> {
-    match set_of(alloc, text)? {
-        Some(set) if set.outside => left_out_text(alloc, set.bounds),
-        Some(set) => bounds_text(alloc, set.bounds),
-        None => Ok(String::from_str(alloc, "none")?),
+fn bounds_line(rt: &(impl Abort + AllocGlobal), text: &str) -> String {
+    match set_of(rt, text) {
+        Some(set) if set.outside => left_out_text(rt, set.bounds),
+        Some(set) => bounds_text(rt, set.bounds),
+        None => no_bounds(rt),
     }
 }
 
@@ -118,56 +130,61 @@ const BOUNDS: [(&str, &str); 49] = [
 ];
 
 #[test]
-fn bounds(rt: HostRuntime) -> Result<(), ClauseFault> {
+fn bounds(rt: HostRuntime) {
     for &(text, want) in &BOUNDS {
-        let line = bounds_line(rt.alloc(), text)?;
+        let line = bounds_line(&rt, text);
         expect_row(&rt, text, line.as_str(), want);
     }
-    Ok(())
 }
 
 // What clauses with `!=` leave over of all versions.
-fn left_over_by(alloc: Global, clauses: &[&str]) -> Result<LeftOut, ClauseFault> {
-    let mut left_out = LeftOut::none(alloc);
+fn left_over_by(rt: &(impl Abort + AllocGlobal), clauses: &[&str]) -> LeftOut {
+    let mut left_out = LeftOut::none(rt.alloc());
     for text in clauses {
         if let Some(
             PackedSet {
                 bounds,
                 outside: true,
             },
-        ) = set_of(alloc, text)?
+        ) = set_of(rt, text)
         {
-            left_out.leave_out(alloc, bounds)?;
+            let more = left_out.leave_out(rt.alloc(), bounds);
+            more.expect(rt, "room for a range");
         }
     }
-    Ok(left_out)
+    left_out
+}
+
+// Appends the text of a cut, and what stands behind it.
+fn push_cut(rt: &impl Abort, text: &mut String, cut: &Cut, behind: &str) {
+    cut.push_text(text).expect(rt, "room for a cut");
+    text.push_str(behind).expect(rt, "room for a text");
 }
 
 // The cuts of each range.
-fn set_text(alloc: Global, set: &VersionSet) -> Result<String, ClauseFault> {
-    let mut text = String::new(alloc);
+fn set_text(rt: &(impl Abort + AllocGlobal), set: &VersionSet) -> String {
+    let mut text = String::new(rt.alloc());
     for range in set.ranges() {
-        range.low().push_text(&mut text)?;
-        text.push_str(" to ")?;
-        range.high().push_text(&mut text)?;
-        text.push_str(";")?;
+        push_cut(rt, &mut text, range.low(), " to ");
+        push_cut(rt, &mut text, range.high(), ";");
     }
-    Ok(text)
+    text
 }
 
 fn set_between(
-    alloc: Global,
+    rt: &(impl Abort + AllocGlobal),
     clauses: &[&str],
     bounds: PackedRange,
-) -> Result<VersionSet, ClauseFault> {
-    left_over_by(alloc, clauses)?.between(alloc, bounds)
+) -> VersionSet {
+    let left = left_over_by(rt, clauses).between(rt.alloc(), bounds);
+    left.expect(rt, "what is left over")
 }
 
 // The ranges of what is left over between the bounds of a clause.
-fn left_line(alloc: Global, within: &str, clauses: &[&str]) -> Result<String, ClauseFault> {
-    match set_of(alloc, within)? {
-        Some(set) if !set.outside => set_text(alloc, &set_between(alloc, clauses, set.bounds)?),
-        _ => Ok(String::from_str(alloc, "none")?),
+fn left_line(rt: &(impl Abort + AllocGlobal), within: &str, clauses: &[&str]) -> String {
+    match set_of(rt, within) {
+        Some(set) if !set.outside => set_text(rt, &set_between(rt, clauses, set.bounds)),
+        _ => no_bounds(rt),
     }
 }
 
@@ -205,10 +222,9 @@ const LEFT: [(&str, &[&str], &str); 10] = [
 ];
 
 #[test]
-fn left_over(rt: HostRuntime) -> Result<(), ClauseFault> {
+fn left_over(rt: HostRuntime) {
     for &(within, clauses, want) in &LEFT {
-        let line = left_line(rt.alloc(), within, clauses)?;
+        let line = left_line(&rt, within, clauses);
         expect_row(&rt, within, line.as_str(), want);
     }
-    Ok(())
 }

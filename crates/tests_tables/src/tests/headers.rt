@@ -1,10 +1,10 @@
 //! Headers of texts of tables: those of the environment at hand, of others, and those that none has.
 
 use crate::tests::lines::expect_row;
-use crate::tests::tables::table;
-use pep_marker::{Environment, Name};
+use crate::tests::tables::{name, table};
+use pep_marker::Environment;
 use pep_table::{Gathering, Table, TableFault};
-use std::alloc::{AllocError, Global};
+use std::alloc::AllocError;
 use std::process::Abort;
 use tests_kit::{MACHINE, MACHINE_HEADER};
 
@@ -12,56 +12,87 @@ use tests_kit::{MACHINE, MACHINE_HEADER};
 const FLASK: &str = "flask open\n  range before 2 to before 3.dev0\n";
 
 // The environment of the machine with an extra.
-fn machine_with(alloc: Global, extra: &'static str) -> Result<Environment, TableFault> {
-    let mut pairs = Vec::from_slice(alloc, &MACHINE)?;
-    pairs.push(("extra", extra))?;
-    match Environment::of(alloc, pairs.as_slice()) {
-        Ok(environment) => Ok(environment),
-        Err(_) => Err(TableFault::NoMemory),
+fn machine_with(rt: &(impl Abort + AllocGlobal), extra: &'static str) -> Environment {
+    let mut pairs = Vec::from_slice(rt.alloc(), &MACHINE).expect(rt, "the pairs of the machine");
+    pairs.push(("extra", extra)).expect(rt, "room for a pair");
+    let environment = Environment::of(rt.alloc(), pairs.as_slice());
+    environment.expect(rt, "an environment with an extra")
+}
+
+// The code of a fault of a text, and its line.
+fn code_and_line(rt: &impl Abort, fault: TableFault) -> (u32, usize) {
+    match fault {
+        TableFault::BadTable(line) => (41, line),
+        TableFault::OtherEnvironment(line) => (43, line),
+        other => panic!(rt; "{other}"),
     }
 }
 
 // What is told of a text: its code and its line.
-fn told_line(alloc: Global, fault: Option<TableFault>) -> Result<String, TableFault> {
-    let (code, line) = match fault {
-        None => return Ok(String::from_str(alloc, "read")?),
-        Some(TableFault::BadTable(line)) => (41, line),
-        Some(TableFault::OtherEnvironment(line)) => (43, line),
-        Some(other) => return Err(other),
+fn told_line(rt: &(impl Abort + AllocGlobal), fault: Option<TableFault>) -> String {
+    let line = match fault {
+        None => String::from_str(rt.alloc(), "read"),
+        Some(fault) => {
+            let (code, line) = code_and_line(rt, fault);
+            format!(in rt.alloc(); "{code} {line}")
+        }
     };
-    Ok(format!(in alloc; "{code} {line}")?)
+    line.expect(rt, "room for a line")
 }
 
 // What is told where the text is read on the machine with an extra, and where a name is looked for in it.
-fn told(alloc: Global, text: &str, extra: &'static str) -> Result<String, TableFault> {
-    let environment = machine_with(alloc, extra)?;
-    let whole = told_line(alloc, Table::read(alloc, text, &environment).err())?;
-    let part = told_line(alloc, fault_of_name(alloc, text, &environment))?;
-    Ok(format!(in alloc; "{whole}, {part}")?)
+fn told(rt: &(impl Abort + AllocGlobal), text: &str, extra: &'static str) -> String {
+    let environment = machine_with(rt, extra);
+    let whole = told_line(rt, fault_of_text(rt, text, &environment));
+    let part = told_line(rt, fault_of_name(rt, text, &environment));
+    format!(in rt.alloc(); "{whole}, {part}").expect(rt, "room for two lines")
 }
 
-fn fault_of_name(alloc: Global, text: &str, environment: &Environment) -> Option<TableFault> {
-    match Name::read(alloc, "z") {
-        Ok(name) => Gathering::new(alloc)
-            .take_text(alloc, text, environment, Some(&name))
-            .err(),
-        Err(_) => Some(TableFault::NoMemory),
+fn fault_of_text(
+    rt: &(impl Abort + AllocGlobal),
+    text: &str,
+    environment: &Environment,
+) -> Option<TableFault> {
+    Table::read(rt.alloc(), text, environment).err()
+}
+
+fn fault_of_name(
+    rt: &(impl Abort + AllocGlobal),
+    text: &str,
+    environment: &Environment,
+) -> Option<TableFault> {
+    let name = name(rt, "z");
+    let gathering = Gathering::new(rt.alloc());
+    let part = gathering.take_text(rt.alloc(), text, environment, Some(&name));
+    part.err()
+}
+
+// Appends the line with its line feed, unless it is empty.
+fn push_line(text: &mut String, line: &str) -> Result<(), AllocError> {
+    if !line.is_empty() {
+        text.push_str(line)?;
+        text.push_str("\n")?;
     }
+    Ok(())
+}
+
+// The lines of a text, with another text in the place of the line with this number.
+fn replaced(rt: &(impl Abort + AllocGlobal), whole: &str, number: usize, other: &str) -> String {
+    let mut text = String::new(rt.alloc());
+    for (index, line) in whole.split('\n').enumerate() {
+        if index.saturating_add(1) == number {
+            text.push_str(other).expect(rt, "room for a text");
+        } else {
+            push_line(&mut text, line).expect(rt, "room for a line");
+        }
+    }
+    text
 }
 
 // The text of the table on the machine, with another text in the place of the line with this number.
-fn with_line(alloc: Global, number: usize, other: &str) -> Result<String, AllocError> {
-    let whole = format!(in alloc; "{MACHINE_HEADER}{FLASK}")?;
-    let mut text = String::new(alloc);
-    for (index, line) in whole.as_str().split('\n').enumerate() {
-        if index.saturating_add(1) == number {
-            text.push_str(other)?;
-        } else if !line.is_empty() {
-            text.push_str(line)?;
-            text.push_str("\n")?;
-        }
-    }
-    Ok(text)
+fn with_line(rt: &(impl Abort + AllocGlobal), number: usize, other: &str) -> String {
+    let whole = format!(in rt.alloc(); "{MACHINE_HEADER}{FLASK}").expect(rt, "room for a text");
+    replaced(rt, whole.as_str(), number, other)
 }
 
 // The number of a line, what stands in its place, and what is told on the machine.
@@ -114,12 +145,11 @@ const HEADERS: [(&str, &str, &str); 7] = [
 ];
 
 #[test]
-fn headers(rt: HostRuntime) -> Result<(), TableFault> {
+fn headers(rt: HostRuntime) {
     for &(text, extra, want) in &HEADERS {
-        let found = told(rt.alloc(), text, extra)?;
+        let found = told(&rt, text, extra);
         expect_row(&rt, text, found.as_str(), want);
     }
-    Ok(())
 }
 
 // The same where the header of the environment differs from that of the machine in its last line: of
@@ -136,41 +166,45 @@ const CHANGES_ELSEWHERE: [(usize, &str, &str); 8] = [
 ];
 
 fn changed_line(
-    alloc: Global,
+    rt: &(impl Abort + AllocGlobal),
     number: usize,
     other: &str,
     extra: &'static str,
-) -> Result<String, TableFault> {
-    told(alloc, with_line(alloc, number, other)?.as_str(), extra)
+) -> String {
+    told(rt, with_line(rt, number, other).as_str(), extra)
 }
 
 fn expect_changes(
     rt: &(impl Abort + AllocGlobal),
     extra: &'static str,
     rows: &[(usize, &str, &str)],
-) -> Result<(), TableFault> {
+) {
     for &(number, other, want) in rows {
-        let found = changed_line(rt.alloc(), number, other, extra)?;
+        let found = changed_line(rt, number, other, extra);
         expect_row(rt, other, found.as_str(), want);
     }
-    Ok(())
 }
 
 #[test]
-fn changed_lines(rt: HostRuntime) -> Result<(), TableFault> {
-    expect_changes(&rt, "", &CHANGES)?;
-    expect_changes(&rt, "X_y", &CHANGES_ELSEWHERE)
+fn changed_lines(rt: HostRuntime) {
+    expect_changes(&rt, "", &CHANGES);
+    expect_changes(&rt, "X_y", &CHANGES_ELSEWHERE);
+}
+
+// The text of the table on the machine with an extra.
+fn text_with(rt: &(impl Abort + AllocGlobal), table: &Table, extra: &'static str) -> String {
+    let text = table.text(rt.alloc(), &machine_with(rt, extra));
+    text.expect(rt, "the text of a table")
 }
 
 // What is told where a text that is printed with one extra is read with another.
 fn read_elsewhere(
-    alloc: Global,
+    rt: &(impl Abort + AllocGlobal),
     extra: &'static str,
     other: &'static str,
-) -> Result<String, TableFault> {
-    let table = table(alloc, &["flask>=2.0", "Flask<3"])?;
-    let text = table.text(alloc, &machine_with(alloc, extra)?)?;
-    told(alloc, text.as_str(), other)
+) -> String {
+    let table = table(rt, &["flask>=2.0", "Flask<3"]);
+    told(rt, text_with(rt, &table, extra).as_str(), other)
 }
 
 // An extra, another one, and what is told.
@@ -184,22 +218,16 @@ const EXTRAS: [(&str, &str, &str); 6] = [
 ];
 
 #[test]
-fn extras(rt: HostRuntime) -> Result<(), TableFault> {
+fn extras(rt: HostRuntime) {
     for &(extra, other, want) in &EXTRAS {
-        let found = read_elsewhere(rt.alloc(), extra, other)?;
+        let found = read_elsewhere(&rt, extra, other);
         expect_row(&rt, extra, found.as_str(), want);
     }
-    Ok(())
 }
 
 // The text of an empty table is the header alone.
-fn empty_line(alloc: Global) -> Result<String, TableFault> {
-    Table::empty(alloc).text(alloc, &machine_with(alloc, "")?)
-}
-
 #[test]
-fn a_header_alone(rt: HostRuntime) -> Result<(), TableFault> {
-    let line = empty_line(rt.alloc())?;
+fn a_header_alone(rt: HostRuntime) {
+    let line = text_with(&rt, &Table::empty(rt.alloc()), "");
     expect_row(&rt, "empty", line.as_str(), MACHINE_HEADER);
-    Ok(())
 }

@@ -2,77 +2,87 @@
 
 use crate::tests::lines::{expect, expect_line, expect_same};
 use crate::tests::tables::{
-    answer, entry, gathered, lines_of, machine, requirement, table, table_of, taken, verdict,
+    all_joined, all_joined_back, answer, copy_of, entry, finished, gathered, is_copied_entry,
+    join_of, join_of_entries, lines_of, machine, name, requirement, table, table_of, table_of_text,
+    taken, taken_table, verdict,
 };
-use pep_clause::ClauseFault;
 use pep_marker::Environment;
 use pep_require::Requirement;
-use pep_table::{Answer, Entry, Gathering, Join, Table, TableFault, Verdict, join_all};
+use pep_table::{Answer, Entry, Gathering, Table, TableFault, Verdict};
 use std::alloc::{AllocError, Global};
-use std::test::Fail;
+use std::process::Abort;
 use tests_kit::push_numbered;
 
 // What stands before a number, the first number and the one behind the last, and what stands after it.
 type Part = (&'static str, u32, u32, &'static str);
 
 // Appends a requirement for each number, from the last to the first.
-fn push_part(alloc: Global, lines: &mut Vec<Requirement>, part: Part) -> Result<(), TableFault> {
+fn push_part(rt: &(impl Abort + AllocGlobal), lines: &mut Vec<Requirement>, part: Part) {
     let (before, first, end, after) = part;
     for number in (first..end).rev() {
-        let line = format!(in alloc; "{before}{number}{after}")?;
-        lines.push(requirement(alloc, line.as_str())?)?;
+        let line = format!(in rt.alloc(); "{before}{number}{after}").expect(rt, "room for a line");
+        let one = requirement(rt, line.as_str());
+        lines.push(one).expect(rt, "room for a requirement");
     }
-    Ok(())
 }
 
-fn requirements_of(alloc: Global, parts: &[Part]) -> Result<Vec<Requirement>, TableFault> {
-    let mut lines = Vec::new(alloc);
+fn requirements_of(rt: &(impl Abort + AllocGlobal), parts: &[Part]) -> Vec<Requirement> {
+    let mut lines = Vec::new(rt.alloc());
     for part in parts {
-        push_part(alloc, &mut lines, *part)?;
+        push_part(rt, &mut lines, *part);
     }
-    Ok(lines)
+    lines
 }
 
 // The text of the parts behind a front, and what stands behind them.
-fn text_of(alloc: Global, front: &str, parts: &[Part], behind: &str) -> Result<String, AllocError> {
-    let mut text = String::from_str(alloc, front)?;
+fn text_of(rt: &(impl Abort + AllocGlobal), front: &str, parts: &[Part], behind: &str) -> String {
+    let mut text = String::from_str(rt.alloc(), front).expect(rt, "room for a text");
     for &(before, first, end, after) in parts {
-        push_numbered(alloc, &mut text, before, first..end, after)?;
+        let pushed = push_numbered(rt.alloc(), &mut text, before, first..end, after);
+        pushed.expect(rt, "room for a part");
     }
-    text.push_str(behind)?;
-    Ok(text)
+    text.push_str(behind).expect(rt, "room for a text");
+    text
 }
 
 // Whether what is gathered of the table is the same.
-fn is_gathered(alloc: Global, table: &Table) -> Result<bool, TableFault> {
-    let gathering = Gathering::new(alloc).take_table(alloc, table.copied(alloc)?)?;
-    Ok(gathering.finish(alloc)? == *table)
+fn is_gathered(rt: &(impl Abort + AllocGlobal), table: &Table) -> bool {
+    let gathering = taken_table(rt, Gathering::new(rt.alloc()), table);
+    finished(rt, gathering) == *table
 }
 
-// Whether its copy is the same, and its join with itself.
-fn is_copied_and_joined(alloc: Global, table: &Table) -> Result<bool, TableFault> {
-    Ok(table.copied(alloc)? == *table && table.joined(alloc, table)? == *table)
+// Whether its copy is the same.
+fn is_copied(rt: &(impl Abort + AllocGlobal), table: &Table) -> bool {
+    copy_of(rt, table) == *table
+}
+
+// Whether its join with itself is the same.
+fn is_joined(rt: &(impl Abort + AllocGlobal), table: &Table) -> bool {
+    join_of(rt, table, table) == *table
 }
 
 // Whether these are its lines, and it is read of them.
-fn has_lines(alloc: Global, table: &Table, lines: &str) -> Result<bool, TableFault> {
-    let read = Table::read(alloc, lines, &machine(alloc)?)?;
-    Ok(lines_of(alloc, table)?.as_str() == lines && read == *table)
+fn has_lines(rt: &(impl Abort + AllocGlobal), table: &Table, lines: &str) -> bool {
+    let is_read = table_of_text(rt, lines) == *table;
+    lines_of(rt, table).as_str() == lines && is_read
 }
 
 // Whether the table has the lines, and so has what is made of it.
-fn is_table(alloc: Global, table: &Table, wanted: &str) -> Result<bool, TableFault> {
-    Ok(
-        has_lines(alloc, table, wanted)?
-            && is_gathered(alloc, table)?
-            && is_copied_and_joined(alloc, table)?,
-    )
+fn is_table(rt: &(impl Abort + AllocGlobal), table: &Table, wanted: &str) -> bool {
+    has_lines(rt, table, wanted)
+        && is_gathered(rt, table)
+        && is_copied(rt, table)
+        && is_joined(rt, table)
 }
 
-// Whether what is copied of the entry of `a`, and joined to it, is the same.
-fn is_entry(alloc: Global, table: &Table) -> Result<bool, TableFault> {
-    let entry = entry(alloc, table, "a")?;
-    Ok(entry.copied(alloc)? == *entry && entry.joined(alloc, entry)? == *entry)
+// Whether the join of an entry with itself is the same.
+fn is_joined_entry(rt: &(impl Abort + AllocGlobal), entry: &Entry) -> bool {
+    join_of_entries(rt, entry, entry) == *entry
+}
+
+// Whether what is copied of the entry, and joined to it, is the same.
+fn is_entry(rt: &(impl Abort + AllocGlobal), entry: &Entry) -> bool {
+    is_copied_entry(rt, entry) && is_joined_entry(rt, entry)
 }
 
 // ---- requirements of different names
@@ -81,30 +91,30 @@ const NAMES: [Part; 1] = [("N", 1_000, 3_000, ">=1")];
 
 const NAMES_TEXT: [Part; 1] = [("n", 1_000, 3_000, " open\n  range before 1 to end\n")];
 
-fn table_of_parts(alloc: Global, parts: &[Part]) -> Result<Table, TableFault> {
-    table_of(alloc, requirements_of(alloc, parts)?.as_slice())
+fn table_of_parts(rt: &(impl Abort + AllocGlobal), parts: &[Part]) -> Table {
+    let table = table_of(rt, requirements_of(rt, parts).as_slice());
+    table.expect(rt, "a table of many requirements")
 }
 
 #[test]
-fn table_of_many_names(rt: HostRuntime) -> Result<(), TableFault> {
-    let table = table_of_parts(rt.alloc(), &NAMES)?;
-    let text = text_of(rt.alloc(), "", &NAMES_TEXT, "")?;
-    expect(&rt, "names", is_table(rt.alloc(), &table, text.as_str())?);
-    Ok(())
+fn table_of_many_names(rt: HostRuntime) {
+    let table = table_of_parts(&rt, &NAMES);
+    let text = text_of(&rt, "", &NAMES_TEXT, "");
+    expect(&rt, "names", is_table(&rt, &table, text.as_str()));
 }
 
 // Why there is no table of these names and another line behind them.
-fn fault_behind_names(alloc: Global, line: &str) -> Result<Option<TableFault>, TableFault> {
-    let mut lines = requirements_of(alloc, &NAMES)?;
-    lines.push(requirement(alloc, line)?)?;
-    Ok(table_of(alloc, lines.as_slice()).err())
+fn fault_behind_names(rt: &(impl Abort + AllocGlobal), line: &str) -> Option<TableFault> {
+    let mut lines = requirements_of(rt, &NAMES);
+    let one = requirement(rt, line);
+    lines.push(one).expect(rt, "room for a requirement");
+    table_of(rt, lines.as_slice()).err()
 }
 
 #[test]
-fn undefined_behind_many_names(rt: HostRuntime) -> Result<(), TableFault> {
-    let fault = fault_behind_names(rt.alloc(), "b; 'dog' ~= 'fred'")?;
+fn undefined_behind_many_names(rt: HostRuntime) {
+    let fault = fault_behind_names(&rt, "b; 'dog' ~= 'fred'");
     assert!(rt; fault == Some(TableFault::Undefined(2_001)));
-    Ok(())
 }
 
 // ---- demands on one name
@@ -124,27 +134,22 @@ const DEMANDS_TEXT: [Part; 3] = [
 const ALL_VERSIONS: &str = "  range before 0.dev0 to end\n";
 
 // Whether the table has the lines, and so has what is made of it and of the entry of `a`.
-fn is_table_of_a(alloc: Global, table: &Table, wanted: &str) -> Result<bool, TableFault> {
-    Ok(is_table(alloc, table, wanted)? && is_entry(alloc, table)?)
+fn is_table_of_a(rt: &(impl Abort + AllocGlobal), table: &Table, wanted: &str) -> bool {
+    is_table(rt, table, wanted) && is_entry(rt, entry(rt, table, "a"))
 }
 
 #[test]
-fn table_of_many_demands(rt: HostRuntime) -> Result<(), TableFault> {
-    let table = table_of_parts(rt.alloc(), &DEMANDS)?;
-    let text = text_of(rt.alloc(), "a conflict\n", &DEMANDS_TEXT, ALL_VERSIONS)?;
-    expect(
-        &rt,
-        "demands",
-        is_table_of_a(rt.alloc(), &table, text.as_str())?,
-    );
-    Ok(())
+fn table_of_many_demands(rt: HostRuntime) {
+    let table = table_of_parts(&rt, &DEMANDS);
+    let text = text_of(&rt, "a conflict\n", &DEMANDS_TEXT, ALL_VERSIONS);
+    expect(&rt, "demands", is_table_of_a(&rt, &table, text.as_str()));
 }
 
 // ---- one requirement with many extras and clauses
 
-fn long_line(alloc: Global) -> Result<String, AllocError> {
-    let extras = text_of(alloc, "a[x1199", &[(",x", 1_000, 1_199, "")], "]")?;
-    text_of(alloc, extras.as_str(), &[("!=", 1_000, 1_200, ",")], "")
+fn long_line(rt: &(impl Abort + AllocGlobal)) -> String {
+    let extras = text_of(rt, "a[x1199", &[(",x", 1_000, 1_199, "")], "]");
+    text_of(rt, extras.as_str(), &[("!=", 1_000, 1_200, ",")], "")
 }
 
 // From what lies behind one of the numbers to the next.
@@ -157,179 +162,167 @@ fn push_ranges(alloc: Global, text: &mut String) -> Result<(), AllocError> {
     text.push_str("end\n")
 }
 
-fn long_line_text(alloc: Global) -> Result<String, AllocError> {
-    let mut text = text_of(alloc, "a open\n", &[("  extra x", 1_000, 1_200, "\n")], "")?;
-    push_ranges(alloc, &mut text)?;
-    Ok(text)
+fn long_line_text(rt: &(impl Abort + AllocGlobal)) -> String {
+    let mut text = text_of(rt, "a open\n", &[("  extra x", 1_000, 1_200, "\n")], "");
+    push_ranges(rt.alloc(), &mut text).expect(rt, "room for ranges");
+    text
 }
 
-fn table_of_line(alloc: Global) -> Result<Table, TableFault> {
-    table(alloc, &[long_line(alloc)?.as_str()])
+fn table_of_line(rt: &(impl Abort + AllocGlobal)) -> Table {
+    table(rt, &[long_line(rt).as_str()])
 }
 
 #[test]
-fn table_of_a_long_line(rt: HostRuntime) -> Result<(), TableFault> {
-    let table = table_of_line(rt.alloc())?;
-    let text = long_line_text(rt.alloc())?;
-    expect(
-        &rt,
-        "line",
-        is_table_of_a(rt.alloc(), &table, text.as_str())?,
-    );
-    let verdict = verdict(rt.alloc(), &table)?;
+fn table_of_a_long_line(rt: HostRuntime) {
+    let table = table_of_line(&rt);
+    let text = long_line_text(&rt);
+    expect(&rt, "line", is_table_of_a(&rt, &table, text.as_str()));
+    let verdict = verdict(&rt, &table);
     expect(&rt, "verdict", verdict == Some(Verdict::Possible));
-    Ok(())
 }
 
-fn long_line_answer(alloc: Global, version: &str) -> Result<Answer, TableFault> {
-    answer(alloc, &[long_line(alloc)?.as_str()], version, false)
+fn long_line_answer(rt: &(impl Abort + AllocGlobal), version: &str) -> Answer {
+    answer(rt, &[long_line(rt).as_str()], version, false)
 }
 
 const ANSWERS: [(&str, Answer); 2] = [("1199", Answer::No), ("1199.1", Answer::Yes)];
 
 #[test]
-fn answers_of_many_ranges(rt: HostRuntime) -> Result<(), TableFault> {
+fn answers_of_many_ranges(rt: HostRuntime) {
     for &(version, wanted) in &ANSWERS {
-        let answer = long_line_answer(rt.alloc(), version)?;
+        let answer = long_line_answer(&rt, version);
         expect_same(&rt, version, answer, wanted);
     }
-    Ok(())
 }
 
 // ---- many tables
 
-fn numbered_table(alloc: Global, number: u32) -> Result<Table, TableFault> {
-    let own = format!(in alloc; "n{number}")?;
-    let shared = format!(in alloc; "a[x{number}]>={number}")?;
-    table(alloc, &[own.as_str(), shared.as_str()])
+fn numbered_table(rt: &(impl Abort + AllocGlobal), number: u32) -> Table {
+    let own = format!(in rt.alloc(); "n{number}").expect(rt, "room for a line");
+    let shared = format!(in rt.alloc(); "a[x{number}]>={number}").expect(rt, "room for a line");
+    table(rt, &[own.as_str(), shared.as_str()])
 }
 
 // Of each number one table.
-fn tables(alloc: Global) -> Result<Vec<Table>, TableFault> {
-    let mut tables = Vec::new(alloc);
+fn tables(rt: &(impl Abort + AllocGlobal)) -> Vec<Table> {
+    let mut tables = Vec::new(rt.alloc());
     for number in 100u32..300 {
-        tables.push(numbered_table(alloc, number)?)?;
+        let table = numbered_table(rt, number);
+        tables.push(table).expect(rt, "room for a table");
     }
-    Ok(tables)
+    tables
 }
 
-fn tables_text(alloc: Global) -> Result<String, AllocError> {
+fn tables_text(rt: &(impl Abort + AllocGlobal)) -> String {
     let a = text_of(
-        alloc,
+        rt,
         "a open\n",
         &[("  extra x", 100, 300, "\n")],
         "  range before 299 to end\n",
-    )?;
+    );
     let rest = " open\n  range before 0.dev0 to end\n";
-    text_of(alloc, a.as_str(), &[("n", 100, 300, rest)], "")
-}
-
-// The join of all tables.
-fn joined(alloc: Global) -> Result<Table, TableFault> {
-    join_all(alloc, Table::empty(alloc), tables(alloc)?.iter())
-}
-
-// The same from the last to the first.
-fn joined_back(alloc: Global) -> Result<Table, TableFault> {
-    join_all(alloc, Table::empty(alloc), tables(alloc)?.iter().rev())
-}
-
-// The same, gathered.
-fn all_gathered(alloc: Global) -> Result<Table, TableFault> {
-    gathered(alloc, tables(alloc)?.as_slice())
+    text_of(rt, a.as_str(), &[("n", 100, 300, rest)], "")
 }
 
 #[test]
-fn join_of_many_tables(rt: HostRuntime) -> Result<(), TableFault> {
-    let joined = joined(rt.alloc())?;
-    let text = tables_text(rt.alloc())?;
-    expect(&rt, "joined", lines_of(rt.alloc(), &joined)? == text);
-    expect(&rt, "joined back", joined_back(rt.alloc())? == joined);
-    expect(&rt, "gathered", all_gathered(rt.alloc())? == joined);
-    Ok(())
+fn join_of_many_tables(rt: HostRuntime) {
+    let tables = tables(&rt);
+    let joined = all_joined(&rt, tables.as_slice());
+    expect(&rt, "joined", lines_of(&rt, &joined) == tables_text(&rt));
+    let back = all_joined_back(&rt, tables.as_slice());
+    expect(&rt, "joined back", back == joined);
+    let gathered = gathered(&rt, tables.as_slice());
+    expect(&rt, "gathered", gathered == joined);
 }
 
 // ---- requirements one by one
 
 // What is demanded so far, and of the name with the number.
 fn taken_name(
-    alloc: Global,
+    rt: &(impl Abort + AllocGlobal),
     gathering: Gathering,
     machine: &Environment,
     number: u32,
-) -> Result<Gathering, TableFault> {
-    let line = format!(in alloc; "N{number}>={number}")?;
-    taken(alloc, gathering, machine, line.as_str())
+) -> Gathering {
+    let line = format!(in rt.alloc(); "N{number}>={number}").expect(rt, "room for a line");
+    taken(rt, gathering, machine, line.as_str())
 }
 
-fn gathered_names(alloc: Global) -> Result<Table, TableFault> {
-    let machine = machine(alloc)?;
-    let mut gathering = Gathering::new(alloc);
+fn gathered_names(rt: &(impl Abort + AllocGlobal)) -> Table {
+    let machine = machine(rt);
+    let mut gathering = Gathering::new(rt.alloc());
     for number in 10_000u32..30_000 {
-        gathering = taken_name(alloc, gathering, &machine, number)?;
+        gathering = taken_name(rt, gathering, &machine, number);
     }
-    gathering.finish(alloc)
+    finished(rt, gathering)
 }
 
-fn gathered_names_text(alloc: Global) -> Result<String, AllocError> {
-    let mut text = String::new(alloc);
+// The lines of a name with the number.
+fn name_text(rt: &(impl Abort + AllocGlobal), number: u32) -> String {
+    let text = format!(in rt.alloc(); "n{number} open\n  range before {number} to end\n");
+    text.expect(rt, "room for an entry")
+}
+
+fn gathered_names_text(rt: &(impl Abort + AllocGlobal)) -> String {
+    let mut text = String::new(rt.alloc());
     for number in 10_000u32..30_000 {
-        let entry = format!(in alloc; "n{number} open\n  range before {number} to end\n")?;
-        text.push_str(entry.as_str())?;
+        let entry = name_text(rt, number);
+        text.push_str(entry.as_str())
+            .expect(rt, "room for an entry");
     }
-    Ok(text)
+    text
 }
 
 #[test]
-fn many_names(rt: HostRuntime) -> Result<(), TableFault> {
-    let table = gathered_names(rt.alloc())?;
-    assert!(rt; lines_of(rt.alloc(), &table)? == gathered_names_text(rt.alloc())?);
-    assert!(rt; entry(rt.alloc(), &table, "n29999").is_ok());
-    Ok(())
+fn many_names(rt: HostRuntime) {
+    let table = gathered_names(&rt);
+    assert!(rt; lines_of(&rt, &table) == gathered_names_text(&rt));
+    assert!(rt; table.get(&name(&rt, "n29999")).is_some());
 }
 
 // A line with the number, of one of three kinds.
-fn line_of_kind(alloc: Global, kind: u32, number: u32) -> Result<String, AllocError> {
-    match kind {
-        0 => format!(in alloc; "a[x{number}]>={number}"),
-        1 => format!(in alloc; "a===1.{number}"),
-        _ => format!(in alloc; "a @ https://x.test/{number}"),
-    }
+fn line_of_kind(rt: &(impl Abort + AllocGlobal), kind: u32, number: u32) -> String {
+    let line = match kind {
+        0 => format!(in rt.alloc(); "a[x{number}]>={number}"),
+        1 => format!(in rt.alloc(); "a===1.{number}"),
+        _ => format!(in rt.alloc(); "a @ https://x.test/{number}"),
+    };
+    line.expect(rt, "room for a line")
 }
 
 // What is demanded so far, and by that line.
 fn taken_kind(
-    alloc: Global,
+    rt: &(impl Abort + AllocGlobal),
     gathering: Gathering,
     machine: &Environment,
     kind: u32,
     number: u32,
-) -> Result<Gathering, TableFault> {
-    let line = line_of_kind(alloc, kind, number)?;
-    taken(alloc, gathering, machine, line.as_str())
+) -> Gathering {
+    let line = line_of_kind(rt, kind, number);
+    taken(rt, gathering, machine, line.as_str())
 }
 
 // What is demanded so far, and by a line of each kind with the number.
 fn taken_with(
-    alloc: Global,
+    rt: &(impl Abort + AllocGlobal),
     gathering: Gathering,
     machine: &Environment,
     number: u32,
-) -> Result<Gathering, TableFault> {
+) -> Gathering {
     let mut all = gathering;
     for kind in 0u32..3 {
-        all = taken_kind(alloc, all, machine, kind, number)?;
+        all = taken_kind(rt, all, machine, kind, number);
     }
-    Ok(all)
+    all
 }
 
-fn gathered_demands(alloc: Global) -> Result<Table, TableFault> {
-    let machine = machine(alloc)?;
-    let mut gathering = Gathering::new(alloc);
+fn gathered_demands(rt: &(impl Abort + AllocGlobal)) -> Table {
+    let machine = machine(rt);
+    let mut gathering = Gathering::new(rt.alloc());
     for number in 0u32..5_000 {
-        gathering = taken_with(alloc, gathering, &machine, number)?;
+        gathering = taken_with(rt, gathering, &machine, number);
     }
-    gathering.finish(alloc)
+    finished(rt, gathering)
 }
 
 // How many extras, texts, URLs and ranges there are.
@@ -342,20 +335,17 @@ fn counts(entry: &Entry) -> (usize, usize, usize, usize) {
     )
 }
 
-// Where the first range of an entry begins.
-fn low_line(alloc: Global, entry: &Entry) -> Result<String, ClauseFault> {
-    match entry.versions().ranges().first() {
-        Some(range) => range.low().text(alloc),
-        None => Ok(String::from_str(alloc, "no range")?),
-    }
+// Where the first range of an entry begins, which has one.
+fn low_line(rt: &(impl Abort + AllocGlobal), entry: &Entry) -> String {
+    let range = entry.versions().ranges().first().expect(rt, "a range");
+    range.low().text(rt.alloc()).expect(rt, "the text of a cut")
 }
 
 #[test]
-fn many_demands_of_one_name(rt: HostRuntime) -> Result<(), Fail> {
-    let table = gathered_demands(rt.alloc())?;
-    let entry = entry(rt.alloc(), &table, "a")?;
+fn many_demands_of_one_name(rt: HostRuntime) {
+    let table = gathered_demands(&rt);
+    let entry = entry(&rt, &table, "a");
     assert!(rt; counts(entry) == (5_000, 5_000, 5_000, 1));
-    let low = low_line(rt.alloc(), entry)?;
+    let low = low_line(&rt, entry);
     expect_line(&rt, low.as_str(), "before 4999");
-    Ok(())
 }

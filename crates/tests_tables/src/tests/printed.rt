@@ -1,11 +1,13 @@
 //! Tables that are read from their lines, and from their texts on the machine.
 
 use crate::tests::lines::{expect, expect_line, expect_same};
-use crate::tests::tables::{lines_of, machine, requirement, table, table_of};
-use pep_marker::Name;
+use crate::tests::tables::{
+    join_of, lines_of, machine, name, read_on_machine, requirement, table, table_of, table_of_text,
+    table_text,
+};
 use pep_require::Requirement;
-use pep_table::{Gathering, Join, Table, TableFault};
-use std::alloc::{AllocError, Global};
+use pep_table::{Gathering, Table, TableFault};
+use std::alloc::AllocError;
 use std::process::Abort;
 use tests_kit::{MACHINE, MACHINE_HEADER, Numbers, push_numbered, repeated};
 
@@ -27,43 +29,55 @@ const LINES: [&str; 11] = [
 // A table of one name, 45 bytes.
 const FLASK: &str = "flask open\n  range before 2 to before 3.dev0\n";
 
+// The line that a fault names, which is that of a line that can't stand.
+fn named_line(rt: &impl Abort, fault: TableFault) -> usize {
+    match fault {
+        TableFault::BadTable(line) => line,
+        other => panic!(rt; "{other}"),
+    }
+}
+
 // The line that can't stand in the text, or 0 where it is that of the table that is read, or its lines.
-fn bad_line(alloc: Global, text: &str) -> Result<usize, TableFault> {
-    match Table::read(alloc, text, &machine(alloc)?) {
-        Ok(table) => line_of(alloc, &table, text),
-        Err(TableFault::BadTable(line)) => Ok(line),
-        Err(fault) => Err(fault),
+fn bad_line(rt: &(impl Abort + AllocGlobal), text: &str) -> usize {
+    match read_on_machine(rt, text) {
+        Ok(table) => line_of(rt, &table, text),
+        Err(fault) => named_line(rt, fault),
     }
 }
 
 // The same where the text stands behind the header of the machine; the lines are counted from there.
-fn bad_line_behind_header(alloc: Global, text: &str) -> Result<usize, TableFault> {
-    let whole = format!(in alloc; "{MACHINE_HEADER}{text}")?;
-    let line = bad_line(alloc, whole.as_str())?;
-    Ok(line.checked_sub(HEADER_LINES).unwrap_or(line))
+fn bad_line_behind_header(rt: &(impl Abort + AllocGlobal), text: &str) -> usize {
+    let whole = format!(in rt.alloc(); "{MACHINE_HEADER}{text}").expect(rt, "room for a text");
+    let line = bad_line(rt, whole.as_str());
+    line.checked_sub(HEADER_LINES).unwrap_or(line)
 }
 
 // The form, the variables of the machine, and `extra`.
 const HEADER_LINES: usize = MACHINE.len() + 2;
 
-// The lines of what the table with this text has of a name.
-fn part(alloc: Global, text: &str, name: &str) -> Result<String, TableFault> {
-    match Name::read(alloc, name) {
-        Ok(name) => {
-            let environment = machine(alloc)?;
-            let part = Gathering::new(alloc).take_text(alloc, text, &environment, Some(&name))?;
-            lines_of(alloc, &part.finish(alloc)?)
-        }
-        Err(_) => Err(TableFault::NoMemory),
-    }
+// What is gathered of the text and a name, or why the text is none of a table.
+fn gathered_part(
+    rt: &(impl Abort + AllocGlobal),
+    text: &str,
+    wanted: &str,
+) -> Result<Gathering, TableFault> {
+    let environment = machine(rt);
+    let name = name(rt, wanted);
+    let gathering = Gathering::new(rt.alloc());
+    gathering.take_text(rt.alloc(), text, &environment, Some(&name))
+}
+
+// The lines of what the table with this text has of a name, or why there is no such table.
+fn part(rt: &(impl Abort + AllocGlobal), text: &str, name: &str) -> Result<String, TableFault> {
+    let part = gathered_part(rt, text, name)?.finish(rt.alloc())?;
+    Ok(lines_of(rt, &part))
 }
 
 // The line that can't stand in the text, where one name is looked for, or 0.
-fn bad_line_of_part(alloc: Global, text: &str) -> Result<usize, TableFault> {
-    match part(alloc, text, "flask") {
-        Ok(_) => Ok(0),
-        Err(TableFault::BadTable(line)) => Ok(line),
-        Err(fault) => Err(fault),
+fn bad_line_of_part(rt: &(impl Abort + AllocGlobal), text: &str) -> usize {
+    match part(rt, text, "flask") {
+        Ok(_) => 0,
+        Err(fault) => named_line(rt, fault),
     }
 }
 
@@ -71,26 +85,19 @@ fn bad_line_of_part(alloc: Global, text: &str) -> Result<usize, TableFault> {
 const ANOTHER: usize = usize::MAX;
 
 // No line where this is the text of the table, or its lines.
-fn line_of(alloc: Global, table: &Table, text: &str) -> Result<usize, TableFault> {
-    let whole = table.text(alloc, &machine(alloc)?)?;
+fn line_of(rt: &(impl Abort + AllocGlobal), table: &Table, text: &str) -> usize {
+    let whole = table_text(rt, table);
     let lines = whole.as_str().strip_prefix(MACHINE_HEADER);
     let is_own = whole.as_str() == text || lines == Some(text);
-    Ok(if is_own { 0 } else { ANOTHER })
+    if is_own { 0 } else { ANOTHER }
 }
 
-fn expect_bad_lines(
-    rt: &(impl Abort + AllocGlobal),
-    rows: &[(&str, usize)],
-) -> Result<(), TableFault> {
+fn expect_bad_lines(rt: &(impl Abort + AllocGlobal), rows: &[(&str, usize)]) {
     for &(text, wanted) in rows {
-        let line = bad_line(rt.alloc(), text)?;
-        expect_same(rt, text, line, wanted);
-        let line = bad_line_of_part(rt.alloc(), text)?;
-        expect_same(rt, text, line, wanted);
-        let line = bad_line_behind_header(rt.alloc(), text)?;
-        expect_same(rt, text, line, wanted);
+        expect_same(rt, text, bad_line(rt, text), wanted);
+        expect_same(rt, text, bad_line_of_part(rt, text), wanted);
+        expect_same(rt, text, bad_line_behind_header(rt, text), wanted);
     }
-    Ok(())
 }
 
 // Texts of tables.
@@ -219,12 +226,12 @@ const RANGES: [(&str, usize); 20] = [
 ];
 
 #[test]
-fn lines_that_cannot_stand(rt: HostRuntime) -> Result<(), TableFault> {
-    expect_bad_lines(&rt, &WHOLE)?;
-    expect_bad_lines(&rt, &NAMES_AND_VERDICTS)?;
-    expect_bad_lines(&rt, &FIRST_LINES)?;
-    expect_bad_lines(&rt, &ITEMS)?;
-    expect_bad_lines(&rt, &RANGES)
+fn lines_that_cannot_stand(rt: HostRuntime) {
+    expect_bad_lines(&rt, &WHOLE);
+    expect_bad_lines(&rt, &NAMES_AND_VERDICTS);
+    expect_bad_lines(&rt, &FIRST_LINES);
+    expect_bad_lines(&rt, &ITEMS);
+    expect_bad_lines(&rt, &RANGES);
 }
 
 // ---- changes of one line of the table
@@ -239,22 +246,17 @@ fn push_lines(text: &mut String, lines: &[&str]) -> Result<(), AllocError> {
 }
 
 // The text of the lines, but with others in the place of some from this index on.
-fn replaced(
-    alloc: Global,
-    from: usize,
-    count: usize,
-    others: &[&str],
-) -> Result<String, AllocError> {
-    let mut text = String::new(alloc);
+fn replaced(rt: &(impl Abort + AllocGlobal), from: usize, count: usize, others: &[&str]) -> String {
+    let mut text = String::new(rt.alloc());
     for (index, line) in LINES.iter().enumerate() {
         if index == from {
-            push_lines(&mut text, others)?;
+            push_lines(&mut text, others).expect(rt, "room for lines");
         }
         if index < from || index >= from.saturating_add(count) {
-            push_lines(&mut text, &[line])?;
+            push_lines(&mut text, &[line]).expect(rt, "room for a line");
         }
     }
-    Ok(text)
+    text
 }
 
 // The line with this index, if there is one.
@@ -264,23 +266,24 @@ fn line_at(index: usize) -> &'static str {
 
 // The line that can't stand where others stand in the place of some from this index on.
 fn bad_line_with(
-    alloc: Global,
+    rt: &(impl Abort + AllocGlobal),
     from: usize,
     count: usize,
     others: &[&str],
-) -> Result<usize, TableFault> {
-    bad_line(alloc, replaced(alloc, from, count, others)?.as_str())
+) -> usize {
+    bad_line(rt, replaced(rt, from, count, others).as_str())
 }
 
 // The same where something stands in front of a line, and behind it.
 fn bad_line_between(
-    alloc: Global,
+    rt: &(impl Abort + AllocGlobal),
     index: usize,
     front: &str,
     behind: &str,
-) -> Result<usize, TableFault> {
-    let line = format!(in alloc; "{front}{}{behind}", line_at(index))?;
-    bad_line_with(alloc, index, 1, &[line.as_str()])
+) -> usize {
+    let line = format!(in rt.alloc(); "{front}{}{behind}", line_at(index));
+    let line = line.expect(rt, "room for a line");
+    bad_line_with(rt, index, 1, &[line.as_str()])
 }
 
 // What is done with a line of the table.
@@ -297,15 +300,15 @@ enum Change {
 }
 
 // The line that can't stand behind the change of the line with this index, 0 where the text is a table's.
-fn bad_line_of(alloc: Global, change: &Change, index: usize) -> Result<usize, TableFault> {
+fn bad_line_of(rt: &(impl Abort + AllocGlobal), change: &Change, index: usize) -> usize {
     let (line, next) = (line_at(index), line_at(index.saturating_add(1)));
     match *change {
-        Change::Nothing => bad_line_with(alloc, index, 0, &[]),
-        Change::LeftOut => bad_line_with(alloc, index, 1, &[]),
-        Change::Twice => bad_line_with(alloc, index, 1, &[line, line]),
-        Change::Swapped => bad_line_with(alloc, index, 2, &[next, line]),
-        Change::Between(front, behind) => bad_line_between(alloc, index, front, behind),
-        Change::Instead(other) => bad_line_with(alloc, index, 1, &[other]),
+        Change::Nothing => bad_line_with(rt, index, 0, &[]),
+        Change::LeftOut => bad_line_with(rt, index, 1, &[]),
+        Change::Twice => bad_line_with(rt, index, 1, &[line, line]),
+        Change::Swapped => bad_line_with(rt, index, 2, &[next, line]),
+        Change::Between(front, behind) => bad_line_between(rt, index, front, behind),
+        Change::Instead(other) => bad_line_with(rt, index, 1, &[other]),
     }
 }
 
@@ -332,108 +335,119 @@ const CHANGES: [(Change, usize, &[usize]); 15] = [
 // Each line itself.
 const EACH: [usize; 11] = [1, 2, 3, 4, 5, 6, 7, 8, 9, 10, 11];
 
-fn expect_change(
-    rt: &(impl Abort + AllocGlobal),
-    change: &Change,
-    from: usize,
-    wanted: &[usize],
-) -> Result<(), TableFault> {
+fn expect_change(rt: &(impl Abort + AllocGlobal), change: &Change, from: usize, wanted: &[usize]) {
     for (place, want) in wanted.iter().enumerate() {
         let index = from.saturating_add(place);
-        let line = bad_line_of(rt.alloc(), change, index)?;
+        let line = bad_line_of(rt, change, index);
         expect_same(rt, line_at(index), line, *want);
     }
-    Ok(())
 }
 
 #[test]
-fn changed_lines(rt: HostRuntime) -> Result<(), TableFault> {
+fn changed_lines(rt: HostRuntime) {
     for (change, from, wanted) in &CHANGES {
-        expect_change(&rt, change, *from, wanted)?;
+        expect_change(&rt, change, *from, wanted);
     }
-    Ok(())
 }
 
 // ---- beginnings of tables
 
-// Appends how many bytes the text has, if a table is read of it, and a mark if that has another text.
-fn push_size(alloc: Global, sizes: &mut String, text: &str) -> Result<(), TableFault> {
-    let line = bad_line(alloc, text)?;
-    if line == 0 || line == ANOTHER {
-        let mark = if line == 0 { "" } else { "!" };
-        let size = format!(in alloc; "{}{mark} ", text.len())?;
-        sizes.push_str(size.as_str())?;
-    }
-    Ok(())
+// How many bytes the text has, if a table is read of it, and a mark if that has another text.
+fn size_of_table(rt: &(impl Abort + AllocGlobal), text: &str) -> String {
+    let size = match bad_line(rt, text) {
+        0 => format!(in rt.alloc(); "{} ", text.len()),
+        ANOTHER => format!(in rt.alloc(); "{}! ", text.len()),
+        _ => return String::new(rt.alloc()),
+    };
+    size.expect(rt, "room for a size")
+}
+
+fn push_size(rt: &(impl Abort + AllocGlobal), sizes: &mut String, text: &str) {
+    let size = size_of_table(rt, text);
+    sizes.push_str(size.as_str()).expect(rt, "room for a size");
 }
 
 // How many bytes the beginnings of the text have that are texts of tables.
-fn sizes_of_tables(alloc: Global, text: &str) -> Result<String, TableFault> {
-    let (mut beginning, mut sizes) = (String::new(alloc), String::new(alloc));
+fn sizes_of_tables(rt: &(impl Abort + AllocGlobal), text: &str) -> String {
+    let (mut beginning, mut sizes) = (String::new(rt.alloc()), String::new(rt.alloc()));
     for letter in text.chars() {
-        push_size(alloc, &mut sizes, beginning.as_str())?;
-        beginning.push(letter)?;
+        push_size(rt, &mut sizes, beginning.as_str());
+        beginning.push(letter).expect(rt, "room for a letter");
     }
-    push_size(alloc, &mut sizes, beginning.as_str())?;
-    Ok(sizes)
+    push_size(rt, &mut sizes, beginning.as_str());
+    sizes
 }
 
 // The indices of lines behind which a table may end.
 const ENDS: [usize; 6] = [4, 5, 6, 7, 9, 10];
 
+// A number and a space.
+fn spaced(rt: &(impl Abort + AllocGlobal), number: usize) -> String {
+    format!(in rt.alloc(); "{number} ").expect(rt, "room for a number")
+}
+
 // How many bytes the lines have up to each of them, and none.
-fn sizes_at_ends(alloc: Global) -> Result<String, AllocError> {
+fn sizes_at_ends(rt: &(impl Abort + AllocGlobal)) -> String {
     let mut bytes = 0usize;
-    let mut sizes = String::from_str(alloc, "0 ")?;
+    let mut sizes = spaced(rt, 0);
     for (index, line) in LINES.iter().enumerate() {
         bytes = bytes.saturating_add(line.len()).saturating_add(1);
         if ENDS.contains(&index) {
-            let size = format!(in alloc; "{bytes} ")?;
-            sizes.push_str(size.as_str())?;
+            let size = spaced(rt, bytes);
+            sizes.push_str(size.as_str()).expect(rt, "room for a size");
         }
     }
-    Ok(sizes)
+    sizes
 }
 
-fn sizes_of_the_table(alloc: Global) -> Result<String, TableFault> {
-    sizes_of_tables(alloc, replaced(alloc, 0, 0, &[])?.as_str())
+fn sizes_of_the_table(rt: &(impl Abort + AllocGlobal)) -> String {
+    sizes_of_tables(rt, replaced(rt, 0, 0, &[]).as_str())
 }
 
 #[test]
-fn beginnings(rt: HostRuntime) -> Result<(), TableFault> {
-    let sizes = sizes_of_the_table(rt.alloc())?;
-    expect(&rt, sizes.as_str(), sizes == sizes_at_ends(rt.alloc())?);
-    let sizes = sizes_of_tables(rt.alloc(), FLASK)?;
+fn beginnings(rt: HostRuntime) {
+    let sizes = sizes_of_the_table(&rt);
+    expect(&rt, sizes.as_str(), sizes == sizes_at_ends(&rt));
+    let sizes = sizes_of_tables(&rt, FLASK);
     expect_line(&rt, sizes.as_str(), "0 45 ");
-    let whole = format!(in rt.alloc(); "{MACHINE_HEADER}{FLASK}")?;
-    let sizes = sizes_of_tables(rt.alloc(), whole.as_str())?;
+    let whole = format!(in rt.alloc(); "{MACHINE_HEADER}{FLASK}").expect(&rt, "room for a text");
+    let sizes = sizes_of_tables(&rt, whole.as_str());
     expect_line(&rt, sizes.as_str(), "0 356 401 ");
-    Ok(())
 }
 
 // ---- large tables
 
 // The text of a table of many names.
-fn names_text(alloc: Global) -> Result<String, AllocError> {
-    let mut text = String::new(alloc);
+fn names_text(rt: &(impl Abort + AllocGlobal)) -> String {
+    let mut text = String::new(rt.alloc());
     for number in 10_000..13_000 {
-        let entry = format!(in alloc; "n{number} open\n  range before {number} to end\n")?;
-        text.push_str(entry.as_str())?;
+        let entry = format!(in rt.alloc(); "n{number} open\n  range before {number} to end\n");
+        let entry = entry.expect(rt, "room for an entry");
+        text.push_str(entry.as_str())
+            .expect(rt, "room for an entry");
     }
-    Ok(text)
+    text
 }
 
-// The same of one name with many lines of each kind.
-fn items_text(alloc: Global) -> Result<String, AllocError> {
-    let mut text = String::from_str(alloc, "a conflict\n")?;
+// The first lines of a table of one name: many of each kind but ranges.
+fn items_without_ranges(rt: &(impl Abort + AllocGlobal)) -> String {
+    let mut text = String::from_str(rt.alloc(), "a conflict\n").expect(rt, "room for a line");
     for kind in &["  extra n", "  url u", "  text "] {
-        push_numbered(alloc, &mut text, kind, 10_000..15_000, "\n")?;
+        let pushed = push_numbered(rt.alloc(), &mut text, kind, 10_000..15_000, "\n");
+        pushed.expect(rt, "room for lines");
     }
+    text
+}
+
+// The text of a table of one name with many lines of each kind.
+fn items_text(rt: &(impl Abort + AllocGlobal)) -> String {
+    let mut text = items_without_ranges(rt);
     for number in 1_000..1_500 {
-        let line = format!(in alloc; "  range before {number}.1 to before {number}.2\n")?;
-        text.push_str(line.as_str())?;
+        let line = format!(in rt.alloc(); "  range before {number}.1 to before {number}.2\n");
+        let line = line.expect(rt, "room for a line");
+        text.push_str(line.as_str()).expect(rt, "room for a line");
     }
-    Ok(text)
+    text
 }
 
 // What is repeated 50,000 times, and what stands behind it.
@@ -449,55 +463,38 @@ const LONG_LINES: [(&str, &str); 8] = [
 ];
 
 // The same of lines of many bytes.
-fn long_text(alloc: Global) -> Result<String, AllocError> {
-    let mut text = String::new(alloc);
+fn long_text(rt: &(impl Abort + AllocGlobal)) -> String {
+    let mut text = String::new(rt.alloc());
     for &(part, behind) in &LONG_LINES {
-        let more = repeated(alloc, "", part, 50_000, behind)?;
-        text.push_str(more.as_str())?;
+        let more = repeated(rt.alloc(), "", part, 50_000, behind).expect(rt, "room for a line");
+        text.push_str(more.as_str()).expect(rt, "room for a line");
     }
-    Ok(text)
+    text
 }
 
 // Each is the text of a table; a line that can't stand behind all of its lines is named.
-fn expect_whole(
-    rt: &(impl Abort + AllocGlobal),
-    text: &mut String,
-    other: &str,
-    wanted: usize,
-) -> Result<(), TableFault> {
-    expect_same(rt, "the table", bad_line(rt.alloc(), text.as_str())?, 0);
-    expect_same(
-        rt,
-        "a part",
-        bad_line_of_part(rt.alloc(), text.as_str())?,
-        0,
-    );
-    text.push_str(other)?;
-    expect_same(rt, other, bad_line(rt.alloc(), text.as_str())?, wanted);
-    expect_same(
-        rt,
-        other,
-        bad_line_of_part(rt.alloc(), text.as_str())?,
-        wanted,
-    );
-    Ok(())
+fn expect_whole(rt: &(impl Abort + AllocGlobal), text: &mut String, other: &str, wanted: usize) {
+    expect_same(rt, "the table", bad_line(rt, text.as_str()), 0);
+    expect_same(rt, "a part", bad_line_of_part(rt, text.as_str()), 0);
+    text.push_str(other).expect(rt, "room for a line");
+    expect_same(rt, other, bad_line(rt, text.as_str()), wanted);
+    expect_same(rt, other, bad_line_of_part(rt, text.as_str()), wanted);
 }
 
 #[test]
-fn many_names(rt: HostRuntime) -> Result<(), TableFault> {
-    expect_whole(&rt, &mut names_text(rt.alloc())?, "n1 none\n", 6_001)
+fn many_names(rt: HostRuntime) {
+    expect_whole(&rt, &mut names_text(&rt), "n1 none\n", 6_001);
 }
 
 #[test]
-fn many_lines(rt: HostRuntime) -> Result<(), TableFault> {
-    expect_whole(&rt, &mut items_text(rt.alloc())?, "  extra z\n", 15_502)
+fn many_lines(rt: HostRuntime) {
+    expect_whole(&rt, &mut items_text(&rt), "  extra z\n", 15_502);
 }
 
 #[test]
-fn long_lines(rt: HostRuntime) -> Result<(), TableFault> {
-    let text = long_text(rt.alloc())?;
-    assert!(rt; bad_line(rt.alloc(), text.as_str())? == 0);
-    Ok(())
+fn long_lines(rt: HostRuntime) {
+    let text = long_text(&rt);
+    assert!(rt; bad_line(&rt, text.as_str()) == 0);
 }
 
 // ---- tables of a seed, merged in two ways
@@ -521,98 +518,100 @@ const DEMANDS: [&str; 12] = [
 const NAMES: [&str; 5] = ["a", "A.b", "a-B", "c", "d"];
 
 // A line of them.
-fn any(alloc: Global, numbers: &mut Numbers) -> Result<Requirement, TableFault> {
+fn any(rt: &(impl Abort + AllocGlobal), numbers: &mut Numbers) -> Requirement {
     let name = numbers.one_of(&NAMES);
     let demand = numbers.one_of(&DEMANDS);
-    let line = format!(in alloc; "{name}{demand}")?;
-    requirement(alloc, line.as_str())
+    let line = format!(in rt.alloc(); "{name}{demand}").expect(rt, "room for a line");
+    requirement(rt, line.as_str())
 }
 
-fn list_of_any(alloc: Global, numbers: &mut Numbers) -> Result<Vec<Requirement>, TableFault> {
-    let mut list = Vec::new(alloc);
+fn list_of_any(rt: &(impl Abort + AllocGlobal), numbers: &mut Numbers) -> Vec<Requirement> {
+    let mut list = Vec::new(rt.alloc());
     for _ in 0..numbers.below(5) {
-        list.push(any(alloc, numbers)?)?;
+        let one = any(rt, numbers);
+        list.push(one).expect(rt, "room for a requirement");
     }
-    Ok(list)
+    list
 }
 
 // The table that a text of this table is read as.
-fn read_back(alloc: Global, table: &Table) -> Result<Table, TableFault> {
-    let machine = machine(alloc)?;
-    Table::read(alloc, table.text(alloc, &machine)?.as_str(), &machine)
+fn read_back(rt: &(impl Abort + AllocGlobal), table: &Table) -> Table {
+    table_of_text(rt, table_text(rt, table).as_str())
+}
+
+// The table of requirements that are lists of any.
+fn table_of_lists(rt: &(impl Abort + AllocGlobal), lists: &[Requirement]) -> Table {
+    table_of(rt, lists).expect(rt, "a table of lists")
 }
 
 // The table and that of the requirements, printed and read back before and after they are joined.
 fn joined_by_prints(
-    alloc: Global,
+    rt: &(impl Abort + AllocGlobal),
     table: &Table,
     requirements: &[Requirement],
-) -> Result<Table, TableFault> {
-    let next = read_back(alloc, &table_of(alloc, requirements)?)?;
-    read_back(alloc, &next.joined(alloc, table)?)
+) -> Table {
+    let next = read_back(rt, &table_of_lists(rt, requirements));
+    read_back(rt, &join_of(rt, &next, table))
 }
 
 // The table and that of a new list, which is appended to all lists.
 fn with_list(
-    alloc: Global,
+    rt: &(impl Abort + AllocGlobal),
     table: &Table,
     numbers: &mut Numbers,
     all: &mut Vec<Requirement>,
-) -> Result<Table, TableFault> {
-    let mut list = list_of_any(alloc, numbers)?;
-    let joined = joined_by_prints(alloc, table, list.as_slice())?;
-    all.append(&mut list)?;
-    Ok(joined)
+) -> Table {
+    let mut list = list_of_any(rt, numbers);
+    let joined = joined_by_prints(rt, table, list.as_slice());
+    all.append(&mut list).expect(rt, "room for a list");
+    joined
 }
 
 // The table of some lists, merged list by list with prints in between.
 fn merged_in_turn(
-    alloc: Global,
+    rt: &(impl Abort + AllocGlobal),
     numbers: &mut Numbers,
     all: &mut Vec<Requirement>,
-) -> Result<Table, TableFault> {
-    let mut table = Table::empty(alloc);
+) -> Table {
+    let mut table = Table::empty(rt.alloc());
     for _ in 0..numbers.below(5) {
-        table = with_list(alloc, &table, numbers, all)?;
+        table = with_list(rt, &table, numbers, all);
     }
-    Ok(table)
+    table
 }
 
-fn is_one_text(alloc: Global, one: &Table, other: &Table) -> Result<bool, TableFault> {
-    let machine = machine(alloc)?;
-    Ok(one.text(alloc, &machine)? == other.text(alloc, &machine)?)
+fn is_one_text(rt: &(impl Abort + AllocGlobal), one: &Table, other: &Table) -> bool {
+    table_text(rt, one) == table_text(rt, other)
 }
 
 // Whether two merges of the same lines have one text: at once, and list by list.
-fn is_one_merge(alloc: Global, numbers: &mut Numbers) -> Result<bool, TableFault> {
-    let mut all = Vec::new(alloc);
-    let in_turn = merged_in_turn(alloc, numbers, &mut all)?;
-    is_one_text(alloc, &in_turn, &table_of(alloc, all.as_slice())?)
+fn is_one_merge(rt: &(impl Abort + AllocGlobal), numbers: &mut Numbers) -> bool {
+    let mut all = Vec::new(rt.alloc());
+    let in_turn = merged_in_turn(rt, numbers, &mut all);
+    is_one_text(rt, &in_turn, &table_of_lists(rt, all.as_slice()))
 }
 
 #[test]
-fn merged_in_two_ways(rt: HostRuntime) -> Result<(), TableFault> {
+fn merged_in_two_ways(rt: HostRuntime) {
     let mut numbers = Numbers { state: 20_261_123 };
     for turn in 0..300 {
-        expect(&rt, turn, is_one_merge(rt.alloc(), &mut numbers)?);
+        expect(&rt, turn, is_one_merge(&rt, &mut numbers));
     }
-    Ok(())
 }
 
 const MERGED: &str =
     "flask open\n  range before 2 to before 2.1\n  range before 2.1.post0.dev0 to before 3.dev0\n";
 
 // What is read of lines and what a list demands, joined.
-fn read_and_joined(alloc: Global, lines: &str, list: &str) -> Result<String, TableFault> {
-    let read = Table::read(alloc, lines, &machine(alloc)?)?;
-    lines_of(alloc, &read.joined(alloc, &table(alloc, &[list])?)?)
+fn read_and_joined(rt: &(impl Abort + AllocGlobal), lines: &str, list: &str) -> Table {
+    let read = table_of_text(rt, lines);
+    join_of(rt, &read, &table(rt, &[list]))
 }
 
 #[test]
-fn read_tables_are_joined(rt: HostRuntime) -> Result<(), TableFault> {
-    let merged = read_and_joined(rt.alloc(), FLASK, "flask!=2.1")?;
-    expect_line(&rt, merged.as_str(), MERGED);
-    Ok(())
+fn read_tables_are_joined(rt: HostRuntime) {
+    let merged = read_and_joined(&rt, FLASK, "flask!=2.1");
+    expect_line(&rt, lines_of(&rt, &merged).as_str(), MERGED);
 }
 
 const TWO_NAMES: &str = "a none\nb open\n  extra x\n  range before 1 to end\n";
@@ -632,10 +631,9 @@ const PARTS: [(&str, &str, &str); 6] = [
 ];
 
 #[test]
-fn parts_of_one_name(rt: HostRuntime) -> Result<(), TableFault> {
+fn parts_of_one_name(rt: HostRuntime) {
     for &(text, name, wanted) in &PARTS {
-        let found = part(rt.alloc(), text, name)?;
+        let found = part(&rt, text, name).expect(&rt, "a part of a table");
         expect_line(&rt, found.as_str(), wanted);
     }
-    Ok(())
 }

@@ -8,112 +8,157 @@ use pep_table::{
     Answer, Entry, Gathering, Join, Kept, Sorted, Table, TableFault, Verdict, join_all,
 };
 use pep_version::Version;
-use std::alloc::Global;
-use std::test::Fail;
+use std::alloc::AllocError;
+use std::process::Abort;
 use tests_kit::{MACHINE, MACHINE_HEADER};
 
 /// The requirement of a line, which is one.
-pub(crate) fn requirement(alloc: Global, line: &str) -> Result<Requirement, TableFault> {
-    match Requirement::read(alloc, line) {
-        Ok(requirement) => Ok(requirement),
-        Err(_) => Err(TableFault::NoMemory),
-    }
+pub(crate) fn requirement(rt: &(impl Abort + AllocGlobal), line: &str) -> Requirement {
+    Requirement::read(rt.alloc(), line).expect(rt, "a requirement")
 }
 
 /// The environment of the machine.
-pub(crate) fn machine(alloc: Global) -> Result<Environment, TableFault> {
-    match Environment::of(alloc, &MACHINE) {
-        Ok(machine) => Ok(machine),
-        Err(_) => Err(TableFault::NoMemory),
-    }
+pub(crate) fn machine(rt: &(impl Abort + AllocGlobal)) -> Environment {
+    Environment::of(rt.alloc(), &MACHINE).expect(rt, "the environment of the machine")
 }
 
-/// The table of requirements on the machine.
-pub(crate) fn table_of(alloc: Global, requirements: &[Requirement]) -> Result<Table, TableFault> {
-    Table::of(alloc, requirements, &machine(alloc)?)
+/// The table of requirements on the machine, or why there is none.
+pub(crate) fn table_of(
+    rt: &(impl Abort + AllocGlobal),
+    requirements: &[Requirement],
+) -> Result<Table, TableFault> {
+    Table::of(rt.alloc(), requirements, &machine(rt))
 }
 
-fn requirements(alloc: Global, lines: &[&str]) -> Result<Vec<Requirement>, TableFault> {
-    let mut requirements = Vec::new(alloc);
+fn requirements(rt: &(impl Abort + AllocGlobal), lines: &[&str]) -> Vec<Requirement> {
+    let mut requirements = Vec::new(rt.alloc());
     for line in lines {
-        requirements.push(requirement(alloc, line)?)?;
+        let one = requirement(rt, line);
+        requirements.push(one).expect(rt, "room for a requirement");
     }
-    Ok(requirements)
+    requirements
+}
+
+// The table of requirement lines, each of which is one, or why there is none.
+fn table_or_fault(rt: &(impl Abort + AllocGlobal), lines: &[&str]) -> Result<Table, TableFault> {
+    table_of(rt, requirements(rt, lines).as_slice())
 }
 
 /// The table of requirement lines, each of which is one.
-pub(crate) fn table(alloc: Global, lines: &[&str]) -> Result<Table, TableFault> {
-    table_of(alloc, requirements(alloc, lines)?.as_slice())
+pub(crate) fn table(rt: &(impl Abort + AllocGlobal), lines: &[&str]) -> Table {
+    table_or_fault(rt, lines).expect(rt, "a table of requirement lines")
 }
 
 /// The name of a text, which is one.
-pub(crate) fn name(alloc: Global, text: &str) -> Result<Name, TableFault> {
-    match Name::read(alloc, text) {
-        Ok(name) => Ok(name),
-        Err(_) => Err(TableFault::NoMemory),
-    }
+pub(crate) fn name(rt: &(impl Abort + AllocGlobal), text: &str) -> Name {
+    Name::read(rt.alloc(), text).expect(rt, "a name")
 }
 
 /// The entry of a name, which the table has.
 pub(crate) fn entry<'t>(
-    alloc: Global,
+    rt: &(impl Abort + AllocGlobal),
     table: &'t Table,
     text: &str,
-) -> Result<&'t Entry, TableFault> {
-    table.get(&name(alloc, text)?).ok_or(TableFault::NoMemory)
+) -> &'t Entry {
+    table.get(&name(rt, text)).expect(rt, "the entry of a name")
 }
 
 // What stands behind the header of the machine.
-fn behind_header(alloc: Global, text: &str) -> Result<String, TableFault> {
-    let lines = text.strip_prefix(MACHINE_HEADER);
-    Ok(String::from_str(alloc, lines.unwrap_or("no header"))?)
+fn behind_header(rt: &(impl Abort + AllocGlobal), text: &str) -> String {
+    let lines = text.strip_prefix(MACHINE_HEADER).unwrap_or("no header");
+    String::from_str(rt.alloc(), lines).expect(rt, "room for lines")
+}
+
+/// The text of the table on the machine.
+pub(crate) fn table_text(rt: &(impl Abort + AllocGlobal), table: &Table) -> String {
+    let text = table.text(rt.alloc(), &machine(rt));
+    text.expect(rt, "the text of a table")
+}
+
+/// The table that is read of a text on the machine, or why there is none.
+pub(crate) fn read_on_machine(
+    rt: &(impl Abort + AllocGlobal),
+    text: &str,
+) -> Result<Table, TableFault> {
+    Table::read(rt.alloc(), text, &machine(rt))
+}
+
+/// The table that is read of its text or of its lines on the machine.
+pub(crate) fn table_of_text(rt: &(impl Abort + AllocGlobal), text: &str) -> Table {
+    read_on_machine(rt, text).expect(rt, "the text of a table")
 }
 
 /// What stands behind the header of the machine in the text of a table that was made there.
-pub(crate) fn lines_of(alloc: Global, table: &Table) -> Result<String, TableFault> {
-    behind_header(alloc, table.text(alloc, &machine(alloc)?)?.as_str())
+pub(crate) fn lines_of(rt: &(impl Abort + AllocGlobal), table: &Table) -> String {
+    behind_header(rt, table_text(rt, table).as_str())
+}
+
+/// The copy of a table.
+pub(crate) fn copy_of(rt: &(impl Abort + AllocGlobal), table: &Table) -> Table {
+    table.copied(rt.alloc()).expect(rt, "the copy of a table")
+}
+
+/// The join of two tables.
+pub(crate) fn join_of(rt: &(impl Abort + AllocGlobal), table: &Table, other: &Table) -> Table {
+    let join = table.joined(rt.alloc(), other);
+    join.expect(rt, "the join of two tables")
+}
+
+// What is demanded so far, and by the requirement.
+fn taken_requirement(
+    rt: &(impl Abort + AllocGlobal),
+    gathering: Gathering,
+    machine: &Environment,
+    requirement: &Requirement,
+) -> Gathering {
+    let more = gathering.take_applying(rt.alloc(), requirement, machine);
+    more.expect(rt, "room for a requirement")
 }
 
 /// What is demanded so far, and by the line.
 pub(crate) fn taken(
-    alloc: Global,
+    rt: &(impl Abort + AllocGlobal),
     gathering: Gathering,
     machine: &Environment,
     line: &str,
-) -> Result<Gathering, TableFault> {
-    let requirement = requirement(alloc, line)?;
-    match gathering.take_applying(alloc, &requirement, machine) {
-        Ok(more) => Ok(more),
-        Err(_) => Err(TableFault::NoMemory),
-    }
+) -> Gathering {
+    let requirement = requirement(rt, line);
+    taken_requirement(rt, gathering, machine, &requirement)
 }
 
 // The lines of what is gathered, where no table is made of it.
-fn gathered_lines(alloc: Global, lines: &[&str]) -> Result<String, TableFault> {
-    let machine = machine(alloc)?;
-    let mut gathering = Gathering::new(alloc);
+fn gathered_lines(rt: &(impl Abort + AllocGlobal), lines: &[&str]) -> String {
+    let machine = machine(rt);
+    let mut gathering = Gathering::new(rt.alloc());
     for line in lines {
-        gathering = taken(alloc, gathering, &machine, line)?;
+        gathering = taken(rt, gathering, &machine, line);
     }
-    behind_header(alloc, gathering.text(alloc, &machine)?.as_str())
+    let text = gathering.text(rt.alloc(), &machine);
+    behind_header(rt, text.expect(rt, "the text of a table").as_str())
+}
+
+// Why there is no table.
+fn refusal(rt: &(impl Abort + AllocGlobal), fault: TableFault) -> String {
+    let code = fault.code();
+    format!(in rt.alloc(); "refused {code}: {fault}").expect(rt, "room for a fault")
 }
 
 // The lines of the table of the requirement lines, or why there is none.
-fn table_line(alloc: Global, lines: &[&str]) -> Result<String, TableFault> {
-    match table(alloc, lines) {
-        Ok(table) => both_lines(alloc, &table, lines),
-        Err(fault) => Ok(format!(in alloc; "refused {}: {fault}", fault.code())?),
+fn table_line(rt: &(impl Abort + AllocGlobal), lines: &[&str]) -> String {
+    match table_or_fault(rt, lines) {
+        Ok(table) => both_lines(rt, &table, lines),
+        Err(fault) => refusal(rt, fault),
     }
 }
 
 // The lines of the table, which are those of what is gathered of the requirement lines.
-fn both_lines(alloc: Global, table: &Table, lines: &[&str]) -> Result<String, TableFault> {
-    let text = lines_of(alloc, table)?;
-    let gathered = gathered_lines(alloc, lines)?;
+fn both_lines(rt: &(impl Abort + AllocGlobal), table: &Table, lines: &[&str]) -> String {
+    let text = lines_of(rt, table);
+    let gathered = gathered_lines(rt, lines);
     if text.as_str() == gathered.as_str() {
-        Ok(text)
+        text
     } else {
-        Ok(format!(in alloc; "{text}, gathered as {gathered}")?)
+        format!(in rt.alloc(); "{text}, gathered as {gathered}").expect(rt, "room for lines")
     }
 }
 
@@ -212,52 +257,49 @@ const TEXTS: [(&[&str], &str); 26] = [
 ];
 
 #[test]
-fn texts(rt: HostRuntime) -> Result<(), TableFault> {
+fn texts(rt: HostRuntime) {
     for &(lines, want) in &TEXTS {
-        let line = table_line(rt.alloc(), lines)?;
+        let line = table_line(&rt, lines);
         expect_row(&rt, want, line.as_str(), want);
     }
-    Ok(())
 }
 
 const CONFLICT: &str = "a conflict\n  url https://x.test/1\n  url https://x.test/2\n  range before \
     0.dev0 to end\n";
 
 // The join of the tables of two lines.
-fn joined(alloc: Global, line: &str, other: &str) -> Result<Table, TableFault> {
-    table(alloc, &[line])?.joined(alloc, &table(alloc, &[other])?)
+fn joined(rt: &(impl Abort + AllocGlobal), line: &str, other: &str) -> Table {
+    let one = table(rt, &[line]);
+    join_of(rt, &one, &table(rt, &[other]))
 }
 
 const URLS: [&str; 2] = ["a @ https://x.test/1", "a @ https://x.test/2"];
 
 #[test]
-fn conflicts(rt: HostRuntime) -> Result<(), TableFault> {
-    let both = joined(rt.alloc(), URLS[0], URLS[1])?;
-    let lines = lines_of(rt.alloc(), &both)?;
+fn conflicts(rt: HostRuntime) {
+    let both = joined(&rt, URLS[0], URLS[1]);
+    let lines = lines_of(&rt, &both);
     expect_line(&rt, lines.as_str(), CONFLICT);
-    assert!(rt; joined(rt.alloc(), URLS[1], URLS[0])? == both);
-    Ok(())
+    assert!(rt; joined(&rt, URLS[1], URLS[0]) == both);
 }
 
 /// The verdict on `a`.
-pub(crate) fn verdict(alloc: Global, table: &Table) -> Result<Option<Verdict>, TableFault> {
-    table.verdict(alloc, &name(alloc, "a")?)
+pub(crate) fn verdict(rt: &(impl Abort + AllocGlobal), table: &Table) -> Option<Verdict> {
+    let verdict = table.verdict(rt.alloc(), &name(rt, "a"));
+    verdict.expect(rt, "room for a verdict")
 }
 
 // The join of a conflict and of a table that has none.
-fn later(alloc: Global) -> Result<Table, TableFault> {
-    let both = joined(alloc, URLS[0], URLS[1])?;
-    both.joined(
-        alloc,
-        &table(alloc, &["a>=1", "a @ https://x.test/1", "b"])?,
-    )
+fn later(rt: &(impl Abort + AllocGlobal)) -> Table {
+    let both = joined(rt, URLS[0], URLS[1]);
+    let other = table(rt, &["a>=1", "a @ https://x.test/1", "b"]);
+    join_of(rt, &both, &other)
 }
 
 #[test]
-fn conflicts_stay(rt: HostRuntime) -> Result<(), TableFault> {
-    let later = later(rt.alloc())?;
-    assert!(rt; verdict(rt.alloc(), &later)? == Some(Verdict::Conflict));
-    Ok(())
+fn conflicts_stay(rt: HostRuntime) {
+    let later = later(&rt);
+    assert!(rt; verdict(&rt, &later) == Some(Verdict::Conflict));
 }
 
 // The lines of tables that are joined, and of the join.
@@ -269,49 +311,71 @@ const JOINED: [&[&str]; 3] = [
 
 const WHOLE: [&str; 4] = ["z===1.0", "flask>=2.0", "x[y]", "flask<3"];
 
-fn tables(alloc: Global) -> Result<Vec<Table>, TableFault> {
-    let mut tables = Vec::new(alloc);
+fn tables(rt: &(impl Abort + AllocGlobal)) -> Vec<Table> {
+    let mut tables = Vec::new(rt.alloc());
     for lines in &JOINED {
-        tables.push(table(alloc, lines)?)?;
+        tables.push(table(rt, lines)).expect(rt, "room for a table");
     }
-    Ok(tables)
+    tables
 }
 
-// The join of them all.
-fn all_joined(alloc: Global) -> Result<Table, TableFault> {
-    join_all(alloc, Table::empty(alloc), tables(alloc)?.iter())
+/// The join of the tables.
+pub(crate) fn all_joined(rt: &(impl Abort + AllocGlobal), tables: &[Table]) -> Table {
+    let join = join_all(rt.alloc(), Table::empty(rt.alloc()), tables.iter());
+    join.expect(rt, "the join of tables")
 }
 
-// The same from the last to the first.
-fn all_joined_back(alloc: Global) -> Result<Table, TableFault> {
-    join_all(alloc, Table::empty(alloc), tables(alloc)?.iter().rev())
+/// The same from the last to the first.
+pub(crate) fn all_joined_back(rt: &(impl Abort + AllocGlobal), tables: &[Table]) -> Table {
+    let join = join_all(rt.alloc(), Table::empty(rt.alloc()), tables.iter().rev());
+    join.expect(rt, "the join of tables")
 }
 
 #[test]
-fn different_tables(rt: HostRuntime) -> Result<(), TableFault> {
-    let tables = tables(rt.alloc())?;
+fn different_tables(rt: HostRuntime) {
+    let tables = tables(&rt);
     assert!(rt; tables.len() == 3);
     assert!(rt; tables[1] != tables[2]);
-    Ok(())
+}
+
+/// What is demanded so far, and by the table.
+pub(crate) fn taken_table(
+    rt: &(impl Abort + AllocGlobal),
+    gathering: Gathering,
+    table: &Table,
+) -> Gathering {
+    let more = gathering.take_table(rt.alloc(), copy_of(rt, table));
+    more.expect(rt, "room for a table")
+}
+
+/// The table of what is gathered.
+pub(crate) fn finished(rt: &(impl Abort + AllocGlobal), gathering: Gathering) -> Table {
+    gathering.finish(rt.alloc()).expect(rt, "a gathered table")
 }
 
 /// What the tables demand, gathered one by one.
-pub(crate) fn gathered(alloc: Global, tables: &[Table]) -> Result<Table, TableFault> {
-    let mut gathering = Gathering::new(alloc);
+pub(crate) fn gathered(rt: &(impl Abort + AllocGlobal), tables: &[Table]) -> Table {
+    let mut gathering = Gathering::new(rt.alloc());
     for table in tables {
-        gathering = gathering.take_table(alloc, table.copied(alloc)?)?;
+        gathering = taken_table(rt, gathering, table);
     }
-    gathering.finish(alloc)
+    finished(rt, gathering)
 }
 
-// The table of them all, by one of several ways, of which the last two begin with it.
-fn made(alloc: Global, way: &str, whole: &Table) -> Result<Table, TableFault> {
+// The join of a table and of all tables.
+fn joined_with_all(rt: &(impl Abort + AllocGlobal), whole: &Table, tables: &[Table]) -> Table {
+    let all = all_joined(rt, tables);
+    join_of(rt, whole, &all)
+}
+
+// The table of all tables, by one of several ways, of which the last two begin with that of all lines.
+fn made(rt: &(impl Abort + AllocGlobal), way: &str, whole: &Table, tables: &[Table]) -> Table {
     match way {
-        "joined" => all_joined(alloc),
-        "joined from behind" => all_joined_back(alloc),
-        "gathered" => gathered(alloc, tables(alloc)?.as_slice()),
-        "joined with all" => whole.joined(alloc, &all_joined(alloc)?),
-        _ => whole.copied(alloc),
+        "joined" => all_joined(rt, tables),
+        "joined from behind" => all_joined_back(rt, tables),
+        "gathered" => gathered(rt, tables),
+        "joined with all" => joined_with_all(rt, whole, tables),
+        _ => copy_of(rt, whole),
     }
 }
 
@@ -324,45 +388,55 @@ const WAYS: [&str; 5] = [
 ];
 
 #[test]
-fn joins(rt: HostRuntime) -> Result<(), TableFault> {
-    let whole = table(rt.alloc(), &WHOLE)?;
+fn joins(rt: HostRuntime) {
+    let whole = table(&rt, &WHOLE);
+    let tables = tables(&rt);
     for way in &WAYS {
-        expect(&rt, way, made(rt.alloc(), way, &whole)? == whole);
+        let made = made(&rt, way, &whole, tables.as_slice());
+        expect(&rt, way, made == whole);
     }
-    Ok(())
 }
 
 // ---- entries
 
-// Appends the texts of the values, each in brackets.
-fn push_items<T: Kept>(line: &mut String, values: &Sorted<T>) -> Result<(), TableFault> {
+// Appends the text in brackets.
+fn push_item(line: &mut String, text: &str) -> Result<(), AllocError> {
+    line.push_str("[")?;
+    line.push_str(text)?;
+    line.push_str("]")
+}
+
+// Appends what the values are, and the text of each in brackets.
+fn push_items<T: Kept>(rt: &impl Abort, line: &mut String, what: &str, values: &Sorted<T>) {
+    line.push_str(what).expect(rt, "room for a text");
     for item in values.items() {
-        line.push_str("[")?;
-        line.push_str(item.as_text())?;
-        line.push_str("]")?;
+        push_item(line, item.as_text()).expect(rt, "room for a value");
     }
-    Ok(())
+}
+
+// Appends how many ranges an entry has.
+fn push_count(rt: &(impl Abort + AllocGlobal), line: &mut String, entry: &Entry) {
+    let count = entry.versions().ranges().len();
+    let text = format!(in rt.alloc(); " ranges {count}").expect(rt, "room for a number");
+    line.push_str(text.as_str()).expect(rt, "room for a number");
 }
 
 // The extras, URLs and texts of an entry, and how many ranges it has.
-fn shown(alloc: Global, entry: &Entry) -> Result<String, TableFault> {
-    let mut line = String::from_str(alloc, "extras")?;
-    push_items(&mut line, entry.extras())?;
-    line.push_str(" urls")?;
-    push_items(&mut line, entry.urls())?;
-    line.push_str(" texts")?;
-    push_items(&mut line, entry.texts())?;
-    let ranges = format!(in alloc; " ranges {}", entry.versions().ranges().len())?;
-    line.push_str(ranges.as_str())?;
-    Ok(line)
+fn shown(rt: &(impl Abort + AllocGlobal), entry: &Entry) -> String {
+    let mut line = String::new(rt.alloc());
+    push_items(rt, &mut line, "extras", entry.extras());
+    push_items(rt, &mut line, " urls", entry.urls());
+    push_items(rt, &mut line, " texts", entry.texts());
+    push_count(rt, &mut line, entry);
+    line
 }
 
 const ENTRIES: [&str; 3] = ["a[y,x]>=1,===1.0", "b @ https://x.test/1", "c"];
 
-fn entry_of_line(alloc: Global, table: &Table, text: &str) -> Result<String, TableFault> {
-    match table.get(&name(alloc, text)?) {
-        Some(entry) => shown(alloc, entry),
-        None => Ok(String::from_str(alloc, "no entry")?),
+fn entry_of_line(rt: &(impl Abort + AllocGlobal), table: &Table, text: &str) -> String {
+    match table.get(&name(rt, text)) {
+        Some(entry) => shown(rt, entry),
+        None => String::from_str(rt.alloc(), "no entry").expect(rt, "room for a text"),
     }
 }
 
@@ -374,77 +448,100 @@ const DEMANDED: [(&str, &str); 3] = [
 ];
 
 #[test]
-fn entries(rt: HostRuntime) -> Result<(), TableFault> {
-    let table = table(rt.alloc(), &ENTRIES)?;
+fn entries(rt: HostRuntime) {
+    let table = table(&rt, &ENTRIES);
     for &(name, want) in &DEMANDED {
-        let line = entry_of_line(rt.alloc(), &table, name)?;
+        let line = entry_of_line(&rt, &table, name);
         expect_row(&rt, name, line.as_str(), want);
     }
-    Ok(())
+}
+
+/// Whether the copy of an entry is equal to it.
+pub(crate) fn is_copied_entry(rt: &(impl Abort + AllocGlobal), entry: &Entry) -> bool {
+    entry.copied(rt.alloc()).expect(rt, "the copy of an entry") == *entry
+}
+
+/// The join of two entries.
+pub(crate) fn join_of_entries(
+    rt: &(impl Abort + AllocGlobal),
+    entry: &Entry,
+    other: &Entry,
+) -> Entry {
+    let join = entry.joined(rt.alloc(), other);
+    join.expect(rt, "the join of two entries")
 }
 
 // The join of the entries of `a` and `b`.
-fn joined_entry(alloc: Global, table: &Table) -> Result<Entry, TableFault> {
-    entry(alloc, table, "a")?.joined(alloc, entry(alloc, table, "b")?)
+fn joined_entry(rt: &(impl Abort + AllocGlobal), table: &Table) -> Entry {
+    join_of_entries(rt, entry(rt, table, "a"), entry(rt, table, "b"))
 }
 
-// The join, whether it is another than the entry of `a`, and whether its copy is equal to it.
-fn joined_entry_line(alloc: Global, table: &Table, both: &Entry) -> Result<String, TableFault> {
-    let is_another = *both != *entry(alloc, table, "a")?;
-    let is_same = both.copied(alloc)? == *both;
-    let text = shown(alloc, both)?;
-    Ok(format!(in alloc; "{text} {is_another} {is_same}")?)
+// The entry, whether it is another than that of `a`, and whether its copy is equal to it.
+fn compared_line(rt: &(impl Abort + AllocGlobal), table: &Table, both: &Entry) -> String {
+    let is_another = *both != *entry(rt, table, "a");
+    let is_same = is_copied_entry(rt, both);
+    let text = shown(rt, both);
+    let line = format!(in rt.alloc(); "{text} {is_another} {is_same}");
+    line.expect(rt, "room for an entry")
+}
+
+// The same of the join of the entries of `a` and `b`.
+fn joined_entry_line(rt: &(impl Abort + AllocGlobal), table: &Table) -> String {
+    compared_line(rt, table, &joined_entry(rt, table))
 }
 
 #[test]
-fn joined_entries(rt: HostRuntime) -> Result<(), TableFault> {
-    let table = table(rt.alloc(), &ENTRIES)?;
-    let both = joined_entry(rt.alloc(), &table)?;
-    let line = joined_entry_line(rt.alloc(), &table, &both)?;
+fn joined_entries(rt: HostRuntime) {
+    let table = table(&rt, &ENTRIES);
+    let line = joined_entry_line(&rt, &table);
     let want = "extras[x][y] urls[https://x.test/1] texts[1.0] ranges 1 true true";
     expect_line(&rt, line.as_str(), want);
-    Ok(())
 }
 
 // The extras of `a` and of `b`, joined.
-fn joined_extras(alloc: Global, lines: &[&str]) -> Result<Sorted<Name>, TableFault> {
-    let table = table(alloc, lines)?;
-    let extras = entry(alloc, &table, "a")?.extras();
-    extras.joined(alloc, entry(alloc, &table, "b")?.extras())
+fn joined_extras(rt: &(impl Abort + AllocGlobal), lines: &[&str]) -> Sorted<Name> {
+    let table = table(rt, lines);
+    let extras = entry(rt, &table, "a").extras();
+    let join = extras.joined(rt.alloc(), entry(rt, &table, "b").extras());
+    join.expect(rt, "the join of extras")
+}
+
+// Whether a copy of the values is equal to them.
+fn is_copied(rt: &(impl Abort + AllocGlobal), values: &Sorted<Name>) -> bool {
+    values.copied(rt.alloc()).expect(rt, "the copy of values") == *values
 }
 
 // The values, and whether a copy is equal to them.
-fn sorted_line(alloc: Global, values: &Sorted<Name>) -> Result<String, TableFault> {
-    let mut line = String::new(alloc);
-    push_items(&mut line, values)?;
-    let is_same = values.copied(alloc)? == *values;
-    Ok(format!(in alloc; "{line} {is_same}")?)
+fn sorted_line(rt: &(impl Abort + AllocGlobal), values: &Sorted<Name>) -> String {
+    let mut line = String::new(rt.alloc());
+    push_items(rt, &mut line, "", values);
+    let is_same = is_copied(rt, values);
+    format!(in rt.alloc(); "{line} {is_same}").expect(rt, "room for values")
 }
 
 #[test]
-fn sorted_values(rt: HostRuntime) -> Result<(), TableFault> {
-    let union = joined_extras(rt.alloc(), &["a[y,x]", "b[z,x]"])?;
-    let line = sorted_line(rt.alloc(), &union)?;
+fn sorted_values(rt: HostRuntime) {
+    let union = joined_extras(&rt, &["a[y,x]", "b[z,x]"]);
+    let line = sorted_line(&rt, &union);
     expect_line(&rt, line.as_str(), "[x][y][z] true");
     assert!(rt; Sorted::<String>::new(rt.alloc()).items().is_empty());
-    Ok(())
 }
 
 #[test]
-fn kept_values(rt: HostRuntime) -> Result<(), TableFault> {
-    let text = String::from_str(rt.alloc(), "1.0")?;
-    assert!(rt; text.kept(rt.alloc())?.as_str() == "1.0");
-    let a = name(rt.alloc(), "a")?;
-    assert!(rt; a.kept(rt.alloc())? == a);
-    Ok(())
+fn kept_values(rt: HostRuntime) {
+    let text = String::from_str(rt.alloc(), "1.0").expect(&rt, "room for a text");
+    let kept = text.kept(rt.alloc()).expect(&rt, "the copy of a text");
+    assert!(rt; kept.as_str() == "1.0");
+    let a = name(&rt, "a");
+    assert!(rt; a.kept(rt.alloc()).expect(&rt, "the copy of a name") == a);
 }
 
 #[test]
-fn joined_versions(rt: HostRuntime) -> Result<(), Fail> {
-    let all = VersionSet::all(rt.alloc())?;
+fn joined_versions(rt: HostRuntime) {
+    let all = VersionSet::all(rt.alloc()).expect(&rt, "the set of all versions");
     let none = VersionSet::none(rt.alloc());
-    assert!(rt; Join::joined(&all, rt.alloc(), &none)?.is_empty());
-    Ok(())
+    let join = Join::joined(&all, rt.alloc(), &none);
+    assert!(rt; join.expect(&rt, "the join of two sets").is_empty());
 }
 
 // Lines, a version of `a`, whether pre-releases are wanted, and the answer.
@@ -472,25 +569,32 @@ const ANSWERS: [(&[&str], &str, bool, Answer); 14] = [
 
 /// Whether a version of `a` meets what the lines demand.
 pub(crate) fn answer(
-    alloc: Global,
+    rt: &(impl Abort + AllocGlobal),
     lines: &[&str],
     version: &str,
     want_pre: bool,
-) -> Result<Answer, TableFault> {
-    let Ok(version) = Version::read(alloc, version) else {
-        return Err(TableFault::NoMemory);
-    };
-    let a = name(alloc, "a")?;
-    table(alloc, lines)?.admits(alloc, &a, &version, want_pre)
+) -> Answer {
+    let version = Version::read(rt.alloc(), version).expect(rt, "a version");
+    answer_of(rt, &table(rt, lines), &version, want_pre)
+}
+
+// Whether the version of `a` meets what the table demands.
+fn answer_of(
+    rt: &(impl Abort + AllocGlobal),
+    table: &Table,
+    version: &Version,
+    want_pre: bool,
+) -> Answer {
+    let answer = table.admits(rt.alloc(), &name(rt, "a"), version, want_pre);
+    answer.expect(rt, "room for an answer")
 }
 
 #[test]
-fn answers(rt: HostRuntime) -> Result<(), TableFault> {
+fn answers(rt: HostRuntime) {
     for &(lines, version, want_pre, wanted) in &ANSWERS {
-        let answer = answer(rt.alloc(), lines, version, want_pre)?;
+        let answer = answer(&rt, lines, version, want_pre);
         expect_same(&rt, version, answer, wanted);
     }
-    Ok(())
 }
 
 // Lines, and the verdict on `a`.
@@ -503,15 +607,14 @@ const VERDICTS: [(&[&str], Option<Verdict>); 6] = [
     (&["a<1", "a>1"], Some(Verdict::Nothing)),
 ];
 
-fn verdict_of(alloc: Global, lines: &[&str]) -> Result<Option<Verdict>, TableFault> {
-    verdict(alloc, &table(alloc, lines)?)
+fn verdict_of(rt: &(impl Abort + AllocGlobal), lines: &[&str]) -> Option<Verdict> {
+    verdict(rt, &table(rt, lines))
 }
 
 #[test]
-fn verdicts(rt: HostRuntime) -> Result<(), TableFault> {
+fn verdicts(rt: HostRuntime) {
     for &(lines, wanted) in &VERDICTS {
-        let verdict = verdict_of(rt.alloc(), lines)?;
+        let verdict = verdict_of(&rt, lines);
         expect_same(&rt, lines, verdict, wanted);
     }
-    Ok(())
 }

@@ -1,11 +1,11 @@
 //! Clauses: what is read and what is refused, how they are written, and which versions they admit.
 
-use crate::tests::lines::{expect, expect_none, expect_same};
+use crate::tests::lines::{expect, expect_lines, expect_same};
 use pep_clause::{Clause, ClauseFault, Op, Operand};
 use pep_version::{Version, VersionFault};
 use std::alloc::Global;
 use std::process::Abort;
-use tests_kit::{Kind, first_difference};
+use tests_kit::Kind;
 use texts::{clause_run, is_clause_byte};
 
 // Clauses, their operators, and what is written behind these.
@@ -67,17 +67,17 @@ const IN_FRONT: [(&str, &str, &str); 4] = [
     ("~=1.0.post1 x", "~=1.0.post1", "x"),
 ];
 
-fn is_in_front(alloc: Global, text: &str, clause: &str, rest: &str) -> Result<bool, ClauseFault> {
-    let (found, behind) = Clause::at_front(alloc, text)?;
-    Ok(found.text(alloc)?.as_str() == clause && behind == rest)
+fn is_in_front(rt: &(impl Abort + AllocGlobal), text: &str, clause: &str, rest: &str) -> bool {
+    let (found, behind) = Clause::at_front(rt.alloc(), text).expect(rt, "a clause in front");
+    let found = found.text(rt.alloc()).expect(rt, "the text of a clause");
+    found.as_str() == clause && behind == rest
 }
 
 #[test]
-fn clauses_in_front(rt: HostRuntime) -> Result<(), ClauseFault> {
+fn clauses_in_front(rt: HostRuntime) {
     for &(text, clause, rest) in &IN_FRONT {
-        expect(&rt, text, is_in_front(rt.alloc(), text, clause, rest)?);
+        expect(&rt, text, is_in_front(&rt, text, clause, rest));
     }
-    Ok(())
 }
 
 // Texts, and how many bytes of clauses stand in front.
@@ -202,8 +202,7 @@ fn line_of(alloc: Global, line: &Line, clause: &Clause) -> Result<String, Clause
 }
 
 fn made_text(alloc: Global, operator: Op, behind: &str) -> Result<String, ClauseFault> {
-    let made = Clause::of(alloc, operator, behind)?;
-    made.text(alloc)
+    Clause::of(alloc, operator, behind)?.text(alloc)
 }
 
 // What is written behind the operator, or a text that makes no clause where another one stands there.
@@ -212,14 +211,23 @@ fn behind<'a>(text: &'a str, operator: Op) -> &'a str {
         .unwrap_or("another operator")
 }
 
-fn read_line(alloc: Global, clause: &Clause) -> Result<String, ClauseFault> {
-    let (operator, text) = (clause.op(), clause.text(alloc)?);
-    let behind = behind(text.as_str(), operator);
-    if made_text(alloc, operator, behind)? == text {
+// Whether the clause of an operator and what is written behind it has this text.
+fn is_made(alloc: Global, operator: Op, behind: &str, text: &str) -> Result<bool, ClauseFault> {
+    Ok(made_text(alloc, operator, behind)?.as_str() == text)
+}
+
+// The operator and what is written behind it in this text, if the same clause is made of them.
+fn line_of_text(alloc: Global, operator: Op, text: &str) -> Result<String, ClauseFault> {
+    let behind = behind(text, operator);
+    if is_made(alloc, operator, behind, text)? {
         Ok(format!(in alloc; "{} {behind}", operator.text())?)
     } else {
         Ok(String::from_str(alloc, "another clause")?)
     }
+}
+
+fn read_line(alloc: Global, clause: &Clause) -> Result<String, ClauseFault> {
+    line_of_text(alloc, clause.op(), clause.text(alloc)?.as_str())
 }
 
 // What stands behind the operator, as it is written.
@@ -236,59 +244,53 @@ fn operand_text(alloc: Global, clause: &Clause) -> Result<String, ClauseFault> {
 }
 
 #[test]
-fn clauses(rt: HostRuntime) -> Result<(), ClauseFault> {
-    expect_none(&rt, first_difference(rt.alloc(), &Line::Read, &READ)?);
-    expect_none(&rt, first_difference(rt.alloc(), &Line::Exact, &EXACT)?);
-    expect_none(
-        &rt,
-        first_difference(rt.alloc(), &Line::Operand, &OPERANDS)?,
-    );
-    expect_none(&rt, first_difference(rt.alloc(), &Line::Copied, &COPIED)?);
-    Ok(())
+fn clauses(rt: HostRuntime) {
+    expect_lines(&rt, &Line::Read, &READ);
+    expect_lines(&rt, &Line::Exact, &EXACT);
+    expect_lines(&rt, &Line::Operand, &OPERANDS);
+    expect_lines(&rt, &Line::Copied, &COPIED);
 }
 
 // What a clause's operator makes of its text, asked of the clause of `==`.
 fn answer_by(
-    alloc: Global,
+    rt: &(impl Abort + AllocGlobal),
     clause: &Clause,
     candidate: &Version,
-) -> Result<Option<bool>, ClauseFault> {
-    let text = clause.text(alloc)?;
-    let matching = Clause::of(alloc, Op::Equal, behind(text.as_str(), clause.op()))?;
-    Ok(matching.admits_by(clause.op(), candidate))
+) -> Option<bool> {
+    let text = clause.text(rt.alloc()).expect(rt, "the text of a clause");
+    let behind = behind(text.as_str(), clause.op());
+    let matching = Clause::of(rt.alloc(), Op::Equal, behind).expect(rt, "a clause of `==`");
+    matching.admits_by(clause.op(), candidate)
 }
 
 // Of `===` nothing is told by another clause.
 fn is_admitted(
-    alloc: Global,
+    rt: &(impl Abort + AllocGlobal),
     clause: &Clause,
     version: &str,
     is_wanted: bool,
-) -> Result<bool, ClauseFault> {
-    let candidate = Version::read(alloc, version)?;
-    let found = clause.admits(alloc, &candidate)?;
-    let answer = answer_by(alloc, clause, &candidate)?;
+) -> bool {
+    let candidate = Version::read(rt.alloc(), version).expect(rt, "a version");
+    let found = clause
+        .admits(rt.alloc(), &candidate)
+        .expect(rt, "an answer of a clause");
+    let answer = answer_by(rt, clause, &candidate);
     let is_told = clause.op() != Op::Exact;
-    Ok(found == is_wanted && answer == is_told.then_some(is_wanted))
+    found == is_wanted && answer == is_told.then_some(is_wanted)
 }
 
-fn expect_admitted(
-    rt: &(impl Abort + AllocGlobal),
-    rows: &[(&str, &str)],
-    is_wanted: bool,
-) -> Result<(), ClauseFault> {
+fn expect_admitted(rt: &(impl Abort + AllocGlobal), rows: &[(&str, &str)], is_wanted: bool) {
     for &(text, version) in rows {
-        let clause = Clause::read(rt.alloc(), text)?;
-        let is_right = is_admitted(rt.alloc(), &clause, version, is_wanted)?;
+        let clause = Clause::read(rt.alloc(), text).expect(rt, "a clause");
+        let is_right = is_admitted(rt, &clause, version, is_wanted);
         expect(rt, (text, version), is_right);
     }
-    Ok(())
 }
 
 #[test]
-fn admitted_versions(rt: HostRuntime) -> Result<(), ClauseFault> {
-    expect_admitted(&rt, &ADMITTED, true)?;
-    expect_admitted(&rt, &NOT_ADMITTED, false)
+fn admitted_versions(rt: HostRuntime) {
+    expect_admitted(&rt, &ADMITTED, true);
+    expect_admitted(&rt, &NOT_ADMITTED, false);
 }
 
 fn is_no_clause(alloc: Global, text: &str, operator: Op) -> Result<bool, ClauseFault> {

@@ -1,88 +1,82 @@
 //! Cuts in their order.
 
-use crate::tests::lines::{expect, expect_none};
+use crate::tests::lines::{expect, expect_lines, expect_none, expect_own_lines};
 use crate::tests::packed::{CutLine, compare_cuts, cut_at, cut_has_copy};
 use crate::tests::sets::set;
 use pep_clause::{ClauseFault, Cut, Range, VersionSet};
 use pep_version::Version;
-use std::alloc::Global;
 use std::process::Abort;
-use tests_kit::{first_difference, first_difference_from, first_not_itself};
+use tests_kit::first_difference_from;
 
-fn before(alloc: Global, text: &str) -> Result<Cut, ClauseFault> {
-    Cut::before(alloc, &Version::read(alloc, text)?)
+fn before(rt: &(impl Abort + AllocGlobal), text: &str) -> Cut {
+    let version = Version::read(rt.alloc(), text).expect(rt, "a version");
+    Cut::before(rt.alloc(), &version).expect(rt, "a cut")
 }
 
 // Where the ranges of a clause begin, or where they end.
-fn push_ends(
-    alloc: Global,
-    cuts: &mut Vec<Cut>,
-    clause: &str,
-    are_lows: bool,
-) -> Result<(), ClauseFault> {
-    for range in set(alloc, clause)?.ranges() {
+fn push_ends(rt: &(impl Abort + AllocGlobal), cuts: &mut Vec<Cut>, clause: &str, are_lows: bool) {
+    let set = set(rt.alloc(), clause).expect(rt, "the set of a clause");
+    for range in set.ranges() {
         let end = if are_lows { range.low() } else { range.high() };
-        cuts.push(end.copied(alloc)?)?;
+        let end = end.copied(rt.alloc()).expect(rt, "the copy of a cut");
+        cuts.push(end).expect(rt, "room for a cut");
     }
-    Ok(())
 }
 
-fn push_before(alloc: Global, cuts: &mut Vec<Cut>, texts: &[&str]) -> Result<(), ClauseFault> {
+fn push_before(rt: &(impl Abort + AllocGlobal), cuts: &mut Vec<Cut>, texts: &[&str]) {
     for text in texts {
-        cuts.push(before(alloc, text)?)?;
+        cuts.push(before(rt, text)).expect(rt, "room for a cut");
     }
-    Ok(())
 }
 
 // Cuts, each below the next.
-fn cuts(alloc: Global) -> Result<Vec<Cut>, ClauseFault> {
-    let mut cuts = Vec::new(alloc);
-    cuts.push(Cut::least())?;
-    push_before(alloc, &mut cuts, &["0", "1.dev0", "1a1", "1", "1+x"])?;
-    push_ends(alloc, &mut cuts, "==1+x", false)?;
-    push_before(alloc, &mut cuts, &["1.post1"])?;
-    push_ends(alloc, &mut cuts, ">1", true)?;
-    push_before(alloc, &mut cuts, &["1.0.1"])?;
-    cuts.push(Cut::end())?;
-    Ok(cuts)
+fn cuts(rt: &(impl Abort + AllocGlobal)) -> Vec<Cut> {
+    let mut cuts = Vec::new(rt.alloc());
+    cuts.push(Cut::least()).expect(rt, "room for a cut");
+    push_before(rt, &mut cuts, &["0", "1.dev0", "1a1", "1", "1+x"]);
+    push_ends(rt, &mut cuts, "==1+x", false);
+    push_before(rt, &mut cuts, &["1.post1"]);
+    push_ends(rt, &mut cuts, ">1", true);
+    push_before(rt, &mut cuts, &["1.0.1"]);
+    cuts.push(Cut::end()).expect(rt, "room for a cut");
+    cuts
 }
 
 // Each cut is below the next, and equal to itself alone.
 #[test]
-fn orders_cuts(rt: HostRuntime) -> Result<(), ClauseFault> {
-    let cuts = cuts(rt.alloc())?;
+fn orders_cuts(rt: HostRuntime) {
+    let cuts = cuts(&rt);
     assert!(rt; cuts.len() == 11);
     compare_cuts(&rt, cuts.as_slice());
-    Ok(())
 }
 
 // Whether the cut is read from its text.
-fn is_read_back(alloc: Global, cut: &Cut) -> Result<bool, ClauseFault> {
-    match Cut::read(alloc, cut.text(alloc)?.as_str())? {
-        Some(read) => Ok(read == *cut),
-        None => Ok(false),
+fn is_read_back(rt: &(impl Abort + AllocGlobal), cut: &Cut) -> bool {
+    let text = cut.text(rt.alloc()).expect(rt, "the text of a cut");
+    match Cut::read(rt.alloc(), text.as_str()).expect(rt, "room for a cut") {
+        Some(read) => read == *cut,
+        None => false,
     }
 }
 
 #[test]
-fn copies_and_reads_cuts(rt: HostRuntime) -> Result<(), ClauseFault> {
-    for cut in &cuts(rt.alloc())? {
-        assert!(rt; cut_has_copy(rt.alloc(), cut)?);
-        assert!(rt; is_read_back(rt.alloc(), cut)?);
+fn copies_and_reads_cuts(rt: HostRuntime) {
+    for cut in &cuts(&rt) {
+        assert!(rt; cut_has_copy(&rt, cut));
+        assert!(rt; is_read_back(&rt, cut));
     }
-    Ok(())
 }
 
 // Whether two versions have one cut, which isn't the end.
-fn is_one_cut(alloc: Global, one: &str, other: &str) -> Result<bool, ClauseFault> {
-    let (one, other) = (before(alloc, one)?, before(alloc, other)?);
-    Ok(one == other && other < Cut::end())
+fn is_one_cut(rt: &(impl Abort + AllocGlobal), one: &str, other: &str) -> bool {
+    let one = before(rt, one);
+    let other = before(rt, other);
+    one == other && other < Cut::end()
 }
 
 #[test]
-fn joins_equal_versions(rt: HostRuntime) -> Result<(), ClauseFault> {
-    assert!(rt; is_one_cut(rt.alloc(), "1", "1.0")?);
-    Ok(())
+fn joins_equal_versions(rt: HostRuntime) {
+    assert!(rt; is_one_cut(&rt, "1", "1.0"));
 }
 
 const TEXTS: [&str; 12] = [
@@ -144,46 +138,44 @@ const OTHER_TEXTS: [&str; 38] = [
 
 #[test]
 fn reads_cuts(rt: HostRuntime) -> Result<(), ClauseFault> {
-    expect_none(&rt, first_not_itself(rt.alloc(), &CutLine::Text, &TEXTS)?);
+    expect_own_lines(&rt, &CutLine::Text, &TEXTS);
     expect_none(
         &rt,
         first_difference_from(rt.alloc(), &CutLine::Text, &OTHER_TEXTS, "no cut")?,
     );
-    expect_none(
+    expect_lines(
         &rt,
-        first_difference(
-            rt.alloc(),
-            &CutLine::Pushed,
-            &[("before 1", "from before 1"), ("end", "from end")],
-        )?,
+        &CutLine::Pushed,
+        &[("before 1", "from before 1"), ("end", "from end")],
     );
     Ok(())
 }
 
-fn range(alloc: Global, low: &Cut, high: &Cut) -> Result<Option<Range>, ClauseFault> {
-    Ok(Range::of(low.copied(alloc)?, high.copied(alloc)?))
+fn range(rt: &(impl Abort + AllocGlobal), low: &Cut, high: &Cut) -> Option<Range> {
+    let low = low.copied(rt.alloc()).expect(rt, "the copy of a cut");
+    let high = high.copied(rt.alloc()).expect(rt, "the copy of a cut");
+    Range::of(low, high)
 }
 
 // Whether there is a range between two cuts exactly where one is wanted, and it has their ends.
-fn is_range(alloc: Global, low: &Cut, high: &Cut, is_wanted: bool) -> Result<bool, ClauseFault> {
-    match range(alloc, low, high)? {
-        Some(range) => Ok(is_wanted && range.low() == low && range.high() == high),
-        None => Ok(!is_wanted),
+fn is_range(rt: &(impl Abort + AllocGlobal), low: &Cut, high: &Cut, is_wanted: bool) -> bool {
+    match range(rt, low, high) {
+        Some(range) => is_wanted && range.low() == low && range.high() == high,
+        None => !is_wanted,
     }
 }
 
-fn expect_ranges(rt: &(impl Abort + AllocGlobal), cuts: &[Cut]) -> Result<(), ClauseFault> {
+fn expect_ranges(rt: &(impl Abort + AllocGlobal), cuts: &[Cut]) {
     for (i, low) in cuts.iter().enumerate() {
         for (j, high) in cuts.iter().enumerate() {
-            expect(rt, (i, j), is_range(rt.alloc(), low, high, i < j)?);
+            expect(rt, (i, j), is_range(rt, low, high, i < j));
         }
     }
-    Ok(())
 }
 
 #[test]
-fn ranges_of_cuts(rt: HostRuntime) -> Result<(), ClauseFault> {
-    expect_ranges(&rt, cuts(rt.alloc())?.as_slice())
+fn ranges_of_cuts(rt: HostRuntime) {
+    expect_ranges(&rt, cuts(&rt).as_slice());
 }
 
 // Pairs of places in the row of cuts, and whether their ranges are those of a set.
@@ -199,40 +191,45 @@ const PAIRS: [(&[(usize, usize)], bool); 9] = [
     (&[(0, 1), (2, 4), (3, 5)], false),
 ];
 
+// The range between the cuts at two places.
+fn range_at(rt: &(impl Abort + AllocGlobal), cuts: &[Cut], low: usize, high: usize) -> Range {
+    let low = cut_at(rt.alloc(), cuts, low).expect(rt, "the copy of a cut");
+    let high = cut_at(rt.alloc(), cuts, high).expect(rt, "the copy of a cut");
+    Range::of(low, high).expect(rt, "a range")
+}
+
 // The ranges between the cuts at these places.
 fn ranges_at(
-    alloc: Global,
+    rt: &(impl Abort + AllocGlobal),
     cuts: &[Cut],
     pairs: &[(usize, usize)],
-) -> Result<Vec<Range>, ClauseFault> {
-    let mut ranges = Vec::new(alloc);
+) -> Vec<Range> {
+    let mut ranges = Vec::new(rt.alloc());
     for &(low, high) in pairs {
-        let range = Range::of(cut_at(alloc, cuts, low)?, cut_at(alloc, cuts, high)?);
-        ranges.push(range.ok_or(ClauseFault::BadVersion)?)?;
+        let range = range_at(rt, cuts, low, high);
+        ranges.push(range).expect(rt, "room for a range");
     }
-    Ok(ranges)
+    ranges
 }
 
 // Whether the ranges are those of a set exactly where one is wanted, and the set has them.
 fn is_set(
-    alloc: Global,
+    rt: &(impl Abort + AllocGlobal),
     cuts: &[Cut],
     pairs: &[(usize, usize)],
     is_wanted: bool,
-) -> Result<bool, ClauseFault> {
-    let ranges = ranges_at(alloc, cuts, pairs)?;
-    match VersionSet::of_ranges(ranges_at(alloc, cuts, pairs)?) {
-        Some(set) => Ok(is_wanted && set.ranges() == ranges.as_slice()),
-        None => Ok(!is_wanted),
+) -> bool {
+    let ranges = ranges_at(rt, cuts, pairs);
+    match VersionSet::of_ranges(ranges_at(rt, cuts, pairs)) {
+        Some(set) => is_wanted && set.ranges() == ranges.as_slice(),
+        None => !is_wanted,
     }
 }
 
 #[test]
-fn sets_of_ranges(rt: HostRuntime) -> Result<(), ClauseFault> {
-    let cuts = cuts(rt.alloc())?;
+fn sets_of_ranges(rt: HostRuntime) {
+    let cuts = cuts(&rt);
     for &(pairs, is_wanted) in &PAIRS {
-        let holds = is_set(rt.alloc(), cuts.as_slice(), pairs, is_wanted)?;
-        expect(&rt, pairs, holds);
+        expect(&rt, pairs, is_set(&rt, cuts.as_slice(), pairs, is_wanted));
     }
-    Ok(())
 }

@@ -1,10 +1,10 @@
 //! The bytes of keys.
 
-use crate::tests::lines::{expect, expect_none};
+use crate::tests::lines::{expect, expect_lines, expect_own_lines};
 use crate::tests::versions::key;
 use pep_version::{Key, VersionFault};
 use std::alloc::Global;
-use tests_kit::{Kind, first_difference, first_not_itself, hex};
+use tests_kit::{Kind, hex};
 
 // A version, the bytes of its key, and the version that stands there.
 const KEYS: [(&str, &str); 7] = [
@@ -133,15 +133,11 @@ fn key_line(alloc: Global, line: &KeyLine, key: &Key) -> Result<String, VersionF
 // Keys are made of versions and read of their bytes; neither the beginnings of a key nor the key with a
 // byte more is one; a copy has the key's text.
 #[test]
-fn keys(rt: HostRuntime) -> Result<(), VersionFault> {
-    expect_none(&rt, first_difference(rt.alloc(), &KeyLine::Made, &KEYS)?);
-    expect_none(&rt, first_difference(rt.alloc(), &KeyLine::Read, &KEYS)?);
-    expect_none(&rt, first_difference(rt.alloc(), &KeyLine::Sizes, &SIZES)?);
-    expect_none(
-        &rt,
-        first_not_itself(rt.alloc(), &KeyLine::Copied, &LONG_KEYS)?,
-    );
-    Ok(())
+fn keys(rt: HostRuntime) {
+    expect_lines(&rt, &KeyLine::Made, &KEYS);
+    expect_lines(&rt, &KeyLine::Read, &KEYS);
+    expect_lines(&rt, &KeyLine::Sizes, &SIZES);
+    expect_own_lines(&rt, &KeyLine::Copied, &LONG_KEYS);
 }
 
 // None, a zero at the end of a release, another mark of a part, and words that no version has.

@@ -1,61 +1,63 @@
 //! Sets that are larger than a body that gives up early would take.
 
 use crate::tests::sets::{set, shown};
-use pep_clause::{ClauseFault, VersionSet};
-use std::alloc::{AllocError, Global};
+use pep_clause::VersionSet;
+use std::process::Abort;
 
 // The set of all versions but that of a number.
-fn without(alloc: Global, number: u32) -> Result<VersionSet, ClauseFault> {
-    let clause = format!(in alloc; "!={number}")?;
-    set(alloc, clause.as_str())
+fn without(rt: &(impl Abort + AllocGlobal), number: u32) -> VersionSet {
+    let clause = format!(in rt.alloc(); "!={number}").expect(rt, "room for a text");
+    set(rt.alloc(), clause.as_str()).expect(rt, "the set of a clause")
 }
 
 // The set of all versions but every second number from the first one on, below 201.
-fn without_each_second(alloc: Global, first: u32) -> Result<VersionSet, ClauseFault> {
-    let mut set = VersionSet::all(alloc)?;
+fn without_each_second(rt: &(impl Abort + AllocGlobal), first: u32) -> VersionSet {
+    let mut set = VersionSet::all(rt.alloc()).expect(rt, "the set of all versions");
     for number in 1..201 {
         if number % 2 == first % 2 {
-            set.join(alloc, &without(alloc, number)?)?;
+            let other = without(rt, number);
+            set.join(rt.alloc(), &other).expect(rt, "room for a join");
         }
     }
-    Ok(set)
+    set
 }
 
 #[test]
-fn sets_of_many_ranges(rt: HostRuntime) -> Result<(), ClauseFault> {
+fn sets_of_many_ranges(rt: HostRuntime) {
     for first in 0..2 {
-        let set = without_each_second(rt.alloc(), first)?;
+        let set = without_each_second(&rt, first);
         assert!(rt; set.ranges().len() == 101);
     }
-    Ok(())
 }
 
 // The join of two sets that leave out every second number, each from its own first one on.
-fn join_of(alloc: Global, first: u32, other: u32) -> Result<VersionSet, ClauseFault> {
-    let set = without_each_second(alloc, first)?;
-    set.joined(alloc, &without_each_second(alloc, other)?)
+fn join_of(rt: &(impl Abort + AllocGlobal), first: u32, other: u32) -> VersionSet {
+    let set = without_each_second(rt, first);
+    let other = without_each_second(rt, other);
+    set.joined(rt.alloc(), &other).expect(rt, "a join")
 }
 
 // The ranges of such a join: from what lies behind one of the numbers to the next.
-fn ranges_of_joins(alloc: Global) -> Result<String, AllocError> {
-    let mut text = String::from_str(alloc, "[before 0.dev0")?;
+fn ranges_of_joins(rt: &(impl Abort + AllocGlobal)) -> String {
+    let mut text = String::from_str(rt.alloc(), "[before 0.dev0").expect(rt, "room for a text");
     for number in 1..201 {
-        let cuts = format!(in alloc; " to before {number}][before {number}.post0.dev0")?;
-        text.push_str(cuts.as_str())?;
+        let cuts = format!(in rt.alloc(); " to before {number}][before {number}.post0.dev0");
+        let cuts = cuts.expect(rt, "room for a text");
+        text.push_str(cuts.as_str()).expect(rt, "room for a text");
     }
-    text.push_str(" to end]")?;
-    Ok(text)
+    text.push_str(" to end]").expect(rt, "room for a text");
+    text
 }
 
-fn has_ranges_of_joins(alloc: Global, joined: &VersionSet) -> Result<bool, ClauseFault> {
-    Ok(shown(alloc, joined)? == ranges_of_joins(alloc)?)
+fn has_ranges_of_joins(rt: &(impl Abort + AllocGlobal), joined: &VersionSet) -> bool {
+    let ranges = shown(rt.alloc(), joined).expect(rt, "the ranges of a set");
+    ranges == ranges_of_joins(rt)
 }
 
 #[test]
-fn ranges_of_a_large_join(rt: HostRuntime) -> Result<(), ClauseFault> {
-    let joined = join_of(rt.alloc(), 1, 0)?;
-    assert!(rt; joined == join_of(rt.alloc(), 0, 1)?);
+fn ranges_of_a_large_join(rt: HostRuntime) {
+    let joined = join_of(&rt, 1, 0);
+    assert!(rt; joined == join_of(&rt, 0, 1));
     assert!(rt; joined.ranges().len() == 201);
-    assert!(rt; has_ranges_of_joins(rt.alloc(), &joined)?);
-    Ok(())
+    assert!(rt; has_ranges_of_joins(&rt, &joined));
 }

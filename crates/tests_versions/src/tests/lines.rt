@@ -1,12 +1,38 @@
-//! Assertions about rows of tables.
+//! Assertions about lines, and about rows of `const` tables.
 
 use std::fmt::Debug;
 use std::process::Abort;
-use tests_kit::Difference;
+use tests_kit::{Difference, Kind, first_difference, first_not_itself};
 
 /// Asserts that no row has another line than the wanted one.
 pub(crate) fn expect_none(rt: &impl Abort, found: Difference) {
     assert!(rt; found.is_none(), "{found:?}");
+}
+
+/// Asserts that each row has the line behind it.
+pub(crate) fn expect_lines<'a, K: Kind>(
+    rt: &(impl Abort + AllocGlobal),
+    kind: &K,
+    rows: &[(&'a str, &'a str)],
+)
+where
+    K::Fault: Debug,
+{
+    let found = first_difference(rt.alloc(), kind, rows);
+    expect_none(rt, found.expect(rt, "a line of each row"));
+}
+
+/// Asserts that each row is its own line.
+pub(crate) fn expect_own_lines<'a, K: Kind>(
+    rt: &(impl Abort + AllocGlobal),
+    kind: &K,
+    rows: &[&'a str],
+)
+where
+    K::Fault: Debug,
+{
+    let found = first_not_itself(rt.alloc(), kind, rows);
+    expect_none(rt, found.expect(rt, "a line of each row"));
 }
 
 /// Asserts that a line is the wanted one.

@@ -1,13 +1,13 @@
 //! The bytes of cuts, and of keys beside them.
 
-use crate::tests::lines::{expect, expect_none};
+use crate::tests::lines::{expect, expect_lines};
 use crate::tests::versions::key;
 use pep_clause::{CUT_ROOM, ClauseFault, Cut, Range, VersionSet};
 use pep_version::{Key, Version, VersionFault};
 use std::alloc::Global;
 use std::cmp::Ordering;
 use std::process::Abort;
-use tests_kit::{Kind, ORDERED, first_difference, hex, repeated};
+use tests_kit::{Kind, ORDERED, hex, repeated};
 
 // A cut's text, and its bytes with the text.
 const CUTS: [(&str, &str); 8] = [
@@ -173,25 +173,12 @@ impl Kind for CutLine {
 }
 
 #[test]
-fn cuts(rt: HostRuntime) -> Result<(), ClauseFault> {
-    expect_none(&rt, first_difference(rt.alloc(), &CutLine::Bytes, &CUTS)?);
-    expect_none(
-        &rt,
-        first_difference(rt.alloc(), &CutLine::BytesOfCopy, &CUTS)?,
-    );
-    expect_none(
-        &rt,
-        first_difference(rt.alloc(), &CutLine::Size, &LONG_CUTS)?,
-    );
-    expect_none(
-        &rt,
-        first_difference(rt.alloc(), &CutLine::SizeOfCopy, &LONG_CUTS)?,
-    );
-    expect_none(
-        &rt,
-        first_difference(rt.alloc(), &CutLine::Packed, &PACKED)?,
-    );
-    Ok(())
+fn cuts(rt: HostRuntime) {
+    expect_lines(&rt, &CutLine::Bytes, &CUTS);
+    expect_lines(&rt, &CutLine::BytesOfCopy, &CUTS);
+    expect_lines(&rt, &CutLine::Size, &LONG_CUTS);
+    expect_lines(&rt, &CutLine::SizeOfCopy, &LONG_CUTS);
+    expect_lines(&rt, &CutLine::Packed, &PACKED);
 }
 
 // Versions with so many numbers that their keys lie in the value, just fit there, and don't, each
@@ -208,9 +195,10 @@ const GROWING: [(&str, &str); 8] = [
 ];
 
 // Whether a key's bytes are read as a copy of it.
-fn is_read_as_copy(alloc: Global, one: &Key) -> Result<bool, VersionFault> {
-    let copy = one.copied(alloc)?;
-    Ok(Key::read(alloc, one.bytes())? == Some(copy))
+fn is_read_as_copy(rt: &(impl Abort + AllocGlobal), one: &Key) -> bool {
+    let copy = one.copied(rt.alloc()).expect(rt, "the copy of a key");
+    let read = Key::read(rt.alloc(), one.bytes()).expect(rt, "room for a key");
+    read == Some(copy)
 }
 
 // The set of all versions from one cut to another.
@@ -222,48 +210,55 @@ fn set_between(alloc: Global, low: Cut, high: Cut) -> Result<VersionSet, ClauseF
     VersionSet::of_ranges(ranges).ok_or(ClauseFault::BadVersion)
 }
 
+// The cut before the version that stands at a key.
+fn cut_before(rt: &(impl Abort + AllocGlobal), key: &Key) -> Cut {
+    let version = key.version(rt.alloc()).expect(rt, "the version of a key");
+    Cut::before(rt.alloc(), &version).expect(rt, "a cut")
+}
+
 // The set of the versions from the one that stands at a key.
-fn set_from(alloc: Global, key: &Key) -> Result<VersionSet, ClauseFault> {
-    let low = Cut::before(alloc, &key.version(alloc)?)?;
-    set_between(alloc, low, Cut::end())
+fn set_from(rt: &(impl Abort + AllocGlobal), key: &Key) -> VersionSet {
+    set_between(rt.alloc(), cut_before(rt, key), Cut::end()).expect(rt, "a set")
 }
 
 // Whether a key is above another, by its bytes too, and the set from the key on holds it and not the other.
-fn is_above(alloc: Global, one: &Key, below: &Key) -> Result<bool, ClauseFault> {
-    let set = set_from(alloc, one)?;
+fn is_above(rt: &(impl Abort + AllocGlobal), one: &Key, below: &Key) -> bool {
+    let set = set_from(rt, one);
     let is_above = below < one && below.bytes() < one.bytes();
-    Ok(is_above && set.contains(one) && !set.contains(below))
+    is_above && set.contains(one) && !set.contains(below)
 }
 
 // The same of the keys of two versions, and whether the first is read from its bytes as a copy of it.
-fn is_growing(alloc: Global, text: &str, below: &str) -> Result<bool, ClauseFault> {
-    let (one, below) = (key(alloc, text)?, key(alloc, below)?);
-    Ok(is_above(alloc, &one, &below)? && is_read_as_copy(alloc, &one)?)
+fn is_growing(rt: &(impl Abort + AllocGlobal), text: &str, below: &str) -> bool {
+    let one = key(rt.alloc(), text).expect(rt, "the key of a version");
+    let below = key(rt.alloc(), below).expect(rt, "the key of a version");
+    is_above(rt, &one, &below) && is_read_as_copy(rt, &one)
 }
 
 #[test]
-fn long_and_short(rt: HostRuntime) -> Result<(), ClauseFault> {
+fn long_and_short(rt: HostRuntime) {
     for &(below, text) in &GROWING {
-        expect(&rt, text, is_growing(rt.alloc(), text, below)?);
+        expect(&rt, text, is_growing(&rt, text, below));
     }
-    Ok(())
 }
 
-fn has_copy(alloc: Global, key: &Key) -> Result<bool, VersionFault> {
-    Ok(key.copied(alloc)? == *key)
+fn has_copy(rt: &(impl Abort + AllocGlobal), key: &Key) -> bool {
+    let copy = key.copied(rt.alloc()).expect(rt, "the copy of a key");
+    copy == *key
 }
 
 // Whether a key has so many bytes, is read from them, and what is read has an equal copy.
-fn is_key_size(alloc: Global, key: &Key, size: usize) -> Result<bool, VersionFault> {
-    match Key::read(alloc, key.bytes())? {
-        Some(read) => Ok(key.bytes().len() == size && read == *key && has_copy(alloc, &read)?),
-        None => Ok(false),
+fn is_key_size(rt: &(impl Abort + AllocGlobal), key: &Key, size: usize) -> bool {
+    match Key::read(rt.alloc(), key.bytes()).expect(rt, "room for a key") {
+        Some(read) => key.bytes().len() == size && read == *key && has_copy(rt, &read),
+        None => false,
     }
 }
 
 /// Whether the copy of a cut is equal to it.
-pub(crate) fn cut_has_copy(alloc: Global, cut: &Cut) -> Result<bool, ClauseFault> {
-    Ok(cut.copied(alloc)? == *cut)
+pub(crate) fn cut_has_copy(rt: &(impl Abort + AllocGlobal), cut: &Cut) -> bool {
+    let copy = cut.copied(rt.alloc()).expect(rt, "the copy of a cut");
+    copy == *cut
 }
 
 // Whether a cut's bytes begin with those of the key, and it has so many.
@@ -273,41 +268,42 @@ fn is_front(cut: &Cut, key: &Key, size: usize) -> bool {
     bytes.starts_with(key.bytes()) && bytes.len() == size
 }
 
-// Whether a cut has so many bytes, begins with those of the key, has an equal copy, and this text.
-fn is_cut(
-    alloc: Global,
-    cut: &Cut,
-    text: &str,
-    key: &Key,
-    size: usize,
-) -> Result<bool, ClauseFault> {
-    let is_text = cut.text(alloc)?.as_str() == text;
-    Ok(is_text && is_front(cut, key, size) && cut_has_copy(alloc, cut)?)
+// Whether a cut has this text.
+fn has_text(rt: &(impl Abort + AllocGlobal), cut: &Cut, text: &str) -> bool {
+    let own = cut.text(rt.alloc()).expect(rt, "the text of a cut");
+    own.as_str() == text
 }
 
-fn is_cut_size(alloc: Global, text: &str, key: &Key, size: usize) -> Result<bool, ClauseFault> {
-    match Cut::read(alloc, text)? {
-        Some(cut) => is_cut(alloc, &cut, text, key, size),
-        None => Ok(false),
+// Whether the cut of a text has so many bytes, begins with those of the key, has an equal copy, and this text.
+fn is_cut_size(rt: &(impl Abort + AllocGlobal), text: &str, key: &Key, size: usize) -> bool {
+    match Cut::read(rt.alloc(), text).expect(rt, "room for a cut") {
+        Some(cut) => {
+            has_text(rt, &cut, text) && is_front(&cut, key, size) && cut_has_copy(rt, &cut)
+        }
+        None => false,
     }
 }
 
+// The same of the cut behind a version.
+fn is_size_behind(rt: &(impl Abort + AllocGlobal), version: &str, key: &Key, size: usize) -> bool {
+    let text = format!(in rt.alloc(); "after {version}").expect(rt, "room for a text");
+    is_cut_size(rt, text.as_str(), key, size)
+}
+
 // Whether the key of the version has so many bytes, and the cut behind the version one more.
-fn has_sizes(alloc: Global, version: &str, size: usize) -> Result<bool, ClauseFault> {
-    let key = key(alloc, version)?;
-    let text = format!(in alloc; "after {version}")?;
-    let is_cut = is_cut_size(alloc, text.as_str(), &key, size.saturating_add(1))?;
-    Ok(is_cut && is_key_size(alloc, &key, size)?)
+fn has_sizes(rt: &(impl Abort + AllocGlobal), version: &str, size: usize) -> bool {
+    let key = key(rt.alloc(), version).expect(rt, "the key of a version");
+    is_size_behind(rt, version, &key, size.saturating_add(1)) && is_key_size(rt, &key, size)
 }
 
 // Labels that grow by a letter, until the bytes of the key and of the cut no longer lie in the value.
 #[test]
-fn across_the_edge(rt: HostRuntime) -> Result<(), ClauseFault> {
+fn across_the_edge(rt: HostRuntime) {
     for size in 44..70 {
-        let version = repeated(rt.alloc(), "1.2.3+", "a", size - 43, "")?;
-        expect(&rt, size, has_sizes(rt.alloc(), version.as_str(), size)?);
+        let version = repeated(rt.alloc(), "1.2.3+", "a", size - 43, "");
+        let version = version.expect(&rt, "room for a text");
+        expect(&rt, size, has_sizes(&rt, version.as_str(), size));
     }
-    Ok(())
 }
 
 // A key and a cut of each of the versions in order, and the set of those between two cuts.

@@ -1,11 +1,12 @@
 //! Sets of clauses: their cuts, with carries at the largest number, and which versions they hold.
 
-use crate::tests::lines::{expect, expect_line, expect_none, expect_row};
+use crate::tests::lines::{expect, expect_line, expect_lines, expect_row};
+use crate::tests::versions::key;
 use pep_clause::{Clause, ClauseFault, Range, Turns, VersionSet};
-use pep_version::{Key, Version, VersionFault};
+use pep_version::{Key, Version};
 use std::alloc::Global;
 use std::process::Abort;
-use tests_kit::{Kind, ORDERED, first_difference};
+use tests_kit::{Kind, ORDERED};
 
 const OPERATORS: [&str; 8] = ["~=", "==", "!=", "<=", ">=", "<", ">", "==="];
 
@@ -100,9 +101,12 @@ const HELD: [(&str, &str); 11] = [
     ("0.0.dev0", "the second"),
 ];
 
+fn holds_key(alloc: Global, clause: &str, key: &Key) -> Result<bool, ClauseFault> {
+    Ok(set(alloc, clause)?.contains(key))
+}
+
 fn holds(alloc: Global, clause: &str, version: &str) -> Result<bool, ClauseFault> {
-    let key = Key::of(alloc, &Version::read(alloc, version)?)?;
-    Ok(set(alloc, clause)?.contains(&key))
+    holds_key(alloc, clause, &key(alloc, version)?)
 }
 
 // Which of the sets of two clauses holds the version of a row.
@@ -123,9 +127,8 @@ impl Kind for HoldingSet {
 }
 
 #[test]
-fn holds_what_a_clause_admits(rt: HostRuntime) -> Result<(), ClauseFault> {
-    expect_none(&rt, first_difference(rt.alloc(), &HoldingSet, &HELD)?);
-    Ok(())
+fn holds_what_a_clause_admits(rt: HostRuntime) {
+    expect_lines(&rt, &HoldingSet, &HELD);
 }
 
 // Clauses, all versions and none, and their ranges.
@@ -179,36 +182,47 @@ impl Kind for RangesOfRow {
 }
 
 #[test]
-fn ranges(rt: HostRuntime) -> Result<(), ClauseFault> {
-    expect_none(&rt, first_difference(rt.alloc(), &RangesOfRow, &RANGES)?);
-    Ok(())
+fn ranges(rt: HostRuntime) {
+    expect_lines(&rt, &RangesOfRow, &RANGES);
+}
+
+// The set of a clause that is one.
+fn known_set(rt: &(impl Abort + AllocGlobal), clause: &str) -> VersionSet {
+    set(rt.alloc(), clause).expect(rt, "the set of a clause")
+}
+
+fn all_versions(rt: &(impl Abort + AllocGlobal)) -> VersionSet {
+    VersionSet::all(rt.alloc()).expect(rt, "the set of all versions")
 }
 
 // The set of all these clauses, each joined to those before it.
-fn joined(alloc: Global, clauses: &str) -> Result<VersionSet, ClauseFault> {
-    let mut joined = VersionSet::all(alloc)?;
+fn joined(rt: &(impl Abort + AllocGlobal), clauses: &str) -> VersionSet {
+    let mut joined = all_versions(rt);
     for clause in clauses.split(' ') {
-        joined = joined.joined(alloc, &set(alloc, clause)?)?;
+        let next = joined.joined(rt.alloc(), &known_set(rt, clause));
+        joined = next.expect(rt, "a join");
     }
-    Ok(joined)
+    joined
 }
 
 // The same, in place.
-fn kept(alloc: Global, clauses: &str) -> Result<VersionSet, ClauseFault> {
-    let mut kept = VersionSet::all(alloc)?;
+fn kept(rt: &(impl Abort + AllocGlobal), clauses: &str) -> VersionSet {
+    let mut kept = all_versions(rt);
     for clause in clauses.split(' ') {
-        kept.join(alloc, &set(alloc, clause)?)?;
+        let is_kept = kept.join(rt.alloc(), &known_set(rt, clause));
+        is_kept.expect(rt, "room for a join");
     }
-    Ok(kept)
+    kept
 }
 
 // The same of sets that are used up.
-fn common(alloc: Global, clauses: &str) -> Result<VersionSet, ClauseFault> {
-    let mut common = VersionSet::all(alloc)?;
+fn common(rt: &(impl Abort + AllocGlobal), clauses: &str) -> VersionSet {
+    let mut common = all_versions(rt);
     for clause in clauses.split(' ') {
-        common = common.common(alloc, set(alloc, clause)?)?;
+        let next = common.common(rt.alloc(), known_set(rt, clause));
+        common = next.expect(rt, "a join");
     }
-    Ok(common)
+    common
 }
 
 // Clauses, separated by blanks, and the ranges of their set.
@@ -230,34 +244,38 @@ const JOINED: [(&str, &str); 11] = [
 ];
 
 // The sweep over a set and all versions, whose turns no one sees here.
-fn swept(alloc: Global, set: &VersionSet) -> Result<VersionSet, ClauseFault> {
-    set.swept(alloc, &VersionSet::all(alloc)?, &mut Turns::none())
+fn swept(rt: &(impl Abort + AllocGlobal), set: &VersionSet) -> VersionSet {
+    let swept = set.swept(rt.alloc(), &all_versions(rt), &mut Turns::none());
+    swept.expect(rt, "a join")
+}
+
+fn copied(rt: &(impl Abort + AllocGlobal), set: &VersionSet) -> VersionSet {
+    set.copied(rt.alloc()).expect(rt, "the copy of a set")
 }
 
 // The set of all these clauses, by one of five ways.
-fn set_by(alloc: Global, way: &str, clauses: &str) -> Result<VersionSet, ClauseFault> {
+fn set_by(rt: &(impl Abort + AllocGlobal), way: &str, clauses: &str) -> VersionSet {
     match way {
-        "joined" => joined(alloc, clauses),
-        "in place" => kept(alloc, clauses),
-        "used up" => common(alloc, clauses),
-        "copied" => joined(alloc, clauses)?.copied(alloc),
-        _ => swept(alloc, &joined(alloc, clauses)?),
+        "joined" => joined(rt, clauses),
+        "in place" => kept(rt, clauses),
+        "used up" => common(rt, clauses),
+        "copied" => copied(rt, &joined(rt, clauses)),
+        _ => swept(rt, &joined(rt, clauses)),
     }
 }
 
-fn joined_line(alloc: Global, way: &str, clauses: &str) -> Result<String, ClauseFault> {
-    shown(alloc, &set_by(alloc, way, clauses)?)
+fn ranges_of(rt: &(impl Abort + AllocGlobal), set: &VersionSet) -> String {
+    shown(rt.alloc(), set).expect(rt, "the ranges of a set")
 }
 
 #[test]
-fn joins(rt: HostRuntime) -> Result<(), ClauseFault> {
+fn joins(rt: HostRuntime) {
     for way in &["joined", "in place", "used up", "copied", "swept"] {
         for &(clauses, want) in &JOINED {
-            let line = joined_line(rt.alloc(), way, clauses)?;
+            let line = ranges_of(&rt, &set_by(&rt, way, clauses));
             expect_row(&rt, way, line.as_str(), want);
         }
     }
-    Ok(())
 }
 
 // Two lists of clauses, and the ranges that their sets have in common.
@@ -287,47 +305,45 @@ const LISTS: [(&str, &str, &str); 5] = [
 ];
 
 // What they have in common, of sets that are used up.
-fn lists_line(alloc: Global, left: &str, right: &str) -> Result<String, ClauseFault> {
-    let both = joined(alloc, left)?.common(alloc, joined(alloc, right)?)?;
-    shown(alloc, &both)
+fn lists_line(rt: &(impl Abort + AllocGlobal), left: &str, right: &str) -> String {
+    let both = joined(rt, left).common(rt.alloc(), joined(rt, right));
+    ranges_of(rt, &both.expect(rt, "a join"))
 }
 
 #[test]
-fn uses_up_lists(rt: HostRuntime) -> Result<(), ClauseFault> {
+fn uses_up_lists(rt: HostRuntime) {
     for &(left, right, want) in &LISTS {
-        let line = lists_line(rt.alloc(), left, right)?;
+        let line = lists_line(&rt, left, right);
         expect_row(&rt, "left first", line.as_str(), want);
-        let line = lists_line(rt.alloc(), right, left)?;
+        let line = lists_line(&rt, right, left);
         expect_row(&rt, "right first", line.as_str(), want);
     }
-    Ok(())
 }
 
-fn differ(alloc: Global, above: &str, below: &str) -> Result<bool, ClauseFault> {
-    let above = set(alloc, above)?;
-    Ok(above != set(alloc, below)?)
+fn differ(rt: &(impl Abort + AllocGlobal), above: &str, below: &str) -> bool {
+    known_set(rt, above) != known_set(rt, below)
 }
 
-fn set_of_both(alloc: Global, above: &str, below: &str) -> Result<VersionSet, ClauseFault> {
-    let above = set(alloc, above)?;
-    above.joined(alloc, &set(alloc, below)?)
+fn set_of_both(rt: &(impl Abort + AllocGlobal), above: &str, below: &str) -> VersionSet {
+    let above = known_set(rt, above);
+    let below = known_set(rt, below);
+    above.joined(rt.alloc(), &below).expect(rt, "a join")
 }
 
 // The ranges of the join of two sets, whether it is that of none, and whether the two differ.
-fn between_line(alloc: Global, above: &str, below: &str) -> Result<String, ClauseFault> {
-    let differ = differ(alloc, above, below)?;
-    let both = set_of_both(alloc, above, below)?;
-    let is_none = both == VersionSet::none(alloc);
-    let ranges = shown(alloc, &both)?;
-    Ok(format!(in alloc; "{ranges} {is_none} {differ}")?)
+fn between_line(rt: &(impl Abort + AllocGlobal), above: &str, below: &str) -> String {
+    let differ = differ(rt, above, below);
+    let both = set_of_both(rt, above, below);
+    let is_none = both == VersionSet::none(rt.alloc());
+    let ranges = ranges_of(rt, &both);
+    format!(in rt.alloc(); "{ranges} {is_none} {differ}").expect(rt, "room for a text")
 }
 
 // `>1.0a5` leaves the post-releases of `1.0a5` out, so nothing is left below `1.0a6.dev0`.
 #[test]
-fn none_between(rt: HostRuntime) -> Result<(), ClauseFault> {
-    let line = between_line(rt.alloc(), ">1.0a5", "<1.0a6.dev0")?;
+fn none_between(rt: HostRuntime) {
+    let line = between_line(&rt, ">1.0a5", "<1.0a6.dev0");
     expect_line(&rt, line.as_str(), "none true true");
-    Ok(())
 }
 
 fn expect_all_and_none(rt: &impl Abort, all: &VersionSet, none: &VersionSet, keys: &[Key]) {
@@ -339,132 +355,128 @@ fn expect_all_and_none(rt: &impl Abort, all: &VersionSet, none: &VersionSet, key
 
 // Every version is in the set of all, and none in the set of none.
 #[test]
-fn all_and_none(rt: HostRuntime) -> Result<(), ClauseFault> {
-    let keys = keys(rt.alloc())?;
-    let (all, none) = (VersionSet::all(rt.alloc())?, VersionSet::none(rt.alloc()));
+fn all_and_none(rt: HostRuntime) {
+    let keys = keys(&rt);
+    let all = all_versions(&rt);
+    let none = VersionSet::none(rt.alloc());
     expect_all_and_none(&rt, &all, &none, keys.as_slice());
-    Ok(())
 }
 
 // Whether the copy of a range begins below its end, and is equal to it.
-fn is_copied(alloc: Global, range: &Range) -> Result<bool, ClauseFault> {
-    let copy = range.copied(alloc)?;
-    Ok(copy.low() < range.high() && copy == *range)
+fn is_copied(rt: &(impl Abort + AllocGlobal), range: &Range) -> bool {
+    let copy = range.copied(rt.alloc()).expect(rt, "the copy of a range");
+    copy.low() < range.high() && copy == *range
 }
 
 #[test]
-fn copies_ranges(rt: HostRuntime) -> Result<(), ClauseFault> {
-    let set = set(rt.alloc(), ">=3.8")?;
+fn copies_ranges(rt: HostRuntime) {
+    let set = known_set(&rt, ">=3.8");
     assert!(rt; set.ranges().len() == 1);
     for range in set.ranges() {
-        assert!(rt; is_copied(rt.alloc(), range)?);
+        assert!(rt; is_copied(&rt, range));
     }
-    Ok(())
 }
 
 // ---- all clauses of the operands, and versions near them
 
 // Appends the clause with this text, if there is one.
-fn push_clause(alloc: Global, clauses: &mut Vec<Clause>, text: &str) -> Result<(), ClauseFault> {
-    if let Ok(clause) = Clause::read(alloc, text) {
-        clauses.push(clause)?;
+fn push_clause(rt: &(impl Abort + AllocGlobal), clauses: &mut Vec<Clause>, text: &str) {
+    if let Ok(clause) = Clause::read(rt.alloc(), text) {
+        clauses.push(clause).expect(rt, "room for a clause");
     }
-    Ok(())
 }
 
 // Appends the clauses of an operator and an operand, alone and with `.*`.
 fn push_both(
-    alloc: Global,
+    rt: &(impl Abort + AllocGlobal),
     clauses: &mut Vec<Clause>,
     operator: &str,
     operand: &str,
-) -> Result<(), ClauseFault> {
-    let text = format!(in alloc; "{operator}{operand}")?;
-    push_clause(alloc, clauses, text.as_str())?;
-    let text = format!(in alloc; "{operator}{operand}.*")?;
-    push_clause(alloc, clauses, text.as_str())
+) {
+    let text = format!(in rt.alloc(); "{operator}{operand}").expect(rt, "room for a text");
+    push_clause(rt, clauses, text.as_str());
+    let text = format!(in rt.alloc(); "{operator}{operand}.*").expect(rt, "room for a text");
+    push_clause(rt, clauses, text.as_str());
 }
 
-fn clauses(alloc: Global) -> Result<Vec<Clause>, ClauseFault> {
-    let mut clauses = Vec::new(alloc);
+fn clauses(rt: &(impl Abort + AllocGlobal)) -> Vec<Clause> {
+    let mut clauses = Vec::new(rt.alloc());
     for operator in &OPERATORS {
         for operand in &OPERANDS {
-            push_both(alloc, &mut clauses, operator, operand)?;
+            push_both(rt, &mut clauses, operator, operand);
         }
     }
-    Ok(clauses)
+    clauses
 }
 
 // Appends the version with this text, if there is one.
-fn push_version(
-    alloc: Global,
-    versions: &mut Vec<Version>,
-    text: &str,
-) -> Result<(), VersionFault> {
-    if let Ok(version) = Version::read(alloc, text) {
-        versions.push(version)?;
+fn push_version(rt: &(impl Abort + AllocGlobal), versions: &mut Vec<Version>, text: &str) {
+    if let Ok(version) = Version::read(rt.alloc(), text) {
+        versions.push(version).expect(rt, "room for a version");
     }
-    Ok(())
 }
 
-fn push_near(
-    alloc: Global,
-    versions: &mut Vec<Version>,
-    operand: &str,
-) -> Result<(), VersionFault> {
+fn push_near(rt: &(impl Abort + AllocGlobal), versions: &mut Vec<Version>, operand: &str) {
     for ending in &ENDINGS {
-        let text = format!(in alloc; "{operand}{ending}")?;
-        push_version(alloc, versions, text.as_str())?;
+        let text = format!(in rt.alloc(); "{operand}{ending}").expect(rt, "room for a text");
+        push_version(rt, versions, text.as_str());
     }
-    Ok(())
 }
 
-fn candidates(alloc: Global) -> Result<Vec<Version>, VersionFault> {
-    let mut versions = Vec::new(alloc);
+// The versions in order, and those where ranges begin or end.
+fn known_versions(rt: &(impl Abort + AllocGlobal)) -> Vec<Version> {
+    let mut versions = Vec::new(rt.alloc());
     for text in ORDERED.iter().chain(NEAR.iter()) {
-        versions.push(Version::read(alloc, text)?)?;
+        let version = Version::read(rt.alloc(), text).expect(rt, "a version");
+        versions.push(version).expect(rt, "room for a version");
     }
-    for operand in &OPERANDS {
-        push_near(alloc, &mut versions, operand)?;
-    }
-    Ok(versions)
+    versions
 }
 
-fn keys(alloc: Global) -> Result<Vec<Key>, VersionFault> {
-    let mut keys = Vec::new(alloc);
-    for version in &candidates(alloc)? {
-        keys.push(Key::of(alloc, version)?)?;
+fn candidates(rt: &(impl Abort + AllocGlobal)) -> Vec<Version> {
+    let mut versions = known_versions(rt);
+    for operand in &OPERANDS {
+        push_near(rt, &mut versions, operand);
     }
-    Ok(keys)
+    versions
+}
+
+fn keys(rt: &(impl Abort + AllocGlobal)) -> Vec<Key> {
+    let mut keys = Vec::new(rt.alloc());
+    for version in &candidates(rt) {
+        let key = Key::of(rt.alloc(), version).expect(rt, "the key of a version");
+        keys.push(key).expect(rt, "room for a key");
+    }
+    keys
+}
+
+fn admits(rt: &(impl Abort + AllocGlobal), clause: &Clause, version: &Version) -> bool {
+    let is_admitted = clause.admits(rt.alloc(), version);
+    is_admitted.expect(rt, "an answer of a clause")
 }
 
 // Whether the clause admits a version; where it demands a text, all.
-fn is_wanted(alloc: Global, clause: &Clause, version: &Version) -> Result<bool, ClauseFault> {
-    Ok(clause.exact_text().is_some() || clause.admits(alloc, version)?)
+fn is_wanted(rt: &(impl Abort + AllocGlobal), clause: &Clause, version: &Version) -> bool {
+    clause.exact_text().is_some() || admits(rt, clause, version)
 }
 
 // Whether the set holds the version where the clause admits it.
 fn is_held(
-    alloc: Global,
+    rt: &(impl Abort + AllocGlobal),
     set: &VersionSet,
     clause: &Clause,
     version: &Version,
-) -> Result<bool, ClauseFault> {
-    let is_held = set.contains(&Key::of(alloc, version)?);
-    Ok(is_held == is_wanted(alloc, clause, version)?)
+) -> bool {
+    let key = Key::of(rt.alloc(), version).expect(rt, "the key of a version");
+    set.contains(&key) == is_wanted(rt, clause, version)
 }
 
 // The clause's set holds the versions that it admits.
-fn expect_admitted(
-    rt: &(impl Abort + AllocGlobal),
-    clause: &Clause,
-    versions: &[Version],
-) -> Result<(), ClauseFault> {
-    let set = VersionSet::of(rt.alloc(), clause)?;
+fn expect_admitted(rt: &(impl Abort + AllocGlobal), clause: &Clause, versions: &[Version]) {
+    let set = VersionSet::of(rt.alloc(), clause).expect(rt, "the set of a clause");
     for (i, version) in versions.iter().enumerate() {
-        expect(rt, i, is_held(rt.alloc(), &set, clause, version)?);
+        expect(rt, i, is_held(rt, &set, clause, version));
     }
-    Ok(())
 }
 
 // `==` and `!=` take all 27 operands and 8 prefixes, `~=` the 21 of two numbers or more without
@@ -476,13 +488,13 @@ const CLAUSES: usize = 2 * (27 + 8) + 21 + 2 * 27 + 4 * 25;
 const CANDIDATES: usize = 41 + 8 * 6 + 7 * 5 + 5 * 3 + 7 * 2;
 
 #[test]
-fn sets_hold_what_clauses_admit(rt: HostRuntime) -> Result<(), ClauseFault> {
-    let (clauses, versions) = (clauses(rt.alloc())?, candidates(rt.alloc())?);
+fn sets_hold_what_clauses_admit(rt: HostRuntime) {
+    let clauses = clauses(&rt);
+    let versions = candidates(&rt);
     assert!(rt; clauses.len() == CLAUSES && versions.len() == CANDIDATES);
     for clause in &clauses {
-        expect_admitted(&rt, clause, versions.as_slice())?;
+        expect_admitted(&rt, clause, versions.as_slice());
     }
-    Ok(())
 }
 
 // The set of both holds the versions that both sets hold.
@@ -500,21 +512,26 @@ fn expect_joined(
 
 // Whether two sets have this join where copies of them are used up.
 fn is_common(
-    alloc: Global,
+    rt: &(impl Abort + AllocGlobal),
     (first, second): (&VersionSet, &VersionSet),
     both: &VersionSet,
-) -> Result<bool, ClauseFault> {
-    let common = first.copied(alloc)?.common(alloc, second.copied(alloc)?)?;
-    Ok(common == *both)
+) -> bool {
+    let common = copied(rt, first).common(rt.alloc(), copied(rt, second));
+    common.expect(rt, "a join") == *both
 }
 
-fn joined_in_place(
-    alloc: Global,
-    (first, second): (&str, &str),
-) -> Result<VersionSet, ClauseFault> {
-    let mut joined = set(alloc, first)?;
-    joined.join(alloc, &set(alloc, second)?)?;
-    Ok(joined)
+fn joined_in_place(rt: &(impl Abort + AllocGlobal), (first, second): (&str, &str)) -> VersionSet {
+    let mut joined = known_set(rt, first);
+    let second = known_set(rt, second);
+    joined
+        .join(rt.alloc(), &second)
+        .expect(rt, "room for a join");
+    joined
+}
+
+// Whether two ways of joining the sets of two clauses give one set.
+fn is_one_join(rt: &(impl Abort + AllocGlobal), (first, second): (&str, &str)) -> bool {
+    joined_in_place(rt, (first, second)) == set_of_both(rt, first, second)
 }
 
 // Asserts what two ways of joining two sets give.
@@ -522,23 +539,18 @@ fn expect_joins(
     rt: &(impl Abort + AllocGlobal),
     (first, second): (&VersionSet, &VersionSet),
     keys: &[Key],
-) -> Result<(), ClauseFault> {
-    let both = first.joined(rt.alloc(), second)?;
+) {
+    let both = first.joined(rt.alloc(), second).expect(rt, "a join");
     expect_joined(rt, (first, second), &both, keys);
-    assert!(rt; is_common(rt.alloc(), (first, second), &both)?);
-    Ok(())
+    assert!(rt; is_common(rt, (first, second), &both));
 }
 
 // Asserts what three ways of joining the sets of two clauses give.
-fn expect_joins_of(
-    rt: &(impl Abort + AllocGlobal),
-    pair: (&str, &str),
-    keys: &[Key],
-) -> Result<(), ClauseFault> {
-    let joined = joined_in_place(rt.alloc(), pair)?;
-    assert!(rt; joined == set_of_both(rt.alloc(), pair.0, pair.1)?);
-    let (first, second) = (set(rt.alloc(), pair.0)?, set(rt.alloc(), pair.1)?);
-    expect_joins(rt, (&first, &second), keys)
+fn expect_joins_of(rt: &(impl Abort + AllocGlobal), pair: (&str, &str), keys: &[Key]) {
+    assert!(rt; is_one_join(rt, pair));
+    let first = known_set(rt, pair.0);
+    let second = known_set(rt, pair.1);
+    expect_joins(rt, (&first, &second), keys);
 }
 
 const PAIRS: [(&str, &str); 3] = [
@@ -548,10 +560,9 @@ const PAIRS: [(&str, &str); 3] = [
 ];
 
 #[test]
-fn joined_sets_hold_what_both_hold(rt: HostRuntime) -> Result<(), ClauseFault> {
-    let keys = keys(rt.alloc())?;
+fn joined_sets_hold_what_both_hold(rt: HostRuntime) {
+    let keys = keys(&rt);
     for &pair in &PAIRS {
-        expect_joins_of(&rt, pair, keys.as_slice())?;
+        expect_joins_of(&rt, pair, keys.as_slice());
     }
-    Ok(())
 }

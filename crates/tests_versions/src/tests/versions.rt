@@ -1,10 +1,11 @@
 //! Versions by PEP 440: what texts are read as, their normal texts, and their parts.
 
-use crate::tests::lines::{expect, expect_none, expect_same};
+use crate::tests::lines::{expect, expect_lines, expect_own_lines, expect_same};
 use pep_version::{Key, Label, Phase, Version, VersionFault};
 use std::alloc::{AllocError, Global};
 use std::cmp::Ordering;
 use std::hash::{DefaultHasher, Hash, Hasher};
+use std::process::Abort;
 use tests_kit::{
     Difference, Kind, ORDERED, first_difference, first_difference_from, first_not_itself,
     push_numbered, repeated,
@@ -122,50 +123,44 @@ fn release_line(alloc: Global, version: &Version) -> Result<String, VersionFault
 
 // Each normal text is its own normal text.
 #[test]
-fn texts(rt: HostRuntime) -> Result<(), VersionFault> {
-    expect_none(&rt, first_difference(rt.alloc(), &Line::Normal, &SUFFIXED)?);
-    expect_none(
+fn texts(rt: HostRuntime) {
+    expect_lines(&rt, &Line::Normal, &SUFFIXED);
+    expect_lines(&rt, &Line::Normal, &SPELLINGS);
+    expect_lines(&rt, &Line::Again, &SPELLINGS);
+    expect_lines(
         &rt,
-        first_difference(rt.alloc(), &Line::Normal, &SPELLINGS)?,
+        &Line::Copied,
+        &[(OF_PARTS, "1!2.0rc3.post4.dev5+a0.7")],
     );
-    expect_none(&rt, first_difference(rt.alloc(), &Line::Again, &SPELLINGS)?);
-    expect_none(
+    expect_lines(
         &rt,
-        first_difference(
-            rt.alloc(),
-            &Line::Copied,
-            &[(OF_PARTS, "1!2.0rc3.post4.dev5+a0.7")],
-        )?,
+        &Line::CopiedKey,
+        &[(OF_PARTS, "1!2rc3.post4.dev5+a0.7")],
     );
-    expect_none(
-        &rt,
-        first_difference(
-            rt.alloc(),
-            &Line::CopiedKey,
-            &[(OF_PARTS, "1!2rc3.post4.dev5+a0.7")],
-        )?,
-    );
-    expect_none(
-        &rt,
-        first_difference(rt.alloc(), &Line::Pushed, &[("v1.0RC3", "x 1.0rc3")])?,
-    );
-    expect_none(
-        &rt,
-        first_difference(rt.alloc(), &Line::PushedKey, &[("1.0", "x 1")])?,
-    );
-    Ok(())
+    expect_lines(&rt, &Line::Pushed, &[("v1.0RC3", "x 1.0rc3")]);
+    expect_lines(&rt, &Line::PushedKey, &[("1.0", "x 1")]);
 }
 
 // A row with another line is found, with its line and the wanted one.
 #[test]
-fn tells_differences(rt: HostRuntime) -> Result<(), VersionFault> {
-    let found = first_difference(rt.alloc(), &Line::Normal, &[("1", "1"), ("v2", "v2")])?;
-    expect_same(&rt, "pairs", told(&found), Some(("v2", "2", "v2")));
-    let found = first_difference_from(rt.alloc(), &Line::Normal, &["v2", "3"], "2")?;
-    expect_same(&rt, "one line", told(&found), Some(("3", "3", "2")));
-    let found = first_not_itself(rt.alloc(), &Line::Normal, &["1", "v2"])?;
-    expect_same(&rt, "own lines", told(&found), Some(("v2", "2", "v2")));
-    Ok(())
+fn tells_differences(rt: HostRuntime) {
+    let found = first_difference(rt.alloc(), &Line::Normal, &[("1", "1"), ("v2", "v2")]);
+    expect_told(&rt, "pairs", found, ("v2", "2", "v2"));
+    let found = first_difference_from(rt.alloc(), &Line::Normal, &["v2", "3"], "2");
+    expect_told(&rt, "one line", found, ("3", "3", "2"));
+    let found = first_not_itself(rt.alloc(), &Line::Normal, &["1", "v2"]);
+    expect_told(&rt, "own lines", found, ("v2", "2", "v2"));
+}
+
+// Asserts that the difference is the wanted one.
+fn expect_told<'a>(
+    rt: &impl Abort,
+    rows: &str,
+    found: Result<Difference<'a>, VersionFault>,
+    want: (&'a str, &'a str, &'a str),
+) {
+    let found = found.expect(rt, "a line of each row");
+    expect_same(rt, rows, told(&found), Some(want));
 }
 
 fn told<'a>(found: &'a Difference<'a>) -> Option<(&'a str, &'a str, &'a str)> {
@@ -176,19 +171,11 @@ fn told<'a>(found: &'a Difference<'a>) -> Option<(&'a str, &'a str, &'a str)> {
 }
 
 #[test]
-fn reads_a_long_text(rt: HostRuntime) -> Result<(), VersionFault> {
+fn reads_a_long_text(rt: HostRuntime) {
     // Two characters a number, and then one more.
-    let text = repeated(rt.alloc(), "1", ".0", 32_767, "7")?;
+    let text = repeated(rt.alloc(), "1", ".0", 32_767, "7").expect(&rt, "room for a text");
     assert!(rt; text.len() == 65_536);
-    expect_none(
-        &rt,
-        first_difference(
-            rt.alloc(),
-            &Line::Release,
-            &[(text.as_str(), "32768 Some(7)")],
-        )?,
-    );
-    Ok(())
+    expect_lines(&rt, &Line::Release, &[(text.as_str(), "32768 Some(7)")]);
 }
 
 // A version of 20,002 release numbers and a label of 1,000 segments.
@@ -199,21 +186,11 @@ fn long_text(alloc: Global) -> Result<String, AllocError> {
 }
 
 #[test]
-fn long_versions(rt: HostRuntime) -> Result<(), VersionFault> {
-    let text = long_text(rt.alloc())?;
-    expect_none(
-        &rt,
-        first_not_itself(rt.alloc(), &Line::Normal, &[text.as_str()])?,
-    );
-    expect_none(
-        &rt,
-        first_not_itself(rt.alloc(), &Line::Copied, &[text.as_str()])?,
-    );
-    expect_none(
-        &rt,
-        first_not_itself(rt.alloc(), &Line::Placed, &[text.as_str()])?,
-    );
-    Ok(())
+fn long_versions(rt: HostRuntime) {
+    let text = long_text(rt.alloc()).expect(&rt, "room for a text");
+    expect_own_lines(&rt, &Line::Normal, &[text.as_str()]);
+    expect_own_lines(&rt, &Line::Copied, &[text.as_str()]);
+    expect_own_lines(&rt, &Line::Placed, &[text.as_str()]);
 }
 
 const NO_VERSIONS: [&str; 22] = [
@@ -274,36 +251,43 @@ fn hash_of(key: &Key) -> u64 {
 }
 
 // Whether two texts have one place, with one hash.
-fn is_one_place(alloc: Global, one: &str, other: &str) -> Result<bool, VersionFault> {
-    let (one, other) = (key(alloc, one)?, key(alloc, other)?);
-    Ok(one == other && hash_of(&one) == hash_of(&other))
+fn is_one_place(rt: &(impl Abort + AllocGlobal), one: &str, other: &str) -> bool {
+    let one = key(rt.alloc(), one).expect(rt, "the key of a version");
+    let other = key(rt.alloc(), other).expect(rt, "the key of a version");
+    one == other && hash_of(&one) == hash_of(&other)
 }
 
 #[test]
-fn joins_equal_versions(rt: HostRuntime) -> Result<(), VersionFault> {
+fn joins_equal_versions(rt: HostRuntime) {
     for &(one, other) in &EQUAL {
-        expect(&rt, (one, other), is_one_place(rt.alloc(), one, other)?);
+        expect(&rt, (one, other), is_one_place(&rt, one, other));
     }
-    Ok(())
 }
 
-// How one version stands to the other, and the other to it.
-fn orders(alloc: Global, one: &str, other: &str) -> Result<(Ordering, Ordering), VersionFault> {
-    let (one, other) = (Version::read(alloc, one)?, Version::read(alloc, other)?);
-    Ok((one.order_to(&other), other.order_to(&one)))
+// Asserts how one version stands to the other, and the other to it.
+fn expect_orders(
+    rt: &(impl Abort + AllocGlobal),
+    (one, other): (&str, &str),
+    wanted: (Ordering, Ordering),
+) {
+    let version = Version::read(rt.alloc(), one).expect(rt, "a version");
+    let other = Version::read(rt.alloc(), other).expect(rt, "a version");
+    let found = (version.order_to(&other), other.order_to(&version));
+    expect_same(rt, one, found, wanted);
 }
 
 #[test]
-fn orders_versions(rt: HostRuntime) -> Result<(), VersionFault> {
+fn orders_versions(rt: HostRuntime) {
     for (lower, higher) in ORDERED.iter().zip(ORDERED.iter().skip(1)) {
-        let found = orders(rt.alloc(), lower, higher)?;
-        expect_same(&rt, lower, found, (Ordering::Less, Ordering::Greater));
+        expect_orders(&rt, (lower, higher), (Ordering::Less, Ordering::Greater));
     }
-    for &(one, other) in &EQUAL {
-        let found = orders(rt.alloc(), one, other)?;
-        expect_same(&rt, one, found, (Ordering::Equal, Ordering::Equal));
+}
+
+#[test]
+fn orders_equal_versions(rt: HostRuntime) {
+    for &pair in &EQUAL {
+        expect_orders(&rt, pair, (Ordering::Equal, Ordering::Equal));
     }
-    Ok(())
 }
 
 // How the version without its suffixes and its label stands to the other.
