@@ -43,7 +43,10 @@ pub(crate) fn inputs_of(rt: &(impl Abort + AllocGlobal), parts: &[Part]) -> Vec<
 
 /// The table of a list on the machine.
 pub(crate) fn table_of(rt: &(impl Abort + AllocGlobal), list: &str) -> Table {
-    let requirements = list_of(rt.alloc(), list.as_bytes()).expect(rt, "requirements");
+    let requirements = list_of(rt.alloc(), list.as_bytes()).expect(
+        rt,
+        "the requirements of a list",
+    );
     let table = Table::of(rt.alloc(), requirements.as_slice(), &machine(rt));
     table.expect(rt, "a table")
 }
@@ -295,7 +298,9 @@ const ASKED: [(&str, &str); 3] = [
 ];
 
 fn asked_lines(rt: &(impl Abort + AllocGlobal), file: &ProjectFile, extra: &str) -> String {
-    let texts = file.texts(rt.alloc(), extra, None).expect(rt, "texts");
+    let texts = file
+        .texts(rt.alloc(), extra, None)
+        .expect(rt, "the texts of a file");
     let mut lines = String::new(rt.alloc());
     for text in texts.as_slice() {
         push_line(rt, &mut lines, text);

@@ -39,10 +39,14 @@ fn expect_line_fault(rt: &(impl Abort + AllocGlobal), fault: LineFault, want: &s
 }
 
 #[test]
-fn faults_of_lines(rt: HostRuntime) {
+fn faults_of_requirements(rt: HostRuntime) {
     for &(fault, want) in &REQUIRE_FAULTS {
         expect_line_fault(&rt, LineFault::from(fault), want);
     }
+}
+
+#[test]
+fn faults_of_lines(rt: HostRuntime) {
     for &(fault, want) in &OF_LINES {
         expect_line_fault(&rt, fault, want);
     }

@@ -11,10 +11,9 @@ use std::process::Abort;
 // The table that is gathered of inputs on the machine.
 fn gathered(rt: &(impl Abort + AllocGlobal), parts: &[Part]) -> Table {
     let (inputs, machine) = (inputs_of(rt, parts), machine(rt));
-    let gathering = gather(rt.alloc(), inputs.as_slice(), &machine).expect(rt, "tables");
-    gathering
-        .finish(rt.alloc())
-        .expect(rt, "the join of tables")
+    let gathering = gather(rt.alloc(), inputs.as_slice(), &machine);
+    let gathering = gathering.expect(rt, "what is gathered of the inputs");
+    gathering.finish(rt.alloc()).expect(rt, "a gathered table")
 }
 
 fn has_lines(rt: &(impl Abort + AllocGlobal), table: &Table, lines: &str) -> bool {
@@ -226,7 +225,7 @@ fn numbered_table(rt: &(impl Abort + AllocGlobal), number: u32) -> Table {
     table_of(rt, list.as_str())
 }
 
-// As many tables, each with an extra of its own.
+// Two hundred tables, each with an extra of its own.
 fn many_tables(rt: &(impl Abort + AllocGlobal)) -> Vec<Table> {
     let mut tables = Vec::new(rt.alloc());
     for number in 100..300 {

@@ -345,7 +345,7 @@ fn cut_line(rt: &(impl Abort + Files + AllocGlobal), fails_at: u64) -> String {
     run_line(rt, &[], LONG_LIST, [fails_at, NEVER, NEVER])
 }
 
-// What it is.
+// What such a run is.
 fn wanted_line(rt: &(impl Abort + AllocGlobal), fails_at: u64) -> String {
     let line = format!(in rt.alloc(); "2 {fails_at}! 0 [] [refused input 1 code 58\n]");
     line.expect(rt, "room for a line")
@@ -457,7 +457,7 @@ fn readers_without_end(rt: HostRuntime) {
     }
 }
 
-// Why a merge is refused.
+// Why a merge is refused, or a word where it isn't.
 fn refusal(rt: &(impl Abort + AllocGlobal), merged: Result<Table, Fault>) -> String {
     match merged {
         Ok(_) => String::from_str(rt.alloc(), "merged").expect(rt, "room for a word"),

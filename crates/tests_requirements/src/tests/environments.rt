@@ -2,6 +2,7 @@
 //! texts beside `extra`.
 
 use crate::tests::lines::{expect, expect_lines, expect_same, long_text};
+use crate::tests::markers::machine;
 use pep_marker::{Environment, HeaderIn, MarkerFault, Variable, laws, norm_of};
 use std::alloc::{AllocError, Global};
 use std::process::Abort;
@@ -118,7 +119,7 @@ fn header_in(
 
 #[test]
 fn headers_in_front(rt: HostRuntime) {
-    let machine = Environment::of(rt.alloc(), &MACHINE).expect(&rt, "the machine");
+    let machine = machine(&rt);
     for &(text, wanted) in &IN_FRONT {
         expect_same(&rt, text, header_in(&rt, &machine, text), wanted);
     }

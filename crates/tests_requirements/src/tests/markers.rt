@@ -239,8 +239,8 @@ fn expect_truths(
     }
 }
 
-// The environment of the machine.
-fn machine(rt: &(impl Abort + AllocGlobal)) -> Environment {
+/// The environment of the machine.
+pub(crate) fn machine(rt: &(impl Abort + AllocGlobal)) -> Environment {
     Environment::of(rt.alloc(), &MACHINE).expect(rt, "the machine")
 }
 
@@ -288,7 +288,7 @@ fn more_markers_than_are_remembered(rt: HostRuntime) {
     }
 }
 
-// The memory says of each text what it is on the machine.
+// Asserts that the memory tells the truth of each marker on the machine.
 fn expect_truths_judged(rt: &(impl Abort + AllocGlobal), markers: &mut JudgedMarkers<'_>) {
     for &(text, truth) in &TRUTHS {
         expect_judged(rt, markers, text, truth);

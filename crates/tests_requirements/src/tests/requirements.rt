@@ -1,12 +1,13 @@
 //! Requirement lines by PEP 508: what they are read as, their texts, and what is wrong with others.
 
 use crate::tests::lines::{expect_lines, expect_own_lines, expect_same, long_text};
+use crate::tests::markers::machine;
 use pep_clause::ClauseFault;
 use pep_marker::{Environment, MarkerFault};
 use pep_require::{RequireFault, Requirement, Target, UrlText};
 use std::alloc::{AllocError, Global};
 use std::process::Abort;
-use tests_kit::{Kind, MACHINE, push_numbered};
+use tests_kit::{Kind, push_numbered};
 
 // What a line is made by.
 enum Line {
@@ -384,7 +385,7 @@ fn applying(
 
 #[test]
 fn applies(rt: HostRuntime) {
-    let environment = Environment::of(rt.alloc(), &MACHINE).expect(&rt, "the machine");
+    let environment = machine(&rt);
     for &(line, wanted) in &APPLYING {
         let found = applying(&rt, line, &environment);
         expect_same(&rt, line, found, wanted);

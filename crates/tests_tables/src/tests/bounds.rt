@@ -55,7 +55,7 @@ fn set_of(rt: &(impl Abort + AllocGlobal), text: &str) -> Option<PackedSet> {
     PackedSet::of(&admitted(rt, text))
 }
 
-// No bounds.
+// What is written where there are no bounds.
 fn no_bounds(rt: &(impl Abort + AllocGlobal)) -> String {
     String::from_str(rt.alloc(), "none").expect(rt, "room for a text")
 }

@@ -3,13 +3,14 @@
 use crate::tests::lines::{expect, expect_line, expect_same};
 use crate::tests::tables::{
     all_joined, all_joined_back, answer, copy_of, entry, finished, gathered, is_copied_entry,
-    join_of, join_of_entries, lines_of, machine, name, requirement, table, table_of, table_of_text,
-    taken, taken_table, verdict,
+    join_of, join_of_entries, known_table, lines_of, machine, name, push_requirement, requirement,
+    table, table_of, table_of_text, taken, taken_table, verdict,
 };
 use pep_marker::Environment;
 use pep_require::Requirement;
 use pep_table::{Answer, Entry, Gathering, Table, TableFault, Verdict};
 use std::alloc::{AllocError, Global};
+use std::ops::Range;
 use std::process::Abort;
 use tests_kit::push_numbered;
 
@@ -21,8 +22,7 @@ fn push_part(rt: &(impl Abort + AllocGlobal), lines: &mut Vec<Requirement>, part
     let (before, first, end, after) = part;
     for number in (first..end).rev() {
         let line = format!(in rt.alloc(); "{before}{number}{after}").expect(rt, "room for a line");
-        let one = requirement(rt, line.as_str());
-        lines.push(one).expect(rt, "room for a requirement");
+        push_requirement(rt, lines, line.as_str());
     }
 }
 
@@ -80,8 +80,8 @@ fn is_joined_entry(rt: &(impl Abort + AllocGlobal), entry: &Entry) -> bool {
     join_of_entries(rt, entry, entry) == *entry
 }
 
-// Whether what is copied of the entry, and joined to it, is the same.
-fn is_entry(rt: &(impl Abort + AllocGlobal), entry: &Entry) -> bool {
+// Whether the copy of an entry, and its join with itself, are equal to it.
+fn is_own_copy_and_join(rt: &(impl Abort + AllocGlobal), entry: &Entry) -> bool {
     is_copied_entry(rt, entry) && is_joined_entry(rt, entry)
 }
 
@@ -92,8 +92,7 @@ const NAMES: [Part; 1] = [("N", 1_000, 3_000, ">=1")];
 const NAMES_TEXT: [Part; 1] = [("n", 1_000, 3_000, " open\n  range before 1 to end\n")];
 
 fn table_of_parts(rt: &(impl Abort + AllocGlobal), parts: &[Part]) -> Table {
-    let table = table_of(rt, requirements_of(rt, parts).as_slice());
-    table.expect(rt, "a table of many requirements")
+    known_table(rt, requirements_of(rt, parts).as_slice())
 }
 
 #[test]
@@ -106,8 +105,7 @@ fn table_of_many_names(rt: HostRuntime) {
 // Why there is no table of these names and another line behind them.
 fn fault_behind_names(rt: &(impl Abort + AllocGlobal), line: &str) -> Option<TableFault> {
     let mut lines = requirements_of(rt, &NAMES);
-    let one = requirement(rt, line);
-    lines.push(one).expect(rt, "room for a requirement");
+    push_requirement(rt, &mut lines, line);
     table_of(rt, lines.as_slice()).err()
 }
 
@@ -135,7 +133,7 @@ const ALL_VERSIONS: &str = "  range before 0.dev0 to end\n";
 
 // Whether the table has the lines, and so has what is made of it and of the entry of `a`.
 fn is_table_of_a(rt: &(impl Abort + AllocGlobal), table: &Table, wanted: &str) -> bool {
-    is_table(rt, table, wanted) && is_entry(rt, entry(rt, table, "a"))
+    is_table(rt, table, wanted) && is_own_copy_and_join(rt, entry(rt, table, "a"))
 }
 
 #[test]
@@ -263,9 +261,10 @@ fn name_text(rt: &(impl Abort + AllocGlobal), number: u32) -> String {
     text.expect(rt, "room for an entry")
 }
 
-fn gathered_names_text(rt: &(impl Abort + AllocGlobal)) -> String {
+/// The text of a table with the names of these numbers.
+pub(crate) fn names_text(rt: &(impl Abort + AllocGlobal), numbers: Range<u32>) -> String {
     let mut text = String::new(rt.alloc());
-    for number in 10_000u32..30_000 {
+    for number in numbers {
         let entry = name_text(rt, number);
         text.push_str(entry.as_str())
             .expect(rt, "room for an entry");
@@ -276,7 +275,7 @@ fn gathered_names_text(rt: &(impl Abort + AllocGlobal)) -> String {
 #[test]
 fn many_names(rt: HostRuntime) {
     let table = gathered_names(&rt);
-    assert!(rt; lines_of(&rt, &table) == gathered_names_text(&rt));
+    assert!(rt; lines_of(&rt, &table) == names_text(&rt, 10_000..30_000));
     assert!(rt; table.get(&name(&rt, "n29999")).is_some());
 }
 
@@ -335,7 +334,7 @@ fn counts(entry: &Entry) -> (usize, usize, usize, usize) {
     )
 }
 
-// Where the first range of an entry begins, which has one.
+// Where the first range begins of an entry that has one.
 fn low_line(rt: &(impl Abort + AllocGlobal), entry: &Entry) -> String {
     let range = entry.versions().ranges().first().expect(rt, "a range");
     range.low().text(rt.alloc()).expect(rt, "the text of a cut")

@@ -1,9 +1,10 @@
 //! Tables that are read from their lines, and from their texts on the machine.
 
+use crate::tests::large_tables::names_text;
 use crate::tests::lines::{expect, expect_line, expect_same};
 use crate::tests::tables::{
-    join_of, lines_of, machine, name, read_on_machine, requirement, table, table_of, table_of_text,
-    table_text,
+    join_of, known_table, lines_of, machine, name, read_on_machine, requirement, table,
+    table_of_text, table_text,
 };
 use pep_require::Requirement;
 use pep_table::{Gathering, Table, TableFault};
@@ -29,7 +30,7 @@ const LINES: [&str; 11] = [
 // A table of one name, 45 bytes.
 const FLASK: &str = "flask open\n  range before 2 to before 3.dev0\n";
 
-// The line that a fault names, which is that of a line that can't stand.
+// The number of the line that can't stand, which the fault names.
 fn named_line(rt: &impl Abort, fault: TableFault) -> usize {
     match fault {
         TableFault::BadTable(line) => line,
@@ -417,18 +418,6 @@ fn beginnings(rt: HostRuntime) {
 
 // ---- large tables
 
-// The text of a table of many names.
-fn names_text(rt: &(impl Abort + AllocGlobal)) -> String {
-    let mut text = String::new(rt.alloc());
-    for number in 10_000..13_000 {
-        let entry = format!(in rt.alloc(); "n{number} open\n  range before {number} to end\n");
-        let entry = entry.expect(rt, "room for an entry");
-        text.push_str(entry.as_str())
-            .expect(rt, "room for an entry");
-    }
-    text
-}
-
 // The first lines of a table of one name: many of each kind but ranges.
 fn items_without_ranges(rt: &(impl Abort + AllocGlobal)) -> String {
     let mut text = String::from_str(rt.alloc(), "a conflict\n").expect(rt, "room for a line");
@@ -462,7 +451,7 @@ const LONG_LINES: [(&str, &str); 8] = [
     ("a1", "\n"),
 ];
 
-// The same of lines of many bytes.
+// The text of a table with lines of many bytes.
 fn long_text(rt: &(impl Abort + AllocGlobal)) -> String {
     let mut text = String::new(rt.alloc());
     for &(part, behind) in &LONG_LINES {
@@ -483,7 +472,12 @@ fn expect_whole(rt: &(impl Abort + AllocGlobal), text: &mut String, other: &str,
 
 #[test]
 fn many_names(rt: HostRuntime) {
-    expect_whole(&rt, &mut names_text(&rt), "n1 none\n", 6_001);
+    expect_whole(
+        &rt,
+        &mut names_text(&rt, 10_000..13_000),
+        "n1 none\n",
+        6_001,
+    );
 }
 
 #[test]
@@ -539,18 +533,13 @@ fn read_back(rt: &(impl Abort + AllocGlobal), table: &Table) -> Table {
     table_of_text(rt, table_text(rt, table).as_str())
 }
 
-// The table of requirements that are lists of any.
-fn table_of_lists(rt: &(impl Abort + AllocGlobal), lists: &[Requirement]) -> Table {
-    table_of(rt, lists).expect(rt, "a table of lists")
-}
-
 // The table and that of the requirements, printed and read back before and after they are joined.
 fn joined_by_prints(
     rt: &(impl Abort + AllocGlobal),
     table: &Table,
     requirements: &[Requirement],
 ) -> Table {
-    let next = read_back(rt, &table_of_lists(rt, requirements));
+    let next = read_back(rt, &known_table(rt, requirements));
     read_back(rt, &join_of(rt, &next, table))
 }
 
@@ -588,7 +577,7 @@ fn is_one_text(rt: &(impl Abort + AllocGlobal), one: &Table, other: &Table) -> b
 fn is_one_merge(rt: &(impl Abort + AllocGlobal), numbers: &mut Numbers) -> bool {
     let mut all = Vec::new(rt.alloc());
     let in_turn = merged_in_turn(rt, numbers, &mut all);
-    is_one_text(rt, &in_turn, &table_of_lists(rt, all.as_slice()))
+    is_one_text(rt, &in_turn, &known_table(rt, all.as_slice()))
 }
 
 #[test]

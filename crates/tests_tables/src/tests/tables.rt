@@ -30,11 +30,25 @@ pub(crate) fn table_of(
     Table::of(rt.alloc(), requirements, &machine(rt))
 }
 
+/// The table of requirements on the machine, which have one.
+pub(crate) fn known_table(rt: &(impl Abort + AllocGlobal), requirements: &[Requirement]) -> Table {
+    table_of(rt, requirements).expect(rt, "a table of requirements")
+}
+
+/// Appends the requirement of a line, which is one.
+pub(crate) fn push_requirement(
+    rt: &(impl Abort + AllocGlobal),
+    requirements: &mut Vec<Requirement>,
+    line: &str,
+) {
+    let one = requirement(rt, line);
+    requirements.push(one).expect(rt, "room for a requirement");
+}
+
 fn requirements(rt: &(impl Abort + AllocGlobal), lines: &[&str]) -> Vec<Requirement> {
     let mut requirements = Vec::new(rt.alloc());
     for line in lines {
-        let one = requirement(rt, line);
-        requirements.push(one).expect(rt, "room for a requirement");
+        push_requirement(rt, &mut requirements, line);
     }
     requirements
 }
@@ -46,7 +60,7 @@ fn table_or_fault(rt: &(impl Abort + AllocGlobal), lines: &[&str]) -> Result<Tab
 
 /// The table of requirement lines, each of which is one.
 pub(crate) fn table(rt: &(impl Abort + AllocGlobal), lines: &[&str]) -> Table {
-    table_or_fault(rt, lines).expect(rt, "a table of requirement lines")
+    known_table(rt, requirements(rt, lines).as_slice())
 }
 
 /// The name of a text, which is one.
@@ -112,7 +126,7 @@ fn taken_requirement(
     requirement: &Requirement,
 ) -> Gathering {
     let more = gathering.take_applying(rt.alloc(), requirement, machine);
-    more.expect(rt, "room for a requirement")
+    more.expect(rt, "a requirement that is taken")
 }
 
 /// What is demanded so far, and by the line.
@@ -368,7 +382,7 @@ fn joined_with_all(rt: &(impl Abort + AllocGlobal), whole: &Table, tables: &[Tab
     join_of(rt, whole, &all)
 }
 
-// The table of all tables, by one of several ways, of which the last two begin with that of all lines.
+// The join of all tables, by one of five ways. The last two begin with the table of all lines.
 fn made(rt: &(impl Abort + AllocGlobal), way: &str, whole: &Table, tables: &[Table]) -> Table {
     match way {
         "joined" => all_joined(rt, tables),

@@ -1,6 +1,7 @@
 //! Clauses: what is read and what is refused, how they are written, and which versions they admit.
 
 use crate::tests::lines::{expect, expect_lines, expect_same};
+use crate::tests::versions::known_version;
 use pep_clause::{Clause, ClauseFault, Op, Operand};
 use pep_version::{Version, VersionFault};
 use std::alloc::Global;
@@ -270,7 +271,7 @@ fn is_admitted(
     version: &str,
     is_wanted: bool,
 ) -> bool {
-    let candidate = Version::read(rt.alloc(), version).expect(rt, "a version");
+    let candidate = known_version(rt, version);
     let found = clause
         .admits(rt.alloc(), &candidate)
         .expect(rt, "an answer of a clause");

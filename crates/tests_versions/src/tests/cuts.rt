@@ -2,20 +2,19 @@
 
 use crate::tests::lines::{expect, expect_lines, expect_none, expect_own_lines};
 use crate::tests::packed::{CutLine, compare_cuts, cut_at, cut_has_copy};
-use crate::tests::sets::set;
+use crate::tests::sets::known_set;
+use crate::tests::versions::known_version;
 use pep_clause::{ClauseFault, Cut, Range, VersionSet};
-use pep_version::Version;
 use std::process::Abort;
 use tests_kit::first_difference_from;
 
 fn before(rt: &(impl Abort + AllocGlobal), text: &str) -> Cut {
-    let version = Version::read(rt.alloc(), text).expect(rt, "a version");
-    Cut::before(rt.alloc(), &version).expect(rt, "a cut")
+    Cut::before(rt.alloc(), &known_version(rt, text)).expect(rt, "a cut")
 }
 
 // Where the ranges of a clause begin, or where they end.
 fn push_ends(rt: &(impl Abort + AllocGlobal), cuts: &mut Vec<Cut>, clause: &str, are_lows: bool) {
-    let set = set(rt.alloc(), clause).expect(rt, "the set of a clause");
+    let set = known_set(rt, clause);
     for range in set.ranges() {
         let end = if are_lows { range.low() } else { range.high() };
         let end = end.copied(rt.alloc()).expect(rt, "the copy of a cut");

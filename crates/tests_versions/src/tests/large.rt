@@ -1,18 +1,18 @@
 //! Sets that are larger than a body that gives up early would take.
 
-use crate::tests::sets::{set, shown};
+use crate::tests::sets::{all_versions, known_set, ranges_of};
 use pep_clause::VersionSet;
 use std::process::Abort;
 
 // The set of all versions but that of a number.
 fn without(rt: &(impl Abort + AllocGlobal), number: u32) -> VersionSet {
     let clause = format!(in rt.alloc(); "!={number}").expect(rt, "room for a text");
-    set(rt.alloc(), clause.as_str()).expect(rt, "the set of a clause")
+    known_set(rt, clause.as_str())
 }
 
 // The set of all versions but every second number from the first one on, below 201.
 fn without_each_second(rt: &(impl Abort + AllocGlobal), first: u32) -> VersionSet {
-    let mut set = VersionSet::all(rt.alloc()).expect(rt, "the set of all versions");
+    let mut set = all_versions(rt);
     for number in 1..201 {
         if number % 2 == first % 2 {
             let other = without(rt, number);
@@ -50,8 +50,7 @@ fn ranges_of_joins(rt: &(impl Abort + AllocGlobal)) -> String {
 }
 
 fn has_ranges_of_joins(rt: &(impl Abort + AllocGlobal), joined: &VersionSet) -> bool {
-    let ranges = shown(rt.alloc(), joined).expect(rt, "the ranges of a set");
-    ranges == ranges_of_joins(rt)
+    ranges_of(rt, joined) == ranges_of_joins(rt)
 }
 
 #[test]

@@ -10,10 +10,10 @@ pub(crate) fn expect_none(rt: &impl Abort, found: Difference) {
 }
 
 /// Asserts that each row has the line behind it.
-pub(crate) fn expect_lines<'a, K: Kind>(
+pub(crate) fn expect_lines<K: Kind>(
     rt: &(impl Abort + AllocGlobal),
     kind: &K,
-    rows: &[(&'a str, &'a str)],
+    rows: &[(&str, &str)],
 )
 where
     K::Fault: Debug,
@@ -23,11 +23,7 @@ where
 }
 
 /// Asserts that each row is its own line.
-pub(crate) fn expect_own_lines<'a, K: Kind>(
-    rt: &(impl Abort + AllocGlobal),
-    kind: &K,
-    rows: &[&'a str],
-)
+pub(crate) fn expect_own_lines<K: Kind>(rt: &(impl Abort + AllocGlobal), kind: &K, rows: &[&str])
 where
     K::Fault: Debug,
 {

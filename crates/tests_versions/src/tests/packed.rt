@@ -1,7 +1,7 @@
 //! The bytes of cuts, and of keys beside them.
 
 use crate::tests::lines::{expect, expect_lines};
-use crate::tests::versions::key;
+use crate::tests::versions::{key, known_key};
 use pep_clause::{CUT_ROOM, ClauseFault, Cut, Range, VersionSet};
 use pep_version::{Key, Version, VersionFault};
 use std::alloc::Global;
@@ -230,8 +230,7 @@ fn is_above(rt: &(impl Abort + AllocGlobal), one: &Key, below: &Key) -> bool {
 
 // The same of the keys of two versions, and whether the first is read from its bytes as a copy of it.
 fn is_growing(rt: &(impl Abort + AllocGlobal), text: &str, below: &str) -> bool {
-    let one = key(rt.alloc(), text).expect(rt, "the key of a version");
-    let below = key(rt.alloc(), below).expect(rt, "the key of a version");
+    let (one, below) = (known_key(rt, text), known_key(rt, below));
     is_above(rt, &one, &below) && is_read_as_copy(rt, &one)
 }
 
@@ -292,11 +291,11 @@ fn is_size_behind(rt: &(impl Abort + AllocGlobal), version: &str, key: &Key, siz
 
 // Whether the key of the version has so many bytes, and the cut behind the version one more.
 fn has_sizes(rt: &(impl Abort + AllocGlobal), version: &str, size: usize) -> bool {
-    let key = key(rt.alloc(), version).expect(rt, "the key of a version");
+    let key = known_key(rt, version);
     is_size_behind(rt, version, &key, size.saturating_add(1)) && is_key_size(rt, &key, size)
 }
 
-// Labels that grow by a letter, until the bytes of the key and of the cut no longer lie in the value.
+// Labels that grow by a letter, until the bytes of the key and of the cut don't lie in the value.
 #[test]
 fn across_the_edge(rt: HostRuntime) {
     for size in 44..70 {

@@ -1,7 +1,7 @@
 //! Sets of clauses: their cuts, with carries at the largest number, and which versions they hold.
 
 use crate::tests::lines::{expect, expect_line, expect_lines, expect_row};
-use crate::tests::versions::key;
+use crate::tests::versions::{key, known_version};
 use pep_clause::{Clause, ClauseFault, Range, Turns, VersionSet};
 use pep_version::{Key, Version};
 use std::alloc::Global;
@@ -186,12 +186,13 @@ fn ranges(rt: HostRuntime) {
     expect_lines(&rt, &RangesOfRow, &RANGES);
 }
 
-// The set of a clause that is one.
-fn known_set(rt: &(impl Abort + AllocGlobal), clause: &str) -> VersionSet {
+/// The set of the clause of a text, which is one.
+pub(crate) fn known_set(rt: &(impl Abort + AllocGlobal), clause: &str) -> VersionSet {
     set(rt.alloc(), clause).expect(rt, "the set of a clause")
 }
 
-fn all_versions(rt: &(impl Abort + AllocGlobal)) -> VersionSet {
+/// The set of all versions.
+pub(crate) fn all_versions(rt: &(impl Abort + AllocGlobal)) -> VersionSet {
     VersionSet::all(rt.alloc()).expect(rt, "the set of all versions")
 }
 
@@ -209,8 +210,8 @@ fn joined(rt: &(impl Abort + AllocGlobal), clauses: &str) -> VersionSet {
 fn kept(rt: &(impl Abort + AllocGlobal), clauses: &str) -> VersionSet {
     let mut kept = all_versions(rt);
     for clause in clauses.split(' ') {
-        let is_kept = kept.join(rt.alloc(), &known_set(rt, clause));
-        is_kept.expect(rt, "room for a join");
+        let joined = kept.join(rt.alloc(), &known_set(rt, clause));
+        joined.expect(rt, "room for a join");
     }
     kept
 }
@@ -264,7 +265,8 @@ fn set_by(rt: &(impl Abort + AllocGlobal), way: &str, clauses: &str) -> VersionS
     }
 }
 
-fn ranges_of(rt: &(impl Abort + AllocGlobal), set: &VersionSet) -> String {
+/// The ranges of a set, as a text.
+pub(crate) fn ranges_of(rt: &(impl Abort + AllocGlobal), set: &VersionSet) -> String {
     shown(rt.alloc(), set).expect(rt, "the ranges of a set")
 }
 
@@ -427,8 +429,9 @@ fn push_near(rt: &(impl Abort + AllocGlobal), versions: &mut Vec<Version>, opera
 fn known_versions(rt: &(impl Abort + AllocGlobal)) -> Vec<Version> {
     let mut versions = Vec::new(rt.alloc());
     for text in ORDERED.iter().chain(NEAR.iter()) {
-        let version = Version::read(rt.alloc(), text).expect(rt, "a version");
-        versions.push(version).expect(rt, "room for a version");
+        versions
+            .push(known_version(rt, text))
+            .expect(rt, "room for a version");
     }
     versions
 }
@@ -451,8 +454,8 @@ fn keys(rt: &(impl Abort + AllocGlobal)) -> Vec<Key> {
 }
 
 fn admits(rt: &(impl Abort + AllocGlobal), clause: &Clause, version: &Version) -> bool {
-    let is_admitted = clause.admits(rt.alloc(), version);
-    is_admitted.expect(rt, "an answer of a clause")
+    let answer = clause.admits(rt.alloc(), version);
+    answer.expect(rt, "an answer of a clause")
 }
 
 // Whether the clause admits a version; where it demands a text, all.

@@ -244,6 +244,16 @@ pub(crate) fn key(alloc: Global, text: &str) -> Result<Key, VersionFault> {
     Key::of(alloc, &Version::read(alloc, text)?)
 }
 
+/// The key of a text that is a version.
+pub(crate) fn known_key(rt: &(impl Abort + AllocGlobal), text: &str) -> Key {
+    key(rt.alloc(), text).expect(rt, "the key of a version")
+}
+
+/// The version of a text that is one.
+pub(crate) fn known_version(rt: &(impl Abort + AllocGlobal), text: &str) -> Version {
+    Version::read(rt.alloc(), text).expect(rt, "a version")
+}
+
 fn hash_of(key: &Key) -> u64 {
     let mut state = DefaultHasher::new();
     key.hash(&mut state);
@@ -252,8 +262,7 @@ fn hash_of(key: &Key) -> u64 {
 
 // Whether two texts have one place, with one hash.
 fn is_one_place(rt: &(impl Abort + AllocGlobal), one: &str, other: &str) -> bool {
-    let one = key(rt.alloc(), one).expect(rt, "the key of a version");
-    let other = key(rt.alloc(), other).expect(rt, "the key of a version");
+    let (one, other) = (known_key(rt, one), known_key(rt, other));
     one == other && hash_of(&one) == hash_of(&other)
 }
 
@@ -270,8 +279,7 @@ fn expect_orders(
     (one, other): (&str, &str),
     wanted: (Ordering, Ordering),
 ) {
-    let version = Version::read(rt.alloc(), one).expect(rt, "a version");
-    let other = Version::read(rt.alloc(), other).expect(rt, "a version");
+    let (version, other) = (known_version(rt, one), known_version(rt, other));
     let found = (version.order_to(&other), other.order_to(&version));
     expect_same(rt, one, found, wanted);
 }
