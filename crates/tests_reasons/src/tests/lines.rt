@@ -1,4 +1,4 @@
-//! Assertions about rows of tables.
+//! Assertions about lines, and about rows of `const` tables.
 
 use std::process::Abort;
 

@@ -22,8 +22,34 @@ const LINES: Part = (
 );
 
 // The inputs, the name, and the line.
-const ROWS: [(&str, &[Part], &str, &str); 25] = [
+const ROWS: [(&str, &[Part], &str, &str); 27] = [
     ("no claim", &[(Kind::List, "django\n")], "flask", "open"),
+    (
+        "claims of the last of six inputs",
+        &[
+            (Kind::List, "django\n"),
+            (Kind::List, "django\n"),
+            (Kind::List, "django\n"),
+            (Kind::List, "django\n"),
+            (Kind::List, "flask<1\n"),
+            (Kind::List, "flask>=2\n"),
+        ],
+        "flask",
+        "none | 5:1 flask<1 * | 6:1 flask>=2 *",
+    ),
+    (
+        "a table's entry behind five claims",
+        &[
+            (
+                Kind::List,
+                "flask>=0.1\nflask>=0.2\nflask>=0.3\nflask>=0.4\nflask<1\n",
+            ),
+            TABLE,
+        ],
+        "flask",
+        "none | 1:1 flask>=0.1 | 1:2 flask>=0.2 | 1:3 flask>=0.3 | 1:4 flask>=0.4 | 1:5 flask<1 * \
+         | 2:17 flask open\n  range before 2 to end\n *",
+    ),
     (
         "two bounds, behind a comment",
         &[(
