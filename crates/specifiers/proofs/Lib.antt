@@ -6,5 +6,6 @@ pub mod OneAnswer
 pub mod ReadLemmas
 pub mod Written
 pub mod WrittenLemmas
+pub mod AdmittedVersions
 pub mod MadeClauses
 mod Witnesses

@@ -1,6 +1,6 @@
 -- The clause that an operator makes with a version or a prefix.
 use Rattle.std.proofs.Common.{◌≡◌, ◌≢◌, ◌&&◌, ◌∙◌, Bool, Some, None, Ok, Err, ap, false, not, refl, sym, subst, true}
-use Rattle.std.specs.Prelude.{IsTrue}
+use Rattle.std.specs.Prelude.{IsTrue, if◌then◌else◌}
 use Rattle.texts.proofs.Connectives.{and-true}
 use Rattle.pep_version.specs.Version.{IsVersion, Version}
 use Rattle.specifiers.proofs.FinalVersion.{IsVersion-prefix_of}
@@ -93,16 +93,11 @@ pub says-refused : (o : Op) (w v : Version) (e : ClauseFault) → version_clause
     None ≡ says (version_clause o w) v
 says-refused o w v e made = ap (λ answer. says answer v) (sym made)
 
--- a clause that leaves out what its operand matches admits what hasn't the prefix, and each other one what has it
-pub admits-inside : (o : Op) (p : Prefix) (v : Version) → leaves_out o ≡ false →
-    has_prefix p v ≡ admits (of_prefix o p) v
-admits-inside op.NotEqual p v e = cc e
-admits-inside o p v e = refl
-
-pub admits-outside : (o : Op) (p : Prefix) (v : Version) → leaves_out o ≡ true →
-    not (has_prefix p v) ≡ admits (of_prefix o p) v
-admits-outside op.NotEqual p v e = refl
-admits-outside o p v e = cc e
+-- a clause of `!=` admits what hasn't the prefix, and each other one what has it
+pub prefix-admitted : (o : Op) (p : Prefix) (v : Version) →
+    (if leaves_out o then not (has_prefix p v) else has_prefix p v) ≡ admits (of_prefix o p) v
+prefix-admitted op.NotEqual p v = refl
+prefix-admitted o p v = refl
 
 pub prefix-says : (o : Op) (p : Prefix) (v : Version) (b : Bool) → takes_prefix o ≡ true →
     b ≡ admits (of_prefix o p) v → Some b ≡ says (prefix_clause o p) v

@@ -11,13 +11,14 @@ use Rattle.pep_version.specs.Spelling.{Reads}
 use Rattle.pep_version.specs.Text.{public_version}
 use Rattle.pep_version.specs.Version.{IsVersion, Segment, Version, number}
 use Rattle.specifiers.proofs.OneAnswer.{one-clause-of}
-use Rattle.specifiers.specs.Admits.{SaysOf, admits}
+use Rattle.specifiers.specs.Admits.{SaysOf, admits, compatible_prefix, has_prefix}
 use Rattle.specifiers.specs.Clause.{IsClauseOf, excluding_prefix, prefix_answer}
-use Rattle.specifiers.specs.Clause.{Clause, ClauseOf, ReadsClause, at_least, at_most, clause_text}
-use Rattle.specifiers.specs.Clause.{compatible, demanded, demanded_text, greater_than}
+use Rattle.specifiers.specs.Clause.{Clause, ClauseOf, ReadsClause, at_least, clause_text}
+use Rattle.specifiers.specs.Clause.{demanded, demanded_text}
 use Rattle.specifiers.specs.Clause.{less_than, matching, matching_prefix, operator_of, prefix_of}
 use Rattle.specifiers.specs.Clause.{version_answer, version_clause}
 use Rattle.specifiers.specs.Operator.{begin_of, end_of, least_numbers, leaves_out, of_version, operator}
+use Rattle.specifiers.specs.Way.Ends.{is_before_end, is_behind_begin}
 use Rattle.specifiers.specs.declared.op.Begin.TheVariants as begin
 use Rattle.specifiers.specs.declared.op.End.TheVariants as ends
 use Rattle.specifiers.specs.declared.fault.ClauseFault.TheVariants as fault
@@ -122,22 +123,22 @@ abbrev labelled : Version
 labelled = record (release (1 ∷ [])) { label = number 1 ∷ [] }
 
 -- `<=1`, 1+1
-pub is_at_most-refuses_a_label : ¬ (false ≡ admits (at_most (release (1 ∷ []))) labelled)
-is_at_most-refuses_a_label e = cc e
+pub is_before_end-refuses_a_label : ¬ (false ≡ is_before_end ends.Version (release (1 ∷ [])) labelled)
+is_before_end-refuses_a_label e = cc e
 
 -- `~=2.2.0`, 2.3
-pub is_compatible-by_the_first_number : ¬ (true
-    ≡ admits (compatible (release (2 ∷ 2 ∷ 0 ∷ []))) (release (2 ∷ 3 ∷ [])))
-is_compatible-by_the_first_number e = cc e
+pub has_compatible_prefix-by_the_first_number : ¬ (true
+    ≡ has_prefix (compatible_prefix (release (2 ∷ 2 ∷ 0 ∷ []))) (release (2 ∷ 3 ∷ [])))
+has_compatible_prefix-by_the_first_number e = cc e
 
 -- `>1`, 1.post0
 pub is_greater-admits_a_post_release : ¬ (true
-    ≡ admits (greater_than (release (1 ∷ []))) (public_version (1 ∷ []) None (Some 0) None))
+    ≡ is_behind_begin begin.Greater (release (1 ∷ [])) (public_version (1 ∷ []) None (Some 0) None))
 is_greater-admits_a_post_release e = cc e
 
 -- `<1`, 1a0
 pub is_less-admits_a_pre_release : ¬ (true
-    ≡ admits (less_than (release (1 ∷ []))) (public_version (1 ∷ []) (Some (Alpha, 0)) None None))
+    ≡ is_before_end ends.Less (release (1 ∷ [])) (public_version (1 ∷ []) (Some (Alpha, 0)) None None))
 is_less-admits_a_pre_release e = cc e
 
 -- `>`

@@ -5,3 +5,4 @@ pub mod Operator
 pub mod ClauseView
 pub mod Front
 pub mod Code
+pub mod Way

@@ -1,32 +1,25 @@
 // Which versions a clause admits.
 
-ghost use Rattle.std.specs.Prelude.{◌≡◌, ◌≢◌};
+ghost use Rattle.std.specs.Prelude.{◌≡◌, ◌≢◌, ◌||◌, if◌then◌else◌, not, true};
 ghost use Rattle.pep_version.specs.Order.{public_version, version_cmp};
 ghost use Rattle.specifiers.specs.Admits.{
   admits,
   begins_padded,
+  compatible_prefix,
   has_prefix,
   is_post_release_of,
   is_pre_release_of,
-  matches,
   says,
 };
-ghost use Rattle.specifiers.specs.Clause.{
-  at_least,
-  at_most,
-  compatible,
-  greater_than,
-  less_than,
-  prefix_clause,
-  prefix_of,
-  version_clause,
-};
-ghost use Rattle.specifiers.specs.Operator.{of_prefix, of_version};
+ghost use Rattle.specifiers.specs.Clause.{prefix_clause, prefix_of, version_clause};
+ghost use Rattle.specifiers.specs.Operator.{leaves_out, of_prefix, of_version, takes_label};
+ghost use Rattle.specifiers.specs.Way.Ends.{is_before_end, is_behind_begin, is_between, order_to};
+ghost use Rattle.texts.specs.Lists.{is_empty};
 
 use crate::clause::read::version_fault;
 use crate::clause::{Clause, Operand};
 use crate::fault::ClauseFault;
-use crate::op::Op;
+use crate::op::{Begin, End, Op};
 use pep_version::Version;
 use std::alloc::Global;
 use std::cmp::Ordering;
@@ -84,15 +77,14 @@ fn has_prefix(epoch: u64, numbers: &[u64], version: &Version) -> bool
     version.epoch() == epoch && begins_padded(numbers, version.release())
 }
 
-// Whether the version is the same as the clause's, its label apart where the clause has none (PEP
-// 440, "Version matching").
-fn matches(wanted: &Version, version: &Version) -> bool
-    ensures { result ≡ matches wanted.now version.now }
+// How the version stands to the clause's, its label apart where the clause has none (PEP 440, "Version matching").
+fn order_to_wanted(version: &Version, wanted: &Version) -> Ordering
+    ensures { result ≡ order_to wanted.now version.now }
 {
     if wanted.label().is_empty() {
-        public_order(version, wanted) == Ordering::Equal
+        public_order(version, wanted)
     } else {
-        version.order_to(wanted) == Ordering::Equal
+        version.order_to(wanted)
     }
 }
 
@@ -103,33 +95,19 @@ fn matches_prefix(prefix: &Version, version: &Version) -> bool
     has_prefix(prefix.epoch(), prefix.release(), version)
 }
 
-// `<=` (PEP 440, "Inclusive ordered comparison").
-fn is_at_most(wanted: &Version, version: &Version) -> bool
-    ensures { result ≡ admits (at_most wanted.now) version.now }
-{
-    order_to_public(wanted, version) != Ordering::Less
-}
-
-// `>=` (PEP 440, "Inclusive ordered comparison").
-fn is_at_least(wanted: &Version, version: &Version) -> bool
-    ensures { result ≡ admits (at_least wanted.now) version.now }
-{
-    public_order(version, wanted) != Ordering::Less
-}
-
 // `~=` (PEP 440, "Compatible release").
-fn is_compatible(wanted: &Version, version: &Version) -> bool
-    ensures { result ≡ admits (compatible wanted.now) version.now }
+fn has_compatible_prefix(wanted: &Version, version: &Version) -> bool
+    ensures { result ≡ has_prefix (compatible_prefix wanted.now) version.now }
 {
     let [numbers @ .., _] = wanted.release() else {
         unreachable!();
     };
-    is_at_least(wanted, version) && has_prefix(wanted.epoch(), numbers, version)
+    has_prefix(wanted.epoch(), numbers, version)
 }
 
 // `<` (PEP 440, "Exclusive ordered comparison").
 fn is_less(wanted: &Version, version: &Version) -> bool
-    ensures { result ≡ admits (less_than wanted.now) version.now }
+    ensures { result ≡ is_before_end End.Less wanted.now version.now }
 {
     public_order(version, wanted) == Ordering::Less
         && (wanted.is_pre() || !is_pre_release_of(version, wanted))
@@ -137,26 +115,57 @@ fn is_less(wanted: &Version, version: &Version) -> bool
 
 // `>` (PEP 440, "Exclusive ordered comparison").
 fn is_greater(wanted: &Version, version: &Version) -> bool
-    ensures { result ≡ admits (greater_than wanted.now) version.now }
+    ensures { result ≡ is_behind_begin Begin.Greater wanted.now version.now }
 {
     order_to_public(wanted, version) == Ordering::Less
         && (wanted.post().is_some() || !is_post_release_of(version, wanted))
 }
 
+// Whether the version is behind the place where those begin of which an operator and the wanted version speak.
+fn is_behind_begin(begin: Begin, wanted: &Version, version: &Version) -> bool
+    ensures { result ≡ is_behind_begin begin wanted.now version.now }
+{
+    match begin {
+        Begin::Least => true,
+        Begin::Version => order_to_wanted(version, wanted) != Ordering::Less,
+        Begin::Greater => is_greater(wanted, version),
+    }
+}
+
+// Whether a version that is behind that place is before the one where they end.
+fn is_before_end(end: End, wanted: &Version, version: &Version) -> bool
+    ensures { result ≡ is_before_end end wanted.now version.now }
+{
+    match end {
+        End::Version => public_order(version, wanted) != Ordering::Greater,
+        End::Matching => order_to_wanted(version, wanted) != Ordering::Greater,
+        End::Less => is_less(wanted, version),
+        End::Prefix => has_compatible_prefix(wanted, version),
+        End::All => true,
+    }
+}
+
+// Whether the version is between the two.
+fn is_between(begin: Begin, end: End, wanted: &Version, version: &Version) -> bool
+    ensures { result ≡ is_between begin end wanted.now version.now }
+{
+    is_behind_begin(begin, wanted, version) && is_before_end(end, wanted, version)
+}
+
+// What a clause says of a version, where its operator and operand speak of it or don't.
+fn said(op: Op, spoken_of: bool) -> bool
+    ensures { result ≡ (if leaves_out op then not spoken_of else spoken_of) }
+{
+    spoken_of != op.leaves_out()
+}
+
 // Whether the clause of an operator and a version admits another version; `===` has no such clause.
 fn admits_version(op: Op, wanted: &Version, version: &Version) -> bool
+    requires { takes_label op || is_empty wanted.now.label ≡ true }
     ensures { op ≢ Op.Exact → result ≡ admits (of_version op wanted.now) version.now }
 {
-    match op {
-        Op::Equal => matches(wanted, version),
-        Op::NotEqual => !matches(wanted, version),
-        Op::AtMost => is_at_most(wanted, version),
-        Op::AtLeast => is_at_least(wanted, version),
-        Op::Less => is_less(wanted, version),
-        Op::More => is_greater(wanted, version),
-        Op::Compatible => is_compatible(wanted, version),
-        Op::Exact => false,
-    }
+    let between = is_between(op.begin(), op.end(), wanted, version);
+    said(op, between)
 }
 
 // What the clause of an operator and a version says of another version; nothing where they make no
@@ -174,12 +183,7 @@ fn admitted_by(op: Op, wanted: &Version, version: &Version) -> Option<bool>
 fn admits_prefix(op: Op, prefix: &Version, version: &Version) -> bool
     ensures { result ≡ admits (of_prefix op (prefix_of prefix.now)) version.now }
 {
-    let has_prefix = matches_prefix(prefix, version);
-    if op.leaves_out() {
-        !has_prefix
-    } else {
-        has_prefix
-    }
+    said(op, matches_prefix(prefix, version))
 }
 
 // What the clause of an operator and a prefix says of a version; nothing where they make no clause.
