@@ -31,7 +31,7 @@ pub(crate) enum Known {
 /// The text of a clause, with its length, and what it demands, where that is known: else the line goes the whole way.
 #[derive(Clone, Copy)]
 pub(crate) struct Remembered {
-    bounds: PackedRange,
+    range: PackedRange,
     outside: bool,
     is_known: bool,
     len: u8,
@@ -60,7 +60,7 @@ impl Remembered {
         let len = u8::try_from(text.len()).ok()?;
         let kept = kept_bytes(text)?;
         let unknown = Remembered {
-            bounds: PackedRange::all(),
+            range: PackedRange::all(),
             outside: false,
             is_known: false,
             len,
@@ -68,7 +68,7 @@ impl Remembered {
         };
         match found {
             Some(demand) => Some(Remembered {
-                bounds: demand.bounds,
+                range: demand.range,
                 outside: demand.outside,
                 is_known: true,
                 ..unknown
@@ -84,7 +84,7 @@ impl Remembered {
             return Known::Unpacked;
         }
         Known::Packed(PackedSet {
-            bounds: self.bounds,
+            range: self.range,
             outside: self.outside,
         })
     }

@@ -87,11 +87,11 @@ fn release_demand(operator: Op, release: &[u64], starred: bool) -> Option<Packed
 {
     let outside = operator.leaves_out();
     if starred {
-        let bounds = PackedRange::of_prefix(operator, release)?;
-        return Some(PackedSet { bounds, outside });
+        let range = PackedRange::of_prefix(operator, release)?;
+        return Some(PackedSet { range, outside });
     }
-    let bounds = PackedRange::of_release(operator, release)?;
-    Some(PackedSet { bounds, outside })
+    let range = PackedRange::of_release(operator, release)?;
+    Some(PackedSet { range, outside })
 }
 
 // What is left of the text behind a clause, without white space before it, where `last` is what stands behind the

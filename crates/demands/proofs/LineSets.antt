@@ -181,10 +181,10 @@ put_holds (Err e) P xs zs y u k h p = subst (All P) (sym k) h
 -- ---- a packed set
 
 -- the ranges of one that leaves versions out, and of one that doesn't
-pub outside_ranges : (d : PackedSet) → d.outside ≡ true → ranges_in d ≡ outside d.bounds.low d.bounds.high
+pub outside_ranges : (d : PackedSet) → d.outside ≡ true → ranges_in d ≡ outside d.range.low d.range.high
 outside_ranges d e = rw e refl
 
-pub inside_ranges : (d : PackedSet) → d.outside ≡ false → ranges_in d ≡ range d.bounds.low d.bounds.high
+pub inside_ranges : (d : PackedSet) → d.outside ≡ false → ranges_in d ≡ range d.range.low d.range.high
 inside_ranges d e = rw e refl
 
 -- a clause that demands the versions of a set demands those of its packed set

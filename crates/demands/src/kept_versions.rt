@@ -38,7 +38,7 @@ struct Beside {
 /// the sets of clauses without packed cuts and of tables. Clauses see the ranges of the versions that are in all this.
 #[derive(Drop)]
 pub(crate) struct KeptVersions {
-    bounds: PackedRange,
+    range: PackedRange,
     // All versions, where it is `None`.
     beside: Option<Box<Beside>>,
 }
@@ -52,10 +52,10 @@ impl Model for KeptVersions {
 
     ghost Value = { List Range };
 
-    ghost view = { λ v. kept_versions v.bounds.low v.bounds.high
+    ghost view = { λ v. kept_versions v.range.low v.range.high
         (beside_versions (option_map (λ b. b.value) v.beside)) };
 
-    ghost invariant = { λ v. IsCut v.bounds.low × IsCut v.bounds.high
+    ghost invariant = { λ v. IsCut v.range.low × IsCut v.range.high
         × AreNormalParts (option_map (λ b. b.value) v.beside) };
 }
 
@@ -77,14 +77,10 @@ fn beside_or_all(alloc: Global, beside: Option<Box<Beside>>) -> Result<Box<Besid
 }
 
 // The set of the versions between two packed cuts.
-fn set_between(alloc: Global, bounds: PackedRange) -> VersionSet
-    ensures { result ≡ range bounds.low bounds.high }
+fn set_between(alloc: Global, cuts: PackedRange) -> VersionSet
+    ensures { result ≡ range cuts.low cuts.high }
 {
-    VersionSet::between(
-        alloc,
-        Cut::of_packed(bounds.low),
-        Cut::of_packed(bounds.high),
-    )
+    VersionSet::between(alloc, Cut::of_packed(cuts.low), Cut::of_packed(cuts.high))
 }
 
 // The versions between two packed cuts that are left over.
@@ -109,7 +105,7 @@ impl KeptVersions {
         ensures { result ≡ all_versions }
     {
         KeptVersions {
-            bounds: PackedRange::all(),
+            range: PackedRange::all(),
             beside: None,
         }
     }
@@ -118,14 +114,14 @@ impl KeptVersions {
     fn in_order(&self)
         ensures { IsNormal self.now }
     {
-        let _ = &self.bounds;
+        let _ = &self.range;
     }
 
-    // Keeps the versions between the bounds.
-    fn narrow_to(&mut self, bounds: PackedRange)
-        ensures { IsIntersection self.old (range bounds.low bounds.high) self.new }
+    // Keeps the versions of the other range.
+    fn narrow_to(&mut self, other: PackedRange)
+        ensures { IsIntersection self.old (range other.low other.high) self.new }
     {
-        self.bounds.meet(bounds);
+        self.range.meet(other);
     }
 
     /// Keeps the versions that a line demands too, whose sets are moved. Where the line leaves none out, and each of
@@ -138,7 +134,7 @@ impl KeptVersions {
     ) -> Result<(), AllocError>
         ensures { OnOk result (IsIntersection self.old line.old.versions self.new) }
     {
-        self.narrow_to(line.bounds);
+        self.narrow_to(line.range);
         self.leave_out_all(alloc, line.left_out.as_slice())?;
         self.meet_all(alloc, &mut line.sets)
     }
@@ -149,8 +145,8 @@ impl KeptVersions {
             (IsIntersection self.old (joined_sets (map left_by left_out.now)) self.new) }
     {
         self.in_order();
-        for bounds in left_out {
-            self.leave_out(alloc, *bounds)?;
+        for range in left_out {
+            self.leave_out(alloc, *range)?;
         }
         Ok(())
     }
@@ -173,9 +169,9 @@ impl KeptVersions {
         ensures { OnOk result (IsIntersection self.old other self.new) }
     {
         match PackedSet::of(&other) {
-            Some(set) if set.outside => self.leave_out(alloc, set.bounds),
+            Some(set) if set.outside => self.leave_out(alloc, set.range),
             Some(set) => {
-                self.narrow_to(set.bounds);
+                self.narrow_to(set.range);
                 Ok(())
             }
             None => self.meet_beside(alloc, other),
@@ -205,12 +201,12 @@ impl KeptVersions {
     }
 
     // The packed cuts, if the versions are all that lie between them.
-    fn plain_bounds(&self) -> Option<PackedRange>
+    fn plain_range(&self) -> Option<PackedRange>
         ensures { IfSome result (λ b. range b.low b.high ≡ self.now) }
     {
         match self.beside {
             Some(_) => None,
-            None => Some(self.bounds),
+            None => Some(self.range),
         }
     }
 
@@ -219,8 +215,8 @@ impl KeptVersions {
     pub(crate) fn meet_kept(&mut self, alloc: Global, other: KeptVersions) -> Result<(), AllocError>
         ensures { OnOk result (IsIntersection self.old other self.new) }
     {
-        if let Some(bounds) = other.plain_bounds() {
-            self.narrow_to(bounds);
+        if let Some(range) = other.plain_range() {
+            self.narrow_to(range);
             return Ok(());
         }
         let versions = other.finish(alloc)?;
@@ -231,15 +227,15 @@ impl KeptVersions {
     pub(crate) fn finish(self, alloc: Global) -> Result<VersionSet, AllocError>
         ensures { IfOk result (λ s. s ≡ self) }
     {
-        let KeptVersions { bounds, beside } = self;
+        let KeptVersions { range, beside } = self;
         let Some(beside) = beside else {
-            return Ok(set_between(alloc, bounds));
+            return Ok(set_between(alloc, range));
         };
         let Beside { left_out, sets } = Box::into_inner(beside);
-        if left_out.is_none() && bounds.is_all() {
+        if left_out.is_none() && range.is_all() {
             return joined_of(alloc, sets);
         }
-        let left = left_between(alloc, left_out, bounds)?;
+        let left = left_between(alloc, left_out, range)?;
         joined_with(alloc, left, sets)
     }
 }

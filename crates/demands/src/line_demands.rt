@@ -27,7 +27,7 @@ use std::marker::Model;
 /// is cleared before it is used again.
 #[derive(Drop)]
 pub struct LineDemands {
-    pub(crate) bounds: PackedRange,
+    pub(crate) range: PackedRange,
     // What `!=` leaves out.
     pub(crate) left_out: Vec<PackedRange>,
     // What clauses whose versions have no packed cuts admit.
@@ -42,9 +42,9 @@ impl Model for LineDemands {
 
     ghost Value = { EntryParts };
 
-    ghost view = { λ d. entry_with d.others (line_versions d.bounds d.left_out.items d.sets.items) };
+    ghost view = { λ d. entry_with d.others (line_versions d.range d.left_out.items d.sets.items) };
 
-    ghost invariant = { λ d. AreLineSets d.bounds d.left_out.items d.sets.items × AreValidOthers d.others };
+    ghost invariant = { λ d. AreLineSets d.range d.left_out.items d.sets.items × AreValidOthers d.others };
 }
 
 // Empties the list, which is empty already behind most lines.
@@ -63,7 +63,7 @@ impl LineDemands {
         ensures { result ≡ bare_entry }
     {
         LineDemands {
-            bounds: PackedRange::all(),
+            range: PackedRange::all(),
             left_out: Vec::new(alloc),
             sets: Vec::new(alloc),
             others: Others::new(alloc),
@@ -75,7 +75,7 @@ impl LineDemands {
     pub fn clear(&mut self)
         ensures { self.new ≡ bare_entry }
     {
-        self.bounds = PackedRange::all();
+        self.range = PackedRange::all();
         empty(&mut self.left_out);
         empty(&mut self.sets);
         self.others.clear();
@@ -88,23 +88,23 @@ impl LineDemands {
         self.others.in_order();
     }
 
-    /// The versions between the bounds are demanded, by a clause that admits just these.
+    /// The versions of a range are demanded, by a clause that admits just these.
     #[inline(always)]
-    pub(crate) fn meet(&mut self, bounds: PackedRange)
-        ensures { (c : Clause) → DemandsRanges c (range bounds.low bounds.high)
+    pub(crate) fn meet(&mut self, other: PackedRange)
+        ensures { (c : Clause) → DemandsRanges c (range other.low other.high)
             → AddsClause c self.old self.new }
     {
-        self.bounds.meet(bounds);
+        self.range.meet(other);
     }
 
-    /// The versions that don't lie between the bounds are demanded, by a clause with `!=` that admits just these (PEP
+    /// The versions that don't lie in a range are demanded, by a clause with `!=` that admits just these (PEP
     /// 440, "Version exclusion").
-    pub(crate) fn leave_out(&mut self, bounds: PackedRange) -> Result<(), AllocError>
-        requires { IsNormal (outside bounds.low bounds.high) }
-        ensures { OnOk result ((c : Clause) → DemandsRanges c (outside bounds.low bounds.high)
+    pub(crate) fn leave_out(&mut self, range: PackedRange) -> Result<(), AllocError>
+        requires { IsNormal (outside range.low range.high) }
+        ensures { OnOk result ((c : Clause) → DemandsRanges c (outside range.low range.high)
             → AddsClause c self.old self.new) }
     {
-        self.left_out.push(bounds)?;
+        self.left_out.push(range)?;
         Ok(())
     }
 
@@ -116,9 +116,9 @@ impl LineDemands {
             → AddsClause c self.old self.new) }
     {
         if versions.outside {
-            return self.leave_out(versions.bounds);
+            return self.leave_out(versions.range);
         }
-        self.meet(versions.bounds);
+        self.meet(versions.range);
         Ok(())
     }
 

@@ -11,7 +11,7 @@ use pep_clause::{Cut, Range, VersionSet};
 /// The versions between two packed cuts, or all others.
 #[derive(Clone, Copy)]
 pub struct PackedSet {
-    pub bounds: PackedRange,
+    pub range: PackedRange,
     pub outside: bool,
 }
 
@@ -41,19 +41,19 @@ impl PackedSet {
     /// between two such cuts. `None` says nothing of the set.
     pub fn of(versions: &VersionSet) -> Option<PackedSet>
         ensures ranges { IfSome result (λ s. ranges_in s ≡ versions.now) }
-        ensures spelled { IfSome result (λ s. IsCut s.bounds.low × IsCut s.bounds.high) }
+        ensures spelled { IfSome result (λ s. IsCut s.range.low × IsCut s.range.high) }
     {
         match versions.ranges() {
             [] => Some(PackedSet {
-                bounds: PackedRange::none(),
+                range: PackedRange::none(),
                 outside: false,
             }),
             [range] => Some(PackedSet {
-                bounds: between(range.low(), range.high())?,
+                range: between(range.low(), range.high())?,
                 outside: false,
             }),
             [first, second] => Some(PackedSet {
-                bounds: left_out(first, second)?,
+                range: left_out(first, second)?,
                 outside: true,
             }),
             _ => None,

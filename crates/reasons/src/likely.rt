@@ -29,10 +29,10 @@ impl Hint {
     }
 }
 
-// Moves the bounds inwards, to the versions that lie in the set too, as far as packed cuts tell.
-fn narrow(bounds: &mut PackedRange, versions: &VersionSet) {
+// Moves the range inwards, to the versions that lie in the set too, as far as packed cuts tell.
+fn narrow(range: &mut PackedRange, versions: &VersionSet) {
     match PackedSet::of(versions) {
-        Some(set) if !set.outside => bounds.meet(set.bounds),
+        Some(set) if !set.outside => range.meet(set.range),
         _ => {}
     }
 }

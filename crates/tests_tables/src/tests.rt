@@ -1,9 +1,9 @@
 //! One module a subject.
 
-mod bounds;
 mod codes;
 mod headers;
 mod large_tables;
 mod lines;
 mod printed;
+mod ranges;
 mod tables;

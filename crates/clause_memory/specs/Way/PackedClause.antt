@@ -32,7 +32,7 @@ remembered_text it = take it.len it.text
 
 abbrev pub remembered : Remembered → Known
 remembered it =
-    if it.is_known then known.Packed (record { bounds = it.bounds; outside = it.outside }) else known.Unpacked
+    if it.is_known then known.Packed (record { range = it.range; outside = it.outside }) else known.Unpacked
 
 -- what is known of the text in a slot, if there is one
 abbrev pub IsRemembered : Option Remembered → Type 0

@@ -1,4 +1,4 @@
--- Which clauses whose version is a release alone have bounds of two packed cuts, by how the release is written: one of
+-- Which clauses whose version is a release alone have a range between two packed cuts, by how the release is written: one of
 -- more than four numbers, or with a number that is too large, is not looked at further. Nothing else rests on that.
 -- And which packed cuts are told (`HoldsRelease`, `HoldsPrefix`).
 use Rattle.std.specs.Prelude.{◌≡◌, ◌+◌, ◌<◌, ◌≤◌, ℕ, List, [], ◌∷◌, Some, None, Ok, IsOk, length}
@@ -66,7 +66,7 @@ pub record HoldsPrefix (o : Op) (r : List ℕ) (b : PackedRange) : Type 0 where
   pub made : prefix_clause o (release_prefix r) ≡ Ok clause
   pub between : IsBetween o b clause
 
--- which operators and releases make a clause that has bounds
+-- which operators and releases make a clause that has a range
 abbrev pub ReleaseHasRange : Op → List ℕ → Type 0
 ReleaseHasRange o r =
     IsOk (version_clause o (release_alone r)) × BeginsShort (begin_of o) r × EndsShort (end_of o) r

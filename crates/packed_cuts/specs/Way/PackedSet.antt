@@ -5,4 +5,4 @@ use Rattle.pep_clause.specs.VersionSet.{Range}
 use Rattle.packed_cuts.specs.declared.packed_set.PackedSet.{PackedSet}
 
 abbrev pub ranges_in : PackedSet → List Range
-ranges_in s = between s.outside s.bounds.low s.bounds.high
+ranges_in s = between s.outside s.range.low s.range.high

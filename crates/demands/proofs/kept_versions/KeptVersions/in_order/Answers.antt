@@ -8,5 +8,5 @@ pub returns : goal.returns
 returns c =
     let i = c.self.inside in
     let kept = c.self.invariant in
-    subst IsNormal c.self.view_is (kept-normal i.bounds.low i.bounds.high _ (kept-parts i.bounds.low i.bounds.high
+    subst IsNormal c.self.view_is (kept-normal i.range.low i.range.high _ (kept-parts i.range.low i.range.high
     (option_map (λ b. b.value) i.beside) kept.0 kept.1 kept.2))

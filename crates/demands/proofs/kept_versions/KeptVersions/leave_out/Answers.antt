@@ -19,7 +19,7 @@ returns c =
     ∙ ap (λ x. beside_versions (option_map (λ k. k.value) x)) c.take.ensures.value in
     let t = outside c.args.bounds.low c.args.bounds.high in
     let new = c.leave_out.new.self in
-    met-beside i.bounds.low i.bounds.high b c.args.self.now t (joined new (joined_sets b.sets.items)) c.self.invariant.0
-    c.self.invariant.1 are (ap (kept_versions i.bounds.low i.bounds.high) same ∙ c.self.view_is)
+    met-beside i.range.low i.range.high b c.args.self.now t (joined new (joined_sets b.sets.items)) c.self.invariant.0
+    c.self.invariant.1 are (ap (kept_versions i.range.low i.range.high) same ∙ c.self.view_is)
     (first-met b.left_out new t (joined_sets b.sets.items) c.in-Ok.ensures.normal (normal_sets b.sets.items are.1)
     c.in-Ok.ensures.points)

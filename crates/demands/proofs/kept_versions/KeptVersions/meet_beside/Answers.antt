@@ -17,6 +17,6 @@ returns c =
     ∙ ap (λ x. beside_versions (option_map (λ k. k.value) x)) c.take.ensures.value in
     let t = c.args.other in
     let new = c.narrow.new.sets.items in
-    met-beside i.bounds.low i.bounds.high b c.args.self.now t (joined b.left_out (joined_sets new)) c.self.invariant.0
-    c.self.invariant.1 are (ap (kept_versions i.bounds.low i.bounds.high) same ∙ c.self.view_is)
+    met-beside i.range.low i.range.high b c.args.self.now t (joined b.left_out (joined_sets new)) c.self.invariant.0
+    c.self.invariant.1 are (ap (kept_versions i.range.low i.range.high) same ∙ c.self.view_is)
     (second-met b.left_out (joined_sets b.sets.items) (joined_sets new) t are.0 c.in_ok-narrow.ensures.ok)

@@ -17,13 +17,13 @@ returns c =
     c.as_slice.ensures.value c.in_ok-leave_out_all.ensures in
     on_ok_weaker c.meet_all.result
     (λ k. subst (λ (e : EntryParts). IsIntersection c.args.self.now e.versions new) c.line.view_is
-    (meets_line c.args.self.now c.narrow_to.new.self mid new (range i.bounds.low i.bounds.high)
+    (meets_line c.args.self.now c.narrow_to.new.self mid new (range i.range.low i.range.high)
     i.left_out.items i.sets.items c.narrow_to.ensures left k)) c.meet_all.ensures.ok
 
 pub invariant_of-line : goal.invariant_of-line
 invariant_of-line c =
     let i = c.line.inside in
     let moved = c.meet_all.ensures.fewer in (
-      fewer_sets i.bounds i.left_out.items i.sets.items c.meet_all.new.sets.items moved.0 moved.1 c.line.invariant.0,
+      fewer_sets i.range i.left_out.items i.sets.items c.meet_all.new.sets.items moved.0 moved.1 c.line.invariant.0,
       c.line.invariant.1,
     )

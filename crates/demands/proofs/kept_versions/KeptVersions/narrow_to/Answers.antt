@@ -10,11 +10,11 @@ use Rattle.demands.proofs.kept_versions.KeptVersions.narrow_to.Goals as goal
 pub returns : goal.returns
 returns c =
     let i = c.self.inside in
-    let b = c.args.bounds in
+    let b = c.args.other in
     let s = beside_versions (option_map (λ x. x.value) i.beside) in
     let new = c.meet.new.self in
     let t = range b.low b.high in
     subst (λ old. IsIntersection old t (kept_versions new.low new.high s)) c.self.view_is
-    (narrowed-versions i.bounds.low i.bounds.high new.low new.high s t
-    (kept-parts i.bounds.low i.bounds.high (option_map (λ x. x.value) i.beside) c.self.invariant.0 c.self.invariant.1
+    (narrowed-versions i.range.low i.range.high new.low new.high s t
+    (kept-parts i.range.low i.range.high (option_map (λ x. x.value) i.beside) c.self.invariant.0 c.self.invariant.1
     c.self.invariant.2) c.meet.ensures.spelled c.meet.ensures.points)

@@ -7,5 +7,5 @@ pub returns : goal.returns
 returns c =
     let i = c.self.inside in
     subst IsValidEntry c.self.view_is
-    (line_valid i.bounds i.left_out.items i.sets.items i.others c.self.invariant.0 c.self.invariant.1
+    (line_valid i.range i.left_out.items i.sets.items i.others c.self.invariant.0 c.self.invariant.1
     c.in_order.ensures.extras c.in_order.ensures.urls c.in_order.ensures.texts)

@@ -11,8 +11,8 @@ use Rattle.demands.proofs.line_demands.LineDemands.leave_out.Goals as goal
 pub invariant_of-self-2 : goal.invariant_of-self-2
 invariant_of-self-2 c =
     let i = c.self.inside in (
-      other_sets i.bounds i.left_out.items c.push.new.self.items i.sets.items i.sets.items c.self.invariant.0
-          (left-normal i.left_out.items c.push.new.self.items c.args.bounds i.sets.items c.in_ok-push.ensures.items
+      other_sets i.range i.left_out.items c.push.new.self.items i.sets.items i.sets.items c.self.invariant.0
+          (left-normal i.left_out.items c.push.new.self.items c.args.range i.sets.items c.in_ok-push.ensures.items
           c.self.invariant.0.normal c.requires),
       c.self.invariant.1,
     )
@@ -22,10 +22,10 @@ returns c =
     let i = c.self.inside in
     let sets = i.sets.items in
     let more = c.push.new.self.items in
-    let old = entry_with i.others (line_versions i.bounds i.left_out.items sets) in
-    let new = entry_with i.others (line_versions i.bounds more sets) in
+    let old = entry_with i.others (line_versions i.range i.left_out.items sets) in
+    let new = entry_with i.others (line_versions i.range more sets) in
     λ clause d. subst (λ e. AddsClause clause e new) c.self.view_is
-    (clause_added clause (left_by c.args.bounds) old new d refl refl refl
-    (met-versions i.bounds.low i.bounds.high (joined_sets (line_sets i.left_out.items sets))
-    (joined_sets (line_sets more sets)) (left_by c.args.bounds) c.self.invariant.0.kept
-    (left-met i.left_out.items more c.args.bounds sets c.in_ok-push.ensures.items c.self.invariant.0.normal c.requires)))
+    (clause_added clause (left_by c.args.range) old new d refl refl refl
+    (met-versions i.range.low i.range.high (joined_sets (line_sets i.left_out.items sets))
+    (joined_sets (line_sets more sets)) (left_by c.args.range) c.self.invariant.0.kept
+    (left-met i.left_out.items more c.args.range sets c.in_ok-push.ensures.items c.self.invariant.0.normal c.requires)))

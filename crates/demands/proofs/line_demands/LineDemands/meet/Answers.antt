@@ -14,9 +14,9 @@ returns c =
     let new = c.meet.new.self in
     let outs = i.left_out.items in
     let sets = i.sets.items in
-    let ranges = range c.args.bounds.low c.args.bounds.high in
+    let ranges = range c.args.other.low c.args.other.high in
     let after = entry_with i.others (line_versions new outs sets) in
     λ clause d. subst (λ e. AddsClause clause e after) c.self.view_is
-    (clause_added clause ranges (entry_with i.others (line_versions i.bounds outs sets)) after d refl refl refl
-    (narrowed-versions i.bounds.low i.bounds.high new.low new.high (joined_sets (line_sets outs sets)) ranges
+    (clause_added clause ranges (entry_with i.others (line_versions i.range outs sets)) after d refl refl refl
+    (narrowed-versions i.range.low i.range.high new.low new.high (joined_sets (line_sets outs sets)) ranges
     c.self.invariant.0.kept c.meet.ensures.spelled c.meet.ensures.points))

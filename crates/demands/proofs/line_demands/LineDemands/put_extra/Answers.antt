@@ -30,7 +30,7 @@ invariant_of-self c =
 pub returns : goal.returns
 returns c =
     let i = c.self.inside in
-    let versions = line_versions i.bounds i.left_out.items i.sets.items in
+    let versions = line_versions i.range i.left_out.items i.sets.items in
     let old = entry_with i.others versions in
     let new = entry_with c.put_extra.new.self versions in
     let put = c.put_extra in

@@ -30,11 +30,11 @@ invariant_of-self c =
 pub returns : goal.returns
 returns c =
     let i = c.self.inside in
-    let versions = line_versions i.bounds i.left_out.items i.sets.items in
+    let versions = line_versions i.range i.left_out.items i.sets.items in
     let old = entry_with i.others versions in
     let new = entry_with c.put_text.new.self versions in
     let put = c.put_text in
-    let normal = kept-normal i.bounds.low i.bounds.high (joined_sets (line_sets i.left_out.items i.sets.items))
+    let normal = kept-normal i.range.low i.range.high (joined_sets (line_sets i.left_out.items i.sets.items))
     c.self.invariant.0.kept in
     on_ok_weaker put.result (λ u. subst (λ e. AddsClause (demanded c.args.text.now) e new) c.self.view_is
     (text_added c.args.text.now old new c.requires normal put.ensures.extras put.ensures.urls u refl))

@@ -33,14 +33,14 @@ fn cut_text(rt: &(impl Abort + AllocGlobal), cut: PackedCut) -> String {
 }
 
 // The two packed cuts.
-fn bounds_text(rt: &(impl Abort + AllocGlobal), bounds: PackedRange) -> String {
-    let low = cut_text(rt, bounds.low);
-    let high = cut_text(rt, bounds.high);
+fn range_text(rt: &(impl Abort + AllocGlobal), range: PackedRange) -> String {
+    let low = cut_text(rt, range.low);
+    let high = cut_text(rt, range.high);
     format!(in rt.alloc(); "{low} to {high}").expect(rt, "room for two cuts")
 }
 
-fn left_out_text(rt: &(impl Abort + AllocGlobal), bounds: PackedRange) -> String {
-    let text = bounds_text(rt, bounds);
+fn left_out_text(rt: &(impl Abort + AllocGlobal), range: PackedRange) -> String {
+    let text = range_text(rt, range);
     format!(in rt.alloc(); "not {text}").expect(rt, "room for two cuts")
 }
 
@@ -55,23 +55,23 @@ fn set_of(rt: &(impl Abort + AllocGlobal), text: &str) -> Option<PackedSet> {
     PackedSet::of(&admitted(rt, text))
 }
 
-// What is written where there are no bounds.
-fn no_bounds(rt: &(impl Abort + AllocGlobal)) -> String {
+// What is written where there is no range.
+fn no_range(rt: &(impl Abort + AllocGlobal)) -> String {
     String::from_str(rt.alloc(), "none").expect(rt, "room for a text")
 }
 
 // The cuts between which the clause of this text admits versions, or leaves them out, where both have a packed cut.
-fn bounds_line(rt: &(impl Abort + AllocGlobal), text: &str) -> String {
+fn range_line(rt: &(impl Abort + AllocGlobal), text: &str) -> String {
     match set_of(rt, text) {
-        Some(set) if set.outside => left_out_text(rt, set.bounds),
-        Some(set) => bounds_text(rt, set.bounds),
-        None => no_bounds(rt),
+        Some(set) if set.outside => left_out_text(rt, set.range),
+        Some(set) => range_text(rt, set.range),
+        None => no_range(rt),
     }
 }
 
 // Clauses, and the cuts between which they admit versions, if they admit any. No packed cut is after a label, in
 // another epoch, written with five numbers, of a number over 25 bits or of a digit over 7.
-const BOUNDS: [(&str, &str); 49] = [
+const RANGES: [(&str, &str); 49] = [
     (">=1.2.3", "before 1.2.3 to end"),
     (">=1.0", "before 1 to end"),
     ("<2", "before 0.dev0 to before 2.dev0"),
@@ -130,9 +130,9 @@ const BOUNDS: [(&str, &str); 49] = [
 ];
 
 #[test]
-fn bounds(rt: HostRuntime) {
-    for &(text, want) in &BOUNDS {
-        let line = bounds_line(&rt, text);
+fn ranges(rt: HostRuntime) {
+    for &(text, want) in &RANGES {
+        let line = range_line(&rt, text);
         expect_row(&rt, text, line.as_str(), want);
     }
 }
@@ -143,12 +143,12 @@ fn left_over_by(rt: &(impl Abort + AllocGlobal), clauses: &[&str]) -> LeftOut {
     for text in clauses {
         if let Some(
             PackedSet {
-                bounds,
+                range,
                 outside: true,
             },
         ) = set_of(rt, text)
         {
-            let more = left_out.leave_out(rt.alloc(), bounds);
+            let more = left_out.leave_out(rt.alloc(), range);
             more.expect(rt, "room for a range");
         }
     }
@@ -174,21 +174,21 @@ fn set_text(rt: &(impl Abort + AllocGlobal), set: &VersionSet) -> String {
 fn set_between(
     rt: &(impl Abort + AllocGlobal),
     clauses: &[&str],
-    bounds: PackedRange,
+    range: PackedRange,
 ) -> VersionSet {
-    let left = left_over_by(rt, clauses).between(rt.alloc(), bounds);
+    let left = left_over_by(rt, clauses).between(rt.alloc(), range);
     left.expect(rt, "what is left over")
 }
 
-// The ranges of what is left over between the bounds of a clause.
+// The ranges of what is left over in the range of a clause.
 fn left_line(rt: &(impl Abort + AllocGlobal), within: &str, clauses: &[&str]) -> String {
     match set_of(rt, within) {
-        Some(set) if !set.outside => set_text(rt, &set_between(rt, clauses, set.bounds)),
-        _ => no_bounds(rt),
+        Some(set) if !set.outside => set_text(rt, &set_between(rt, clauses, set.range)),
+        _ => no_range(rt),
     }
 }
 
-// A clause with bounds, clauses with `!=`, and the ranges between the bounds of what these leave over.
+// A clause with a range, clauses with `!=`, and the ranges in it of what these leave over.
 const LEFT: [(&str, &[&str], &str); 10] = [
     (">=1", &[], "before 1 to end;"),
     (
