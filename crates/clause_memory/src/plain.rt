@@ -112,7 +112,7 @@ fn left_behind<'a>(text: &'a str, last: &[u8]) -> Option<&'a str>
 /// What is told of a clause at once.
 pub(crate) enum Plain<'a> {
     /// What it demands, and what stands behind it.
-    Demand(PackedSet, &'a str),
+    Set(PackedSet, &'a str),
     /// Packed cuts of it are not told.
     Unpacked,
     /// Nothing.
@@ -134,7 +134,7 @@ pub(crate) fn plain_demand<'a>(text: &'a str, operator: Op, operand: &str) -> Pl
             };
             let numbers = &release.numbers[..release.count];
             match release_demand(operator, numbers, release.starred) {
-                Some(demand) => Plain::Demand(demand, rest),
+                Some(demand) => Plain::Set(demand, rest),
                 None => Plain::Unpacked,
             }
         }

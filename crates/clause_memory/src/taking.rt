@@ -101,7 +101,7 @@ impl ClauseMemory {
         let (operator, operand) = Op::in_front(text)?;
         if operator != Op::Exact {
             match plain_demand(text, operator, operand) {
-                Plain::Demand(demand, rest) => {
+                Plain::Set(demand, rest) => {
                     demands.admit_packed(&demand)?;
                     return Ok(rest);
                 }

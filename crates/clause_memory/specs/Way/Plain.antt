@@ -55,5 +55,5 @@ pub record MakesDemand (o : Op) (r : List ℕ) (starred : Bool) (d : PackedSet) 
 
 -- what is told of the clause in front of the text is so
 abbrev pub PlainlyDemands : List ℕ → Plain → Type 0
-PlainlyDemands x (plain.Demand d rest) = DemandsFront x (ranges_in d) rest.now
+PlainlyDemands x (plain.Set d rest) = DemandsFront x (ranges_in d) rest.now
 PlainlyDemands x _ = Unit {0}
