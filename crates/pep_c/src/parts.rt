@@ -110,11 +110,11 @@ fn input_of<'a>(alloc: Global, part: &Part, left: &'a [u8]) -> Result<(Input, &'
         return Err(CutFault::Miscut);
     };
     let group = group_of(alloc, kind, group)?;
-    let Some((own, others)) = cut(behind, part.size) else {
+    let Some((own, rest)) = cut(behind, part.size) else {
         return Err(CutFault::Miscut);
     };
     let bytes = Vec::from_slice(alloc, own)?;
-    Ok((Input { kind, bytes, group }, others))
+    Ok((Input { kind, bytes, group }, rest))
 }
 
 // The inputs that stand in the bytes, as the parts say.
@@ -125,9 +125,9 @@ pub(crate) fn inputs_of(alloc: Global, parts: &[Part], bytes: &[u8]) -> Result<V
     let mut inputs = Vec::with_capacity(alloc, parts.len())?;
     let mut left = bytes;
     for part in parts {
-        let (input, others) = input_of(alloc, part, left)?;
+        let (input, rest) = input_of(alloc, part, left)?;
         inputs.push(input)?;
-        left = others;
+        left = rest;
     }
     if left.is_empty() {
         Ok(inputs)

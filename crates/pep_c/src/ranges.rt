@@ -20,10 +20,10 @@ use std::alloc::Global;
 pub(crate) fn set_of(alloc: Global, clauses: &[Clause]) -> Result<VersionSet, ClauseFault>
     ensures { IfOk result (IsSetOfClauses clauses.now) }
 {
-    let Some((clause, others)) = clauses.split_first() else {
+    let Some((clause, rest)) = clauses.split_first() else {
         return all_versions(alloc);
     };
-    if others.is_empty() {
+    if rest.is_empty() {
         return VersionSet::of(alloc, clause);
     }
     let (front, behind) = clauses.split_at(clauses.len() / 2);

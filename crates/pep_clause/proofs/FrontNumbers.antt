@@ -17,11 +17,11 @@ pub record DigitsSoFar (x rest : List ℕ) (n : ℕ) : Type 0 where
   pub digits : list_all is_ascii_digit seen ≡ true
   pub value : n ≡ digits_value 10 seen
 
-pub one_digit_more : (x rest others : List ℕ) (n m b : ℕ) → DigitsSoFar x rest n → rest ≡ b ∷ others →
-    is_ascii_digit b ≡ true → m ≡ n * 10 + (b - 48) → DigitsSoFar x others m
-one_digit_more x rest others n m b so cut digit value = record {
+pub one_digit_more : (x rest behind : List ℕ) (n m b : ℕ) → DigitsSoFar x rest n → rest ≡ b ∷ behind →
+    is_ascii_digit b ≡ true → m ≡ n * 10 + (b - 48) → DigitsSoFar x behind m
+one_digit_more x rest behind n m b so cut digit value = record {
   seen = so.seen ++ b ∷ [];
-  whole = so.whole ∙ ap (λ t. so.seen ++ t) cut ∙ sym (append_assoc so.seen (b ∷ []) others);
+  whole = so.whole ∙ ap (λ t. so.seen ++ t) cut ∙ sym (append_assoc so.seen (b ∷ []) behind);
   digits = rw (list_all-append is_ascii_digit so.seen (b ∷ []), so.digits, digit) refl;
   value = value ∙ (λ i. so.value i * 10 + sym (digit_is b digit) i) ∙ sym (digits_value_push 10 so.seen b);
 }

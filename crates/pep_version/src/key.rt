@@ -83,11 +83,11 @@ fn short_release(release: &[u64]) -> &[u64]
     ensures { result.now ≡ short_release release.now }
 {
     let mut rest = release;
-    while let [others @ .., last] = rest {
-        if *last != 0 || others.is_empty() {
+    while let [front @ .., last] = rest {
+        if *last != 0 || front.is_empty() {
             break;
         }
-        rest = others;
+        rest = front;
     }
     rest
 }

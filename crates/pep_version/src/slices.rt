@@ -110,13 +110,13 @@ fn strip_word<'a>(text: &'a [u8], word: &[u8]) -> Option<&'a [u8]>
 {
     let mut rest = text;
     'letters: for letter in word {
-        let [first, others @ ..] = rest else {
+        let [first, behind @ ..] = rest else {
             return None;
         };
         if *letter != first.to_ascii_lowercase() {
             return None;
         }
-        rest = others;
+        rest = behind;
     }
     Some(rest)
 }

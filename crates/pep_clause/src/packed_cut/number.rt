@@ -22,7 +22,7 @@ impl PackedCut {
     {
         let mut value: u64 = 0;
         let mut rest = text;
-        while let Some((first, others)) = rest.split_first() {
+        while let Some((first, behind)) = rest.split_first() {
             if !first.is_ascii_digit() {
                 break;
             }
@@ -30,7 +30,7 @@ impl PackedCut {
                 return None;
             }
             value = value * 10 + u64::from(*first - b'0');
-            rest = others;
+            rest = behind;
         }
         if rest.len() == text.len() {
             return None;

@@ -8,7 +8,7 @@ returns-clause-input c =
     let first = c.in-Some-cut.ensures.cut in
     let second = c.in-Some-cut-2.ensures.cut in (
       group ++ own,
-      first.0 ∙ ap (λ l. group ++ l) second.0 ∙ sym (append_assoc group own c.in-Some-cut-2.others.now),
+      first.0 ∙ ap (λ l. group ++ l) second.0 ∙ sym (append_assoc group own c.in-Some-cut-2.rest.now),
       record {
         group = group;
         whole = ap (λ l. group ++ l) (sym c.in_ok-bytes.ensures.items);

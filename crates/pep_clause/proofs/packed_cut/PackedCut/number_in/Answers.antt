@@ -6,5 +6,5 @@ use Rattle.pep_clause.proofs.packed_cut.PackedCut.number_in.Goals as goal
 pub loop-first-preserved : goal.loop-first-preserved
 loop-first-preserved c =
     let digit : is_ascii_digit c.in-Some.first.now ≡ true = search rules in
-    one_digit_more c.args.text.now c.loop-first.rest.now c.in-Some.others.now c.loop-first.value _ c.in-Some.first.now
+    one_digit_more c.args.text.now c.loop-first.rest.now c.in-Some.behind.now c.loop-first.value _ c.in-Some.first.now
     c.loop-first.invariant c.in-Some.ensures.cases.0 digit (ap (λ t. c.loop-first.value * 10 + t) c.from.ensures)
