@@ -24,14 +24,14 @@ use Rattle.pep_clause.specs.OperatorTable.{past_release}
 
 -- ---- texts that begin with different bytes
 
-abbrev first_byte : List ℕ → ℕ
+abbrev pub first_byte : List ℕ → ℕ
 first_byte [] = 0
 first_byte (b ∷ x) = b
 
-differ : (m n : ℕ) → (m == n) ≡ false → m ≡ n → ⊥
+pub differ : (m n : ℕ) → (m == n) ≡ false → m ≡ n → ⊥
 differ m n f e = grind (arith, nat_tests)
 
-apart : {G : Type 0} (x y : List ℕ) → (first_byte x == first_byte y) ≡ false → x ≡ y → G
+pub apart : {G : Type 0} (x y : List ℕ) → (first_byte x == first_byte y) ≡ false → x ≡ y → G
 apart x y f e = absurd (differ (first_byte x) (first_byte y) f (ap first_byte e))
 
 -- ---- a release that no zeros end
@@ -223,7 +223,8 @@ module _ (text : List ℕ) (no_before : ReadBehind text (codes "before ") None)
 
 -- ---- cuts with one text are one
 
-one_version_of_text : (v w : Version) → IsVersion v → IsVersion w → normal_text v ≡ normal_text w → v ≡ w
+-- versions with one normal text are one
+pub one_version_of_text : (v w : Version) → IsVersion v → IsVersion w → normal_text v ≡ normal_text w → v ≡ w
 one_version_of_text v w h g e =
     one-version (normal_text v) v w (normal-spells v h).0
     (subst (λ (x : List ℕ). SpellsAny x w) (sym e) (normal-spells w g).0)

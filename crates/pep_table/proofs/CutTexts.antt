@@ -1,17 +1,16 @@
 -- The text of a cut, and of a range, is the text of no other.
-use Rattle.std.proofs.Common.{◌≡◌, ℕ, ◌==◌, Bool, true, false, not, List, [], ◌∷◌, ◌++◌, codes, ◌&&◌}
-use Rattle.std.proofs.Common.{refl, sym, ap, subst, ◌∙◌, append_assoc, append-nil, arith}
+use Rattle.std.proofs.Common.{◌≡◌, ℕ, ◌==◌, Bool, true, not, List, [], ◌∷◌, ◌++◌, codes, ◌&&◌}
+use Rattle.std.proofs.Common.{refl, sym, ap, ◌∙◌, append_assoc, append-nil, arith}
 use Rattle.std.specs.Prelude.{nat_lt}
 use Rattle.std.specs.List.{AllByRecursion, list_all}
 use Rattle.std.proofs.lemmas.Bool.Decides.{nat_tests}
 use Rattle.std.proofs.lemmas.List.{append_cancel_left}
-use Rattle.pep_version.proofs.NormalTexts.{list_all-weaker, normal-bytes, normal-spells}
-use Rattle.pep_version.proofs.OneVersion.{one-version}
-use Rattle.pep_version.specs.Spelling.{SpellsAny}
+use Rattle.pep_version.proofs.NormalTexts.{list_all-weaker, normal-bytes}
 use Rattle.pep_version.specs.Text.{is_text_byte, normal_text}
 use Rattle.pep_version.specs.Version.{IsVersion, Version}
 use Rattle.pep_clause.specs.Cut.{Cut, IsCut, before, after, past, end, cut_text, final_version}
 use Rattle.pep_clause.specs.VersionSet.{Range, cuts}
+use Rattle.pep_clause.proofs.CutReading.{apart, one_version_of_text}
 use Rattle.texts.proofs.CutLists.{Stops, all_append, run_one}
 pub use Rattle.texts.specs.Lines.{HasNoFeed, is_not_feed}
 use Rattle.pep_table.specs.TableText.{range_text}
@@ -46,13 +45,6 @@ normal_plain v is =
 
 -- ---- versions and cuts
 
--- versions with one normal text are one
-pub one_version_of_text : (v w : Version) → IsVersion v → IsVersion w →
-    normal_text v ≡ normal_text w → v ≡ w
-one_version_of_text v w h g e =
-    one-version (normal_text v) v w (normal-spells v h).0
-    (subst (λ (x : List ℕ). SpellsAny x w) (sym e) (normal-spells w g).0)
-
 version_then : (v w : Version) (x y : List ℕ) → IsVersion v → IsVersion w → Stops is_not_space x →
     Stops is_not_space y → normal_text v ++ x ≡ normal_text w ++ y → (v ≡ w) × (x ≡ y)
 version_then v w x y h g s t e =
@@ -60,17 +52,6 @@ version_then v w x y h g s t e =
     (without_space (normal_text v) (normal_plain v h))
     (without_space (normal_text w) (normal_plain w g)) s t e in
     (one_version_of_text v w h g both.0, both.1)
-
--- texts that begin with different bytes are different
-abbrev pub first_byte : List ℕ → ℕ
-first_byte [] = 0
-first_byte (b ∷ x) = b
-
-pub differ : (m n : ℕ) → (m == n) ≡ false → m ≡ n → ⊥
-differ m n f e = grind (arith, nat_tests)
-
-pub apart : {G : Type 0} (x y : List ℕ) → (first_byte x == first_byte y) ≡ false → x ≡ y → G
-apart x y f e = absurd (differ (first_byte x) (first_byte y) f (ap first_byte e))
 
 -- where two texts begin with cuts, and nothing or a space is behind these, the cuts are one
 cut_then : (c d : Cut) (x y : List ℕ) → IsCut c → IsCut d → Stops is_not_space x →

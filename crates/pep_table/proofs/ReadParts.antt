@@ -9,8 +9,8 @@ use Rattle.specifiers.specs.Clause.{is_demanded_text}
 use Rattle.pep_clause.specs.VersionSet.{IsNormal, Range}
 use Rattle.pep_marker.specs.Name.{IsNormalName}
 use Rattle.pep_require.specs.Requirement.{IsAscending}
-use Rattle.pep_table.proofs.CutTexts.{HasCuts, apart, differ, have_cuts, one_range_of_text, without_feed}
-use Rattle.pep_table.proofs.CutTexts.{without_space}
+use Rattle.pep_clause.proofs.CutReading.{apart, differ}
+use Rattle.pep_table.proofs.CutTexts.{HasCuts, have_cuts, one_range_of_text, without_feed, without_space}
 use Rattle.pep_table.proofs.ReadItems.{cut_one, feed_one, lacks, line_first}
 use Rattle.pep_table.proofs.ReadRanges.{plain_each}
 use Rattle.texts.proofs.CutLists.{map_one}
