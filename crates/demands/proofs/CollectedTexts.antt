@@ -4,7 +4,7 @@ use Rattle.std.specs.Prelude.{Contains}
 use Rattle.std.proofs.Math.Logic.{⊎_elim, ⊎_map}
 use Rattle.std.proofs.lemmas.List.Elements.{Contains-append_cases, Contains-append_left}
 use Rattle.std.proofs.lemmas.List.Elements.{Contains-append_right}
-use Rattle.demands.specs.Way.Collected.{collected_texts}
+use Rattle.pep_require.specs.Way.Collected.{collected_texts}
 use Rattle.demands.specs.Join.{IsUnion}
 use Rattle.demands.proofs.KeptSets.{collected_more, collected_rise, members_collected, union_there}
 

@@ -1,5 +1,4 @@
 -- Definitions that say how the code goes. No promise rests on them.
-pub mod Collected
 pub mod Finished
 pub mod Judged
 pub mod KeptVersions

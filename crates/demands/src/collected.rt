@@ -2,7 +2,7 @@
 
 ghost use Rattle.std.specs.Prelude.{◌≡◌, ◌∷◌, [], All, IfOk, IsTrue, OnErr, OnOk, map};
 ghost use Rattle.pep_require.specs.Requirement.{IsAscending};
-ghost use Rattle.demands.specs.Way.Collected.{collected_texts};
+ghost use Rattle.pep_require.specs.Way.Collected.{collected_texts};
 ghost use Rattle.demands.specs.Join.{IsUnion};
 
 use crate::sorted::Kept;
@@ -27,7 +27,7 @@ pub(crate) struct Collected {
 
 impl Model for Collected {
     ghost use Rattle.std.specs.Prelude.{List, ℕ};
-    ghost use Rattle.demands.specs.Way.Collected.{collected_texts};
+    ghost use Rattle.pep_require.specs.Way.Collected.{collected_texts};
 
     ghost Value = { List (List ℕ) };
 

@@ -4,7 +4,7 @@ ghost use Rattle.std.specs.Prelude.{◌≡◌, ◌++◌, ⊤, All, List, ℕ, If
 ghost use Rattle.std.specs.Cmp.Lexicographic.{slice_cmp};
 ghost use Rattle.std.specs.Ordering.{nat_cmp};
 ghost use Rattle.pep_require.specs.Requirement.{IsAscending};
-ghost use Rattle.demands.specs.Way.Collected.{collected_texts};
+ghost use Rattle.pep_require.specs.Way.Collected.{collected_texts};
 
 use crate::fault::TableFault;
 use crate::join::Join;

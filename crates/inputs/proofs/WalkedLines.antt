@@ -8,7 +8,7 @@ use Rattle.pep_marker.specs.Name.{IsNormalName}
 use Rattle.pep_require.specs.Reads.{Reads}
 use Rattle.pep_require.specs.Requirement.{HasUndefinedMarker, MarkerSays, RequirementParts}
 use Rattle.pep_require.specs.Way.Sink.{IsWalked, with_extras}
-use Rattle.demands.specs.Way.Collected.{collected_texts}
+use Rattle.pep_require.specs.Way.Collected.{collected_texts}
 use Rattle.demands.specs.Gathering.{TakesIf, TakesRequirement}
 use Rattle.demands.specs.Join.{IsUnion}
 use Rattle.demands.specs.Way.LineDemands.{DemandsEntry}

@@ -4,7 +4,8 @@ use Rattle.std.specs.Prelude.{Contains, OnOk, ◌↔◌}
 use Rattle.texts.specs.Runs.{begins}
 use Rattle.pep_marker.specs.Marker.{MarkerParts}
 use Rattle.pep_require.specs.LineParts.{ExtrasFrom, is_bracket, with_marker}
-use Rattle.pep_require.proofs.SortedNames.{collected_rise, collected_texts, members_collected}
+use Rattle.pep_require.specs.Way.Collected.{collected_texts}
+use Rattle.pep_require.proofs.SortedNames.{collected_rise, members_collected}
 use Rattle.pep_require.proofs.ExtrasLoops.{none_read}
 use Rattle.specifiers.specs.Clause.{Clause}
 use Rattle.pep_require.specs.Requirement.{IsAscending, RequirementParts, TargetParts, bounds, direct}

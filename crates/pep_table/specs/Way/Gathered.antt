@@ -5,7 +5,7 @@ use Rattle.pep_clause.specs.Way.Joined.{joined}
 use Rattle.pep_marker.specs.Name.{IsNormalName, name_cmp}
 use Rattle.demands.specs.Gathering.{bare_entry}
 use Rattle.demands.specs.Join.{JoinsTables}
-use Rattle.demands.specs.Way.Collected.{collected_texts}
+use Rattle.pep_require.specs.Way.Collected.{collected_texts}
 use Rattle.demands.specs.Table.{EntryParts, IsValidEntry, TableParts, names}
 
 -- what both entries demand

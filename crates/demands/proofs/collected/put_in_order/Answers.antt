@@ -1,6 +1,6 @@
 use Rattle.std.proofs.Common.{◌≡◌, ◌∙◌, ap}
 use Rattle.texts.proofs.Results.{at_err}
-use Rattle.demands.specs.Way.Collected.{collected_texts}
+use Rattle.pep_require.specs.Way.Collected.{collected_texts}
 use Rattle.demands.proofs.KeptSets.{collected_again, collected_moved, texts_once}
 use Rattle.demands.proofs.collected.put_in_order.Goals as goal
 use Rattle.demands.proofs.collected.put_in_order.Goals.{After-dedup}

@@ -1,5 +1,5 @@
 use Rattle.std.proofs.Common.{◌∙◌, ap}
-use Rattle.demands.specs.Way.Collected.{collected_texts}
+use Rattle.pep_require.specs.Way.Collected.{collected_texts}
 use Rattle.demands.proofs.KeptSets.{collected_again}
 use Rattle.demands.proofs.collected.Collected.settle.Goals as goal
 

@@ -1,6 +1,6 @@
 use Rattle.std.proofs.Common.{◌∙◌, ◌++◌, ap, map, subst, sym}
 use Rattle.pep_require.specs.Requirement.{IsAscending}
-use Rattle.demands.specs.Way.Collected.{collected_texts}
+use Rattle.pep_require.specs.Way.Collected.{collected_texts}
 use Rattle.demands.specs.Join.{IsUnion}
 use Rattle.demands.proofs.CollectedTexts.{union_collected}
 use Rattle.demands.proofs.KeptSets.{collected_rise}
