@@ -25,6 +25,10 @@ pub record EntryParts : Type 0 where
 abbrev pub TableParts : Type 0
 TableParts = List (List ℕ × EntryParts)
 
+-- a name with an entry
+abbrev pub Named : Type 0
+Named = List ℕ × EntryParts
+
 abbrev pub names : TableParts → List (List ℕ)
 names t = map (λ p. p.0) t
 

@@ -17,12 +17,9 @@ use Rattle.pep_require.specs.Requirement.{IsAscending}
 use Rattle.pep_require.proofs.Ascending.{IsIn, first_below, irreflexive, rest_ascends}
 use Rattle.demands.specs.Join.{JoinsAt, JoinsTables}
 use Rattle.pep_table.specs.OneText.{absent, entry_first, entry_other, eq_true, name_there}
-use Rattle.demands.specs.Table.{EntryParts, IsValidEntry, IsValidTable, TableParts, entry_at, names}
+use Rattle.demands.specs.Table.{EntryParts, IsValidEntry, IsValidTable, Named, TableParts, entry_at, names}
 use Rattle.pep_table.specs.TableLaws.{alone, left_kept}
 use Rattle.demands.proofs.KeptSets.{above, same_text, text_cmp}
-
-abbrev pub Named : Type 0
-Named = List ℕ × EntryParts
 
 -- ---- an entry behind others
 

@@ -13,12 +13,12 @@ use Rattle.demands.specs.EntryLaws.{IsJoin-JoinsEntries}
 use Rattle.demands.specs.Gathering.{bare_entry}
 use Rattle.demands.specs.Join.{JoinsAt, JoinsEntries, JoinsTables}
 use Rattle.demands.specs.JoinLaws.{IsJoin-IsUnion}
-use Rattle.demands.specs.Table.{EntryParts, IsValidEntry, IsValidTable, TableParts, entry_at, names}
+use Rattle.demands.specs.Table.{EntryParts, IsValidEntry, IsValidTable, Named, TableParts, entry_at, names}
 use Rattle.demands.proofs.KeptSets.{union_none}
 use Rattle.demands.proofs.TakenClauses.{all_meets}
 use Rattle.demands.proofs.ValidEntries.{bare_valid, joined_valid}
 use Rattle.pep_table.specs.TableLaws.{IsJoin-JoinsTables}
-use Rattle.pep_table.specs.Way.Gathered.{IsValidLog, IsValidNamed, Named, OpensPlace, log_table, put_entry}
+use Rattle.pep_table.specs.Way.Gathered.{IsValidLog, IsValidNamed, OpensPlace, log_table, put_entry}
 use Rattle.pep_table.proofs.AllJoined.{below_trans, first_below, join_least, one_below, second_below}
 use Rattle.pep_table.proofs.PutEntries.{log_valid, put_joins, right_alone}
 

@@ -16,12 +16,12 @@ use Rattle.pep_require.specs.Requirement.{IsAscending}
 use Rattle.pep_require.proofs.Ascending.{irreflexive, rest_ascends}
 use Rattle.pep_require.proofs.SortedNames.{above, rising_insert, same_text}
 use Rattle.demands.specs.Join.{JoinsAt, JoinsEntries, JoinsTables}
-use Rattle.demands.specs.Table.{EntryParts, IsValidEntry, IsValidTable, TableParts, entry_at, names}
+use Rattle.demands.specs.Table.{EntryParts, IsValidEntry, IsValidTable, Named, TableParts, entry_at, names}
 use Rattle.demands.proofs.CollectedTexts.{union_collected}
 use Rattle.demands.proofs.ValidEntries.{joined_valid}
 use Rattle.pep_table.specs.OneText.{absent, entry_other, first_apart}
 use Rattle.pep_table.specs.TableLaws.{alone}
-use Rattle.pep_table.specs.Way.Gathered.{IsValidLog, IsValidNamed, Named, join_entries, put_entry}
+use Rattle.pep_table.specs.Way.Gathered.{IsValidLog, IsValidNamed, join_entries, put_entry}
 
 -- ---- entries
 

@@ -5,12 +5,12 @@ use Rattle.std.specs.Prelude.{bytes_eq}
 use Rattle.std.proofs.lemmas.Slice.Eq.{bytes_eq-Decides}
 use Rattle.pep_require.specs.Requirement.{IsAscending}
 use Rattle.demands.specs.Join.{JoinsAt, JoinsTables}
-use Rattle.demands.specs.Table.{IsValidTable, TableParts, entry_at, names}
+use Rattle.demands.specs.Table.{IsValidTable, Named, TableParts, entry_at, names}
 use Rattle.pep_table.specs.NamedEntry.{entry_alone, wanted_part}
 use Rattle.pep_table.specs.OneText.{absent, entry_first, entry_other, eq_true}
 use Rattle.pep_table.specs.TableLaws.{left_kept}
 use Rattle.pep_table.specs.Way.EntryReading.{TakesEntries}
-use Rattle.pep_table.proofs.EntryPlaces.{Named, behind_apart, joins_next, joins_none, last_entry, other_entry}
+use Rattle.pep_table.proofs.EntryPlaces.{behind_apart, joins_next, joins_none, last_entry, other_entry}
 
 -- where each is put behind the others, all are listed
 pub listed : {A : Type 0} (items : A → TableParts) (t : TableParts) (old new : A) →

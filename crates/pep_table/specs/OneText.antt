@@ -20,7 +20,7 @@ use Rattle.pep_require.proofs.Ascending.{ascending_same, first_below, irreflexiv
 use Rattle.demands.proofs.Verdicts.{verdict_one}
 use Rattle.demands.specs.Demand.{Demand, Demands, HaveSameDemands, clause, extra, url}
 use Rattle.demands.specs.Table.{EntryDemands, EntryParts, IsEntry, IsTable}
-use Rattle.demands.specs.Table.{IsValidEntry, TableParts, entry_at, names}
+use Rattle.demands.specs.Table.{IsValidEntry, Named, TableParts, entry_at, names}
 use Rattle.pep_marker.specs.Environment.{EnvironmentParts}
 use Rattle.pep_marker.specs.Header.{header}
 use Rattle.pep_table.specs.TableText.{AreTableLines, IsTableText, entry_text}
@@ -76,9 +76,6 @@ one_entry Q W e f same ve vf ie fi =
     λ i. record { extras = extras i; urls = urls i; texts = texts i; versions = versions i }
 
 -- ---- tables of the same entries are one
-
-abbrev Named : Type 0
-Named = List ℕ × EntryParts
 
 pub eq_true : (x y : List ℕ) → x ≡ y → bytes_eq x y ≡ true
 eq_true x y e = (bytes_eq-Decides x y).1 e

@@ -21,9 +21,6 @@ use Rattle.inputs.specs.declared.input.Input.{Input}
 use Rattle.shards.proofs.ShardLaws.{shard_demands}
 use Rattle.shards.specs.Shards.{HaveShard, shard_of, shard_of_table}
 
-abbrev Named : Type 0
-Named = List ℕ × EntryParts
-
 cons_ascends : (x : List ℕ) (xs : List (List ℕ)) →
     ((y : List ℕ) → IsIn xs y → slice_cmp nat_cmp x y ≡ Less) → IsAscending xs → IsAscending (x ∷ xs)
 cons_ascends x [] below up = tt

@@ -6,7 +6,7 @@ use Rattle.pep_marker.specs.Name.{IsNormalName, name_cmp}
 use Rattle.demands.specs.Gathering.{bare_entry}
 use Rattle.demands.specs.Join.{JoinsTables}
 use Rattle.pep_require.specs.Way.Collected.{collected_texts}
-use Rattle.demands.specs.Table.{EntryParts, IsValidEntry, TableParts, names}
+use Rattle.demands.specs.Table.{EntryParts, IsValidEntry, Named, TableParts, names}
 
 -- what both entries demand
 abbrev pub join_entries : EntryParts → EntryParts → EntryParts
@@ -16,10 +16,6 @@ join_entries a b = record {
   texts = collected_texts (a.texts ++ b.texts);
   versions = joined a.versions b.versions;
 }
-
--- a name with an entry
-abbrev pub Named : Type 0
-Named = List ℕ × EntryParts
 
 -- the table with what an entry demands of its name besides
 abbrev pub put_entry : TableParts → Named → TableParts

@@ -2,8 +2,8 @@ use Rattle.std.proofs.Common.{◌∷◌, [], rules, subst, sym}
 use Rattle.std.specs.List.{All}
 use Rattle.std.proofs.lemmas.List.Elements.{All-push}
 use Rattle.demands.specs.Join.{JoinsTables}
-use Rattle.demands.specs.Table.{TableParts, names}
-use Rattle.pep_table.specs.Way.Gathered.{IsValidLog, IsValidNamed, Named, log_table}
+use Rattle.demands.specs.Table.{Named, TableParts, names}
+use Rattle.pep_table.specs.Way.Gathered.{IsValidLog, IsValidNamed, log_table}
 use Rattle.pep_table.specs.Way.KnownNames.{IsKnown}
 use Rattle.pep_table.proofs.LogOrder.{pushed_at, pushed_known}
 use Rattle.pep_table.proofs.LogTables.{appended}
