@@ -1,5 +1,5 @@
 -- Clauses whose version is a release: what is read of them number by number is what they say.
-use Rattle.std.proofs.Common.{◌≡◌, ℕ, ◌==◌, ◌-◌, Bool, true, false, List, [], ◌∷◌, ◌++◌, None, Some, Result, Ok}
+use Rattle.std.proofs.Common.{◌≡◌, ℕ, ◌==◌, ◌-◌, Bool, true, false, List, [], ◌∷◌, ◌++◌, None, Some, Ok}
 use Rattle.std.proofs.Common.{codes, drop, take, length, map, refl, sym, ap, subst, ◌∙◌, arith, inl, append-nil}
 use Rattle.std.proofs.Common.{append_assoc, length-append, nat_lt, not}
 use Rattle.std.proofs.Math.Seq.{drop-append_seam, take-append_seam}
@@ -25,9 +25,9 @@ use Rattle.pep_version.proofs.Tails.{digits-all}
 use Rattle.specifiers.specs.Clause.{Clause, IsClause, TargetAnswers, VersionAnswers, at_least, at_most, compatible}
 use Rattle.specifiers.specs.Clause.{demanded_text, ends_in_space, excluding, greater_than, less_than}
 use Rattle.specifiers.specs.Clause.{matching, operator_of, operator_text}
-use Rattle.specifiers.specs.declared.fault.ClauseFault.{ClauseFault}
 use Rattle.specifiers.specs.declared.op.Op.{Op}
 use Rattle.specifiers.specs.declared.op.Op.TheVariants as op
+use Rattle.specifiers.proofs.OneAnswer.{answer_ok, same_clause}
 use Rattle.specifiers.proofs.OperatorLemmas.{operator_shape}
 use Rattle.specifiers.proofs.ReadLemmas.{lowered-none}
 use Rattle.specifiers.proofs.Written.{clause-ink, ink-end, is_ink, written}
@@ -269,11 +269,8 @@ clause_read o w ns starred c bytes spelled fit made =
     (target o (w ++ star_text starred) ns starred c made (answers o w ns starred c bytes spelled fit made))
 
 -- it demands no text
-abbrev answer_ok : Clause → Result Clause ClauseFault
-answer_ok c = Ok c
-
 no_text_of : (made c : Clause) → answer_ok made ≡ answer_ok c → demanded_text made ≡ None → demanded_text c ≡ None
-no_text_of made c h none = let same : made ≡ c = cc h in subst (λ d. demanded_text d ≡ None) same none
+no_text_of made c h none = subst (λ d. demanded_text d ≡ None) (same_clause made c h) none
 
 no_text : (o : Op) (ns : List ℕ) (starred : Bool) (c : Clause) → MakesClause o ns starred c → demanded_text c ≡ None
 no_text op.Equal ns true c h = no_text_of _ c h refl

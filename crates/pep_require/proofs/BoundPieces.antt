@@ -11,7 +11,7 @@ use Rattle.specifiers.specs.Clause.{operator_of, operator_text}
 use Rattle.specifiers.specs.declared.fault.ClauseFault.{ClauseFault}
 use Rattle.specifiers.specs.declared.op.Op.{Op}
 use Rattle.specifiers.specs.declared.op.Op.TheVariants as op
-use Rattle.specifiers.proofs.OneAnswer.{no-clause-of-nothing, one-answer, one-clause-of}
+use Rattle.specifiers.proofs.OneAnswer.{answer_ok, no-clause-of-nothing, one-answer, one-clause-of}
 use Rattle.specifiers.proofs.OperatorLemmas.{operator_shape}
 use Rattle.specifiers.proofs.Written.{clause-ink, ink-trimmed, is_ink, operator-found, operator-ink}
 use Rattle.specifiers.proofs.Written.{written-of}
@@ -244,16 +244,13 @@ one_bound x rest remaining c d h g =
       h.run.left ∙ ap (λ o. after_run (after_operator o y)) same ∙ sym g.run.left,
     )
 
-abbrev answer_ok : Clause → Result Clause ClauseFault
-answer_ok c = Ok c
-
-abbrev answer_err : ClauseFault → Result Clause ClauseFault
+abbrev pub answer_err : ClauseFault → Result Clause ClauseFault
 answer_err e = Err e
 
 apart : (c : Clause) (e : ClauseFault) → answer_ok c ≡ answer_err e → ⊥
 apart c e h = cc h
 
-err_told : (e f : ClauseFault) → answer_err e ≡ answer_err f → e ≡ f
+pub err_told : (e f : ClauseFault) → answer_err e ≡ answer_err f → e ≡ f
 err_told e f h = cc h
 
 pub bound_refused : (x rest : List ℕ) (c : Clause) (f : RequireFault) → RefusesBound x f →

@@ -1,16 +1,16 @@
 -- A line that is refused has one fault: that of the first check that fails.
 use Rattle.std.proofs.Common.{◌≡◌, ◌≢◌, ℕ, ◌==◌, Bool, true, false, List, []}
-use Rattle.std.proofs.Common.{◌∷◌, Option, Some, None, Result, Err, sym, ap, subst, ◌∙◌, inl, inr}
+use Rattle.std.proofs.Common.{◌∷◌, Option, Some, None, Err, sym, ap, subst, ◌∙◌, inl, inr}
 use Rattle.std.proofs.Common.{refl}
 use Rattle.std.proofs.lemmas.Option.{none-some, same_Some}
 use Rattle.specifiers.proofs.OneAnswer.{one-answer}
-use Rattle.specifiers.specs.Clause.{Clause, operator_of}
+use Rattle.specifiers.specs.Clause.{operator_of}
 use Rattle.specifiers.specs.Front.{RefusesFound, after_operator, clause_run}
 use Rattle.specifiers.specs.declared.fault.ClauseFault.{ClauseFault}
 use Rattle.specifiers.specs.declared.op.Op.{Op}
 use Rattle.texts.specs.Runs.{without_leading_blanks}
 use Rattle.pep_require.proofs.BoundLaws.{refused_bounds, tail}
-use Rattle.pep_require.proofs.BoundPieces.{bound_refused, one_bound}
+use Rattle.pep_require.proofs.BoundPieces.{bound_refused, err_told, one_bound}
 use Rattle.pep_require.proofs.ExtrasLaws.{one_extras}
 use Rattle.pep_require.proofs.TargetLaws.{one_target, refused_target}
 use Rattle.pep_require.specs.Code.{IsSameFault, require_code}
@@ -25,12 +25,6 @@ use Rattle.pep_require.specs.declared.fault.RequireFault.{RequireFault}
 use Rattle.pep_require.specs.declared.fault.RequireFault.TheVariants as fault
 
 -- ---- clauses
-
-abbrev answer_err : ClauseFault → Result Clause ClauseFault
-answer_err e = Err e
-
-err_told : (e f : ClauseFault) → answer_err e ≡ answer_err f → e ≡ f
-err_told e f h = cc h
 
 one_found_fault : (o : Option Op) (y : List ℕ) (e f : ClauseFault) → RefusesFound o y e →
     RefusesFound o y f → e ≡ f

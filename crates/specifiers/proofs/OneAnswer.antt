@@ -100,10 +100,10 @@ pub one-answer : (o : Op) (text : List ℕ) (a b : Result Clause ClauseFault) �
     ClauseOf o text b → IsAnswer a → IsAnswer b → a ≡ b
 one-answer o text a b h g m n = target-one o (trimmed text) a b h g m n
 
-abbrev answer_ok : Clause → Result Clause ClauseFault
+abbrev pub answer_ok : Clause → Result Clause ClauseFault
 answer_ok c = Ok c
 
-same_clause : (c d : Clause) → answer_ok c ≡ answer_ok d → c ≡ d
+pub same_clause : (c d : Clause) → answer_ok c ≡ answer_ok d → c ≡ d
 same_clause c d h = cc h
 
 pub one-clause-of : (o : Op) (text : List ℕ) (c d : Clause) → ClauseOf o text (Ok c) →
