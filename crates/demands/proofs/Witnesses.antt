@@ -2,7 +2,9 @@
 use Rattle.std.proofs.Common.{◌≡◌, ℕ, inl, inr, List, [], ◌∷◌, Some, None, true, false, codes}
 use Rattle.std.proofs.Common.{refl, ap, sym, ◌∙◌, arith, lit<}
 use Rattle.std.specs.List.{Contains}
+use Rattle.std.specs.Prelude.{◌↔◌, ◌⊎◌, IsTrue}
 use Rattle.pep_version.specs.Text.{public_version}
+use Rattle.pep_version.specs.Version.{is_pre_release}
 use Rattle.pep_version.specs.declared.parts.Phase.TheVariants.{Alpha}
 use Rattle.pep_clause.proofs.PlaceCuts.{IsCut-least}
 use Rattle.pep_clause.specs.Cut.{least}
@@ -86,6 +88,11 @@ String_kept-empty e = cc e
 -- all versions and none
 pub VersionSet_joined-the_left : ¬ IsIntersection all_versions [] all_versions
 VersionSet_joined-the_left h = cc (h.points least IsCut-least)
+
+-- 1a0, where pre-releases aren't wanted
+pub is_wanted-unwanted_pre_release : ¬ (IsTrue true ↔ ((false ≡ true)
+    ⊎ (is_pre_release (public_version (1 ∷ []) (Some (Alpha, 0)) None None) ≡ false)))
+is_wanted-unwanted_pre_release h = elim (h.0 refl) [ inl e ↦ cc e | inr e ↦ cc e ]
 
 -- all versions, and a list with no version
 pub join_all-nothing : ¬ JoinsAll IsNormal IsIntersection all_versions ([] ∷ []) all_versions

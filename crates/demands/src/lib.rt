@@ -24,4 +24,4 @@ pub use crate::others::OtherTexts;
 pub use crate::package_demands::{Finished, PackageDemands};
 pub use crate::sorted::{Kept, Sorted};
 pub use crate::text_list::TextList;
-pub use crate::verdict::{Answer, Verdict};
+pub use crate::verdict::{Answer, Verdict, is_wanted};

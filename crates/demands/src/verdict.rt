@@ -154,9 +154,9 @@ fn is_in(alloc: Global, version: &Version, versions: &VersionSet) -> Result<bool
     }
 }
 
-// Whether the version is wanted: pre-releases are, or it is none (PEP 440, "Handling of
-// pre-releases").
-fn is_wanted(version: &Version, want_pre: bool) -> bool
+/// Whether the version is wanted: pre-releases are, or it is none (PEP 440, "Handling of
+/// pre-releases"). Public for the crate of tables.
+pub fn is_wanted(version: &Version, want_pre: bool) -> bool
     ensures { IsTrue result ↔ ((want_pre ≡ true) ⊎ (is_pre_release version.now ≡ false)) }
 {
     want_pre || !version.is_pre()

@@ -6,7 +6,7 @@ ghost use Rattle.demands.specs.Table.{EntryParts, TableDemands, entry_at};
 ghost use Rattle.demands.specs.Verdict.{IsEntryVerdict, IsVerdict};
 
 use crate::table::Table;
-use demands::{Answer, TableFault, Verdict};
+use demands::{Answer, TableFault, Verdict, is_wanted};
 use pep_marker::Name;
 use pep_version::Version;
 use std::alloc::Global;
@@ -48,7 +48,7 @@ impl Table {
         if let Some(entry) = self.get(name) {
             return entry.admits(alloc, version, want_pre);
         }
-        if want_pre || !version.is_pre() {
+        if is_wanted(version, want_pre) {
             Ok(Answer::Yes)
         } else {
             Ok(Answer::No)
