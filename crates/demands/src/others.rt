@@ -25,15 +25,11 @@ pub(crate) struct Others {
 }
 
 impl Model for Others {
-    ghost use Rattle.demands.specs.Way.Others.{OtherParts};
+    ghost use Rattle.demands.specs.Way.Others.{OtherParts, others_of};
 
     ghost Value = { OtherParts };
 
-    ghost view = { λ o. record {
-      extras = o.extras;
-      urls = o.urls;
-      texts = o.texts;
-    } };
+    ghost view = { λ o. others_of o.extras o.urls o.texts };
 }
 
 impl Others {
@@ -157,15 +153,11 @@ pub struct OtherTexts {
 }
 
 impl Model for OtherTexts {
-    ghost use Rattle.demands.specs.Way.Others.{OtherParts};
+    ghost use Rattle.demands.specs.Way.Others.{OtherParts, others_of};
 
     ghost Value = { OtherParts };
 
-    ghost view = { λ o. record {
-      extras = o.extras;
-      urls = o.urls;
-      texts = o.texts;
-    } };
+    ghost view = { λ o. others_of o.extras o.urls o.texts };
 }
 
 impl OtherTexts {

@@ -11,8 +11,12 @@ pub record OtherParts : Type 0 where
   pub urls : List (List ℕ)
   pub texts : List (List ℕ)
 
+-- .. as these lists
+abbrev pub others_of : List (List ℕ) → List (List ℕ) → List (List ℕ) → OtherParts
+others_of extras urls texts = record { extras = extras; urls = urls; texts = texts }
+
 abbrev pub no_others : OtherParts
-no_others = record { extras = []; urls = []; texts = [] }
+no_others = others_of [] [] []
 
 -- the entry of these and of versions
 abbrev pub entry_with : OtherParts → List Range → EntryParts
