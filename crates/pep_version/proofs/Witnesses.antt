@@ -10,7 +10,7 @@ use Rattle.pep_version.specs.declared.parts.Phase.TheVariants.{Alpha}
 use Rattle.pep_version.specs.Feed.{key_feed}
 use Rattle.pep_version.specs.KeyBytes.{key_bytes, stage_bytes_of}
 use Rattle.pep_version.specs.KeyReading.{IsKey, behind_place}
-use Rattle.pep_version.specs.Order.{place_cmp, place_of, release_version, version_cmp, with_suffixes}
+use Rattle.pep_version.specs.Order.{place_of, release_version, version_cmp, with_suffixes}
 use Rattle.pep_version.specs.Spelling.{Reads, SpellsAny}
 use Rattle.pep_version.specs.Text.{KeepsFront, dev_text, normal_text, post_text, pre_text, public_version, release_text}
 use Rattle.pep_version.specs.Final.{is_final}
@@ -31,10 +31,6 @@ Key_bytes-without_the_last e = cc e
 -- 1 and 2
 pub Key_cmp-backwards : ¬ (Greater ≡ version_cmp (plain 1) (plain 2))
 Key_cmp-backwards e = cc e
-
--- 1 and 2
-pub Key_cmp_release-backwards : ¬ (Greater ≡ place_cmp (plain 1) (plain 2))
-Key_cmp_release-backwards e = cc e
 
 -- 0
 pub Key_copied-another_key : ¬ ([] ≡ key_bytes (plain 0))

@@ -28,11 +28,10 @@ ghost use Rattle.std.specs.Cmp.{
 };
 ghost use Rattle.std.specs.Ordering.{as_partial_cmp, eq_by_cmp};
 ghost use Rattle.pep_version.specs.Feed.{key_feed, key_feed-alike};
-ghost use Rattle.pep_version.specs.KeyBytes.{key_bytes, place_bytes};
+ghost use Rattle.pep_version.specs.KeyBytes.{key_bytes};
 ghost use Rattle.pep_version.specs.KeyReading.{IsKey};
 ghost use Rattle.pep_version.specs.Laws.{version_total};
 ghost use Rattle.pep_version.specs.Order.{
-  place_cmp,
   place_of,
   release_version,
   short_release,
@@ -232,24 +231,6 @@ impl Key {
     {
         let bytes = KeyBytes::from_slice(alloc, self.bytes())?;
         Ok(Key { bytes })
-    }
-
-    /// The order of the two by their epochs and releases alone (PEP 440, "Version epochs", "Final
-    /// releases").
-    pub fn cmp_release(&self, other: &Key) -> Ordering
-        ensures { result ≡ place_cmp self.now other.now }
-    {
-        self.place().cmp(other.place())
-    }
-
-    // The bytes of the epoch and the release.
-    fn place(&self) -> &[u8]
-        ensures bytes { result.now ≡ place_bytes self.now }
-        ensures version { IsVersion self.now }
-    {
-        let bytes = self.bytes();
-        let suffix = behind_release(bytes);
-        &bytes[..bytes.len() - suffix.len()]
     }
 
     /// The bytes of the key: the epoch, the release, the phase of a pre-release, the post-release,
