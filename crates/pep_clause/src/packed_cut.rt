@@ -264,7 +264,7 @@ impl PackedCut {
     }
 
     /// Writes the text of the cut, as [`Cut::put_text`](crate::Cut::put_text).
-    pub fn put_text<T: TextOut>(self, text: &mut T) -> Result<(), T::Fault>
+    pub(crate) fn put_text<T: TextOut>(self, text: &mut T) -> Result<(), T::Fault>
         ensures ok { OnOk result (T.tells → T.written text.new
             ≡ T.written text.old ++ cut_text self) }
         ensures kept { OnErr result (T.tells → Extends (T.written text.old) (T.written text.new)) }

@@ -28,7 +28,7 @@ impl Turns {
     }
 
     /// Counts a turn.
-    pub fn tick(&mut self)
+    pub(crate) fn tick(&mut self)
         ensures { self.new.passed ≡ self.old.passed + 1 }
     {}
 }

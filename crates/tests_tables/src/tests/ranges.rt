@@ -5,31 +5,9 @@ use packed_cuts::{LeftOut, PackedRange, PackedSet};
 use pep_clause::{Clause, Cut, PackedCut, VersionSet};
 use std::process::Abort;
 
-// The text, and the other one behind it where they differ.
-fn one_text(rt: &(impl Abort + AllocGlobal), text: &str, other: &str) -> String {
-    let both = if text == other {
-        String::from_str(rt.alloc(), text)
-    } else {
-        format!(in rt.alloc(); "{text}, and {other}")
-    };
-    both.expect(rt, "room for a text")
-}
-
-fn text_of_cut(rt: &(impl Abort + AllocGlobal), cut: PackedCut) -> String {
+fn cut_text(rt: &(impl Abort + AllocGlobal), cut: PackedCut) -> String {
     let text = Cut::of_packed(cut).text(rt.alloc());
     text.expect(rt, "the text of a cut")
-}
-
-fn pushed(rt: &(impl Abort + AllocGlobal), cut: PackedCut) -> String {
-    let mut pushed = String::new(rt.alloc());
-    cut.put_text(&mut pushed).expect(rt, "room for a cut");
-    pushed
-}
-
-// The text of a packed cut, by its cut and by itself.
-fn cut_text(rt: &(impl Abort + AllocGlobal), cut: PackedCut) -> String {
-    let text = text_of_cut(rt, cut);
-    one_text(rt, text.as_str(), pushed(rt, cut).as_str())
 }
 
 // The two packed cuts.
