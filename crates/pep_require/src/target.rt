@@ -49,7 +49,7 @@ pub(crate) fn walk_target<'a, S: LineSink>(
 {
     // Most targets are these.
     if is_bare(text) {
-        return walk_bare(sink, line, text);
+        return walk_clauses(sink, line, text, false);
     }
     if let Some(rest) = behind(text, '@') {
         return walk_url(sink, line, rest);
@@ -58,23 +58,6 @@ pub(crate) fn walk_target<'a, S: LineSink>(
         return walk_closed(sink, line, rest);
     }
     Ok(text)
-}
-
-// The clauses in front of the text, without parentheses.
-#[inline(always)]
-fn walk_bare<'a, S: LineSink>(
-    sink: &mut S,
-    line: &mut S::Line,
-    text: &'a str,
-) -> Result<&'a str, RequireFault>
-    requires { begins is_bare_byte text.now ≡ true }
-    ensures same { sink.new ≡ sink.old }
-    ensures ok { IfOk result (λ rest. (t : TargetParts) × TargetFrom text.now t rest.now
-        × AddsTarget (S.holds sink.old line.old) (S.holds sink.old line.new) t) }
-    ensures refused { IfErr result (λ e. (e ≡ RequireFault.NoMemory)
-        ⊎ RefusesTarget text.now e) }
-{
-    walk_clauses(sink, line, text, false)
 }
 
 // The clauses behind a `(`, and the `)` behind them.
