@@ -75,6 +75,7 @@ impl Collected {
     pub(crate) fn in_order(&self)
         ensures { IsAscending self.now }
     {
+        // Where a field is read, the invariant is at hand.
         let _ = &self.texts;
     }
 

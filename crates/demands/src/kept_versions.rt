@@ -114,6 +114,7 @@ impl KeptVersions {
     fn in_order(&self)
         ensures { IsNormal self.now }
     {
+        // Where a field is read, the invariant is at hand.
         let _ = &self.range;
     }
 

@@ -65,6 +65,7 @@ impl Kept for Name {
     }
 
     fn as_value(&self) {
+        // Its clause tells that the name is normalized.
         let _ = self.text();
     }
 

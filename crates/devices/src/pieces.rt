@@ -93,6 +93,7 @@ fn hold<W: Sink>(sink: &mut W, held: &mut ArrayString<PIECE>, part: &str)
     ensures was_ready { (W.device sink.new).failed ≡ false → (W.device sink.old).failed ≡ false }
 {
     if held.try_push_str(part).is_err() {
+        // Where this fails the sink has failed, which is told at the end.
         let _ = make_room(sink, held, part);
     }
 }
