@@ -211,7 +211,8 @@ pub(crate) fn tokens_of(alloc: Global, text: &str) -> Result<Tokens<'_>, MarkerF
     ensures front { IfOk result (λ found. BeginsWith text.now (map token_of found.items.items)) }
     ensures faults { IfErr result (λ e. e ≡ MarkerFault.NoMemory) }
 {
-    let mut items = Vec::new(alloc);
+    // a token of a marker has some eight bytes, with the blanks beside it
+    let mut items = Vec::with_capacity(alloc, text.len() / 8 + 4)?;
     let mut start = past_blanks(text, 0);
     while start < text.len() {
         let Some((token, behind)) = token_at(text, start) else {

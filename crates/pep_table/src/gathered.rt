@@ -7,6 +7,7 @@ ghost use Rattle.demands.specs.Join.{JoinsTables};
 ghost use Rattle.demands.specs.Table.{IsValidEntry, names};
 ghost use Rattle.pep_table.specs.Way.Gathered.{IsAt, IsValidNamed, OpensPlace, log_table};
 
+use crate::keys::count_repeats;
 use crate::ordered::{is_ascending, ordered, place_among, put_in_order};
 use arrayvec::ArrayString;
 use demands::{Entry, LineDemands, PackageDemands};
@@ -20,8 +21,10 @@ use text_memory::{OfText, TextMemory};
 const MOST: usize = 65_536;
 // How many bytes a remembered name has at most, as it is written.
 const LONGEST: usize = 40;
-// The log isn't put in order before there are so many entries.
+// The log isn't put in order before there are so many entries ..
 const FEWEST: usize = 32_768;
+// .. or so many, if many of them are of names that have another one: those fall together in the memory, or are long.
+const FEWEST_REPEATED: usize = 4_096;
 
 /// A name as it is written, with the place of an entry of the name.
 #[derive(Drop)]
@@ -74,7 +77,7 @@ impl Gathered {
             log: Vec::new(alloc),
             ordered: 0,
             known: TextMemory::new(alloc, MOST),
-            room: FEWEST,
+            room: FEWEST_REPEATED,
         }
     }
 
@@ -130,11 +133,21 @@ impl Gathered {
         Ok(())
     }
 
+    // Whether a quarter of the entries are of names that have another one.
+    fn has_repeats(&self, alloc: Global) -> Result<bool, AllocError> {
+        let repeats = count_repeats(alloc, self.log.as_slice())?;
+        Ok(repeats >= self.log.len() / 4)
+    }
+
     // Puts the log in order, if it has doubled.
     fn make_room(&mut self, alloc: Global) -> Result<(), AllocError>
         ensures { OnOk result (log_table self.new ≡ log_table self.old) }
     {
         if self.log.len() < self.room {
+            return Ok(());
+        }
+        if self.log.len() < FEWEST && !self.has_repeats(alloc)? {
+            self.room = FEWEST;
             return Ok(());
         }
         if !is_ascending(self.log.as_slice()) {

@@ -3,6 +3,7 @@
 
 mod gathered;
 mod gathering;
+mod keys;
 pub mod laws;
 mod ordered;
 mod printout;

@@ -10,7 +10,7 @@ past_blanks-start-requires c = IsCharBoundary-start c.args.text.now c.utf8.text
 pub loop-start-init : goal.loop-start-init
 loop-start-init c =
     let blanks = c.past_blanks-start in
-    subst (λ ts. SoFar c.args.text.now ts blanks.result) (sym c.new-items.ensures.items)
+    subst (λ ts. SoFar c.args.text.now ts blanks.result) (sym c.in_ok-items.ensures.items)
     (none_yet c.args.text.now blanks.result blanks.ensures.boundary blanks.ensures.rest)
 
 pub returns-in_default-clause-stopped : goal.returns-in_default-clause-stopped
