@@ -12,7 +12,7 @@ use crate::memory::ClauseMemory;
 use demands::LineDemands;
 use pep_marker::{Environment, JudgedMarkers, MarkerFault, Name};
 use pep_require::{LineSink, RequireFault, UrlText};
-use std::alloc::Global;
+use std::alloc::{AllocError, Global};
 use std::marker::Model;
 
 /// What is kept of a line.
@@ -101,9 +101,8 @@ impl LineSink for DemandSink<'_> {
         line.applies = Some(true);
     }
 
-    fn extra(&mut self, line: &mut LineSoFar, name: Name) -> Result<(), RequireFault> {
-        line.demands.put_extra(&name)?;
-        Ok(())
+    fn extra(&mut self, line: &mut LineSoFar, name: Name) -> Result<(), AllocError> {
+        line.demands.put_extra(&name)
     }
 
     #[inline(always)]

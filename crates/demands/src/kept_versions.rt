@@ -96,7 +96,7 @@ fn left_between(
         let _ = bounds.low.cmp(&bounds.high);
         return Ok(set_between(alloc, bounds));
     }
-    left_out.between(alloc, bounds).map_err(|_| AllocError)
+    left_out.between(alloc, bounds)
 }
 
 impl KeptVersions {
@@ -194,9 +194,7 @@ impl KeptVersions {
         ensures { OnOk result (IsIntersection self.old (outside bounds.low bounds.high) self.new) }
     {
         let mut beside = beside_or_all(alloc, self.beside.take())?;
-        let Ok(()) = beside.left_out.leave_out(alloc, bounds) else {
-            return Err(AllocError);
-        };
+        beside.left_out.leave_out(alloc, bounds)?;
         self.beside = Some(beside);
         Ok(())
     }

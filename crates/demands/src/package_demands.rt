@@ -1,6 +1,6 @@
 //! What is demanded of one package: so far, and in all.
 
-ghost use Rattle.std.specs.Prelude.{◌≡◌, [], IfErr, IfOk, IsOk, OnOk, length, option_map};
+ghost use Rattle.std.specs.Prelude.{◌≡◌, [], IfOk, IsOk, OnOk, length, option_map};
 ghost use Rattle.pep_require.specs.View.{requirement_parts};
 ghost use Rattle.demands.specs.Gathering.{HasValidParts, TakesEntry, bare_entry};
 ghost use Rattle.demands.specs.Join.{JoinsEntries};
@@ -11,7 +11,6 @@ ghost use Rattle.demands.specs.Table.{EntryDemands, IsValidEntry};
 ghost use Rattle.demands.specs.Verdict.{IsVerdict};
 
 use crate::entry::Entry;
-use crate::fault::TableFault;
 use crate::kept_versions::KeptVersions;
 use crate::line_demands::LineDemands;
 use crate::others::{OtherTexts, Others};
@@ -172,13 +171,12 @@ impl PackageDemands {
         }
     }
 
-    /// Takes what a requirement demands, whatever its name and its marker. The only fault is
-    /// `NoMemory`, 42; what is gathered is then of no more use: it may lack what it had.
-    pub fn take(&mut self, alloc: Global, requirement: &Requirement) -> Result<(), TableFault>
+    /// Takes what a requirement demands, whatever its name and its marker. Where memory lacks, what is
+    /// gathered is of no more use: it may lack what it had.
+    pub fn take(&mut self, alloc: Global, requirement: &Requirement) -> Result<(), AllocError>
         ensures taken { OnOk result (TakesEntry self.old (requirement_parts requirement.now)
             self.new) }
         ensures valid { OnOk result (HasValidParts (requirement_parts requirement.now)) }
-        ensures faults { IfErr result (λ e. e ≡ TableFault.NoMemory) }
     {
         // Its clause tells that the name is in its normalized form.
         let _ = requirement.name().text();
@@ -186,51 +184,44 @@ impl PackageDemands {
         self.take_line(alloc, &mut line)
     }
 
-    /// Takes what an entry demands, whose ranges are moved. The only fault is `NoMemory`, 42; what
-    /// is gathered is then of no more use: it may lack what it had.
-    pub fn join(&mut self, alloc: Global, entry: Entry) -> Result<(), TableFault>
+    /// Takes what an entry demands, whose ranges are moved. Where memory lacks, what is gathered is
+    /// of no more use: it may lack what it had.
+    pub fn join(&mut self, alloc: Global, entry: Entry) -> Result<(), AllocError>
         ensures joined { OnOk result (JoinsEntries self.old entry self.new) }
         ensures valid { IsValidEntry entry }
-        ensures faults { IfErr result (λ e. e ≡ TableFault.NoMemory) }
     {
         // Its clause tells that the entry is valid.
         let _ = entry.versions();
         join_others(alloc, &mut self.others, &entry)?;
-        self.versions.meet(alloc, entry.into_versions())?;
-        Ok(())
+        self.versions.meet(alloc, entry.into_versions())
     }
 
-    /// Takes what a line demands, whose sets are moved: it may be anything until it is cleared. The only fault is
-    /// `NoMemory`, 42; what is gathered is then of no more use: it may lack what it had.
+    /// Takes what a line demands, whose sets are moved: it may be anything until it is cleared. Where memory
+    /// lacks, what is gathered is of no more use: it may lack what it had.
     #[inline(always)]
-    pub fn take_line(&mut self, alloc: Global, line: &mut LineDemands) -> Result<(), TableFault>
+    pub fn take_line(&mut self, alloc: Global, line: &mut LineDemands) -> Result<(), AllocError>
         ensures joined { OnOk result (JoinsEntries self.old line.old self.new) }
         ensures valid { IsValidEntry line.old }
-        ensures faults { IfErr result (λ e. e ≡ TableFault.NoMemory) }
     {
         line.as_entry();
         join_line(alloc, &mut self.others, line)?;
-        self.versions.meet_line(alloc, line)?;
-        Ok(())
+        self.versions.meet_line(alloc, line)
     }
 
-    /// Takes what is gathered of the package elsewhere, which is moved. The only fault is `NoMemory`, 42; what is
-    /// gathered is then of no more use: it may lack what it had.
-    pub fn join_demands(&mut self, alloc: Global, more: PackageDemands) -> Result<(), TableFault>
-        ensures joined { OnOk result (JoinsEntries self.old more self.new) }
-        ensures faults { IfErr result (λ e. e ≡ TableFault.NoMemory) }
+    /// Takes what is gathered of the package elsewhere, which is moved. Where memory lacks, what is gathered is of no
+    /// more use: it may lack what it had.
+    pub fn join_demands(&mut self, alloc: Global, more: PackageDemands) -> Result<(), AllocError>
+        ensures { OnOk result (JoinsEntries self.old more self.new) }
     {
         let PackageDemands { versions, others } = more;
         join_kept(alloc, &mut self.others, others)?;
-        self.versions.meet_kept(alloc, versions)?;
-        Ok(())
+        self.versions.meet_kept(alloc, versions)
     }
 
-    /// What is gathered, which has to be an entry, as for `entry`. The only fault is `NoMemory`, 42.
-    pub fn finish(self, alloc: Global) -> Result<Finished, TableFault>
+    /// What is gathered, which has to be an entry, as for `entry`.
+    pub fn finish(self, alloc: Global) -> Result<Finished, AllocError>
         requires { IsValidEntry self }
-        ensures same { IfOk result (λ f. f ≡ self) }
-        ensures faults { IfErr result (λ e. e ≡ TableFault.NoMemory) }
+        ensures { IfOk result (λ f. f ≡ self) }
     {
         let PackageDemands { versions, others } = self;
         let versions = versions.finish(alloc)?;
@@ -239,15 +230,14 @@ impl PackageDemands {
     }
 
     /// The entry of what is gathered, which has to be one: what `take` and `join` made of `bare` is,
-    /// unless one of them was refused. The only fault is `NoMemory`, 42.
-    pub fn entry(self, alloc: Global) -> Result<Entry, TableFault>
+    /// unless one of them was refused.
+    pub fn entry(self, alloc: Global) -> Result<Entry, AllocError>
         requires { IsValidEntry self }
-        ensures same { IfOk result (λ e. e ≡ self) }
-        ensures faults { IfErr result (λ e. e ≡ TableFault.NoMemory) }
+        ensures { IfOk result (λ e. e ≡ self) }
     {
         let Finished { others, versions } = self.finish(alloc)?;
         match others {
-            Some(others) => Ok(others.entry(alloc, versions)?),
+            Some(others) => others.entry(alloc, versions),
             None => Ok(entry_of(alloc, versions)),
         }
     }
@@ -304,14 +294,13 @@ impl Finished {
         }
     }
 
-    /// Whether a version can meet what is demanded: as [`Entry::verdict`](crate::Entry::verdict). The only fault is
-    /// `NoMemory`, 42, and without demanded texts there is none.
-    pub fn verdict(&self, alloc: Global) -> Result<Verdict, TableFault>
+    /// Whether a version can meet what is demanded: as [`Entry::verdict`](crate::Entry::verdict). Without
+    /// demanded texts it wants no memory.
+    pub fn verdict(&self, alloc: Global) -> Result<Verdict, AllocError>
         ensures demands { IfOk result (IsVerdict (EntryDemands self.now)) }
-        ensures faults { IfErr result (λ e. e ≡ TableFault.NoMemory) }
         ensures plain { self.now.texts ≡ [] → IsOk result }
     {
         let (urls, texts) = self.demanded();
-        Ok(verdict_of(alloc, urls, texts, &self.versions)?)
+        verdict_of(alloc, urls, texts, &self.versions)
     }
 }

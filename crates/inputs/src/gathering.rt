@@ -100,10 +100,7 @@ fn is_wanted(alloc: Global, wanted: Option<&Name>, name: &WrittenName) -> Result
     let Some(wanted) = wanted else {
         return Ok(true);
     };
-    match name.kept(alloc) {
-        Ok(name) => Ok(name == *wanted),
-        Err(_) => Err(AllocError),
-    }
+    Ok(name.kept(alloc)? == *wanted)
 }
 
 // Whether a line with this name counts.
@@ -143,10 +140,7 @@ fn take_walked(
     if !is_counted {
         return Ok(gathering);
     }
-    match gathering.take_line(alloc, name, &mut line.demands) {
-        Ok(new) => Ok(new),
-        Err(_) => Err(LineFault::from(AllocError)),
-    }
+    Ok(gathering.take_line(alloc, name, &mut line.demands)?)
 }
 
 impl<'a> DemandTaker<'a> {

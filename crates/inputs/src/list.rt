@@ -20,7 +20,7 @@ ghost use Rattle.inputs.specs.Refusal.{IsRefusedList, no_memory};
 use crate::lines::{Taker, take_lines};
 use faults::{Fault, LineFault, Place};
 use pep_require::Requirement;
-use std::alloc::Global;
+use std::alloc::{AllocError, Global};
 
 // Takes each text as the requirement that it is.
 #[derive(Drop)]
@@ -82,26 +82,19 @@ fn push_requirement(
     alloc: Global,
     text: &mut String,
     requirement: &Requirement,
-) -> Result<(), Fault>
-    ensures text { OnOk result (string_bytes text.new ≡ string_bytes text.old
+) -> Result<(), AllocError>
+    ensures { OnOk result (string_bytes text.new ≡ string_bytes text.old
         ++ (requirement_text (requirement_parts requirement.now) ++ codes "\n")) }
-    ensures faults { IfErr result (λ fault. fault ≡ no_memory) }
 {
-    match requirement.text(alloc) {
-        Ok(written) => {
-            text.push_str(written.as_str())?;
-            text.push_str("\n")?;
-            Ok(())
-        }
-        Err(_) => Err(Fault::no_memory()),
-    }
+    let written = requirement.text(alloc).map_err(|_| AllocError)?;
+    text.push_str(written.as_str())?;
+    text.push_str("\n")
 }
 
-/// The text of each requirement and a line feed. The only fault is `NoMemory`.
-pub fn lines_text(alloc: Global, requirements: &[Requirement]) -> Result<String, Fault>
-    ensures text { IfOk result (λ text.
+/// The text of each requirement and a line feed.
+pub fn lines_text(alloc: Global, requirements: &[Requirement]) -> Result<String, AllocError>
+    ensures { IfOk result (λ text.
         string_bytes text ≡ listed_text (map requirement_parts requirements.now)) }
-    ensures faults { IfErr result (λ fault. fault ≡ no_memory) }
 {
     let mut text = String::new(alloc);
     for requirement in requirements {

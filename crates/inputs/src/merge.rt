@@ -6,7 +6,7 @@ ghost use Rattle.demands.specs.Table.{TableDemands};
 ghost use Rattle.pep_table.specs.TableText.{IsTableText};
 ghost use Rattle.inputs.specs.Gathered.{Gathered, IsAccepted};
 ghost use Rattle.inputs.specs.Merge.{IsMerge};
-ghost use Rattle.inputs.specs.Refusal.{RefusesInputs, no_memory};
+ghost use Rattle.inputs.specs.Refusal.{RefusesInputs};
 
 use crate::gathering::{gather, gather_named};
 use crate::input::Input;
@@ -14,18 +14,17 @@ use faults::Fault;
 use pep_marker::{Environment, Name};
 use pep_table::{Answer, Gathering, Printout, TableFault};
 use pep_version::Version;
-use std::alloc::Global;
+use std::alloc::{AllocError, Global};
 
 // The text of the table of what is demanded in the environment.
-fn text_of(alloc: Global, gathering: Gathering, environment: &Environment) -> Result<String, Fault>
-    ensures text { IfOk result (λ text.
-        IsTableText environment.now gathering (string_bytes text)) }
-    ensures faults { IfErr result (λ fault. fault ≡ no_memory) }
+fn text_of(
+    alloc: Global,
+    gathering: Gathering,
+    environment: &Environment,
+) -> Result<String, AllocError>
+    ensures { IfOk result (λ text. IsTableText environment.now gathering (string_bytes text)) }
 {
-    match gathering.text(alloc, environment) {
-        Ok(text) => Ok(text),
-        Err(_) => Err(Fault::no_memory()),
-    }
+    gathering.text(alloc, environment).map_err(|_| AllocError)
 }
 
 /// The text of the table of what all inputs demand in the environment (see
@@ -48,23 +47,20 @@ pub fn merge_bytes(
     ensures refused { IfErr result (RefusesInputs environment.now inputs.now) }
 {
     let gathering = gather(alloc, inputs, environment)?;
-    text_of(alloc, gathering, environment)
+    Ok(text_of(alloc, gathering, environment)?)
 }
 
 /// The text of the table of what is demanded in the environment, yet to be written (see
-/// [`Gathering::printout`]). The only fault is `NoMemory`, 60.
+/// [`Gathering::printout`]).
 pub fn printout_of(
     alloc: Global,
     gathering: Gathering,
     environment: &Environment,
-) -> Result<Printout, Fault>
-    ensures text { IfOk result (IsTableText environment.now gathering) }
-    ensures faults { IfErr result (λ fault. fault ≡ no_memory) }
+) -> Result<Printout, AllocError>
+    ensures { IfOk result (IsTableText environment.now gathering) }
 {
-    match gathering.printout(alloc, environment) {
-        Ok(printout) => Ok(printout),
-        Err(_) => Err(Fault::no_memory()),
-    }
+    let printed = gathering.printout(alloc, environment);
+    printed.map_err(|_| AllocError)
 }
 
 /// The text of [`merge_bytes`], yet to be written, with its refusals: so it is never held as a whole.
@@ -77,7 +73,7 @@ pub fn merge_printout(
     ensures refused { IfErr result (RefusesInputs environment.now inputs.now) }
 {
     let gathering = gather(alloc, inputs, environment)?;
-    printout_of(alloc, gathering, environment)
+    Ok(printout_of(alloc, gathering, environment)?)
 }
 
 // What is demanded says this of the version of the package.

@@ -9,7 +9,6 @@ ghost use Rattle.std.specs.Prelude.{
   ◌∷◌,
   ◌<◌,
   All,
-  IfErr,
   IfOk,
   IfSome,
   IsTrue,
@@ -45,7 +44,7 @@ ghost use Rattle.packed_cuts.specs.Way.LeftOut.{
 ghost use Rattle.pep_clause.specs.PackedCut.{right_behind};
 
 use crate::packed_range::PackedRange;
-use pep_clause::{ClauseFault, Cut, PackedCut, Range, VersionSet};
+use pep_clause::{Cut, PackedCut, Range, VersionSet};
 use std::alloc::{AllocError, Global};
 use std::cmp::Ordering;
 use std::marker::Model;
@@ -335,13 +334,12 @@ impl LeftOut {
         Ok(())
     }
 
-    /// Leaves out the versions between two packed cuts, too. The only fault is `NoMemory`; what is left out is then of
-    /// no more use: it may lack what it had.
-    pub fn leave_out(&mut self, alloc: Global, bounds: PackedRange) -> Result<(), ClauseFault>
+    /// Leaves out the versions between two packed cuts, too. Where memory lacks, what is left out is of no more use: it
+    /// may lack what it had.
+    pub fn leave_out(&mut self, alloc: Global, bounds: PackedRange) -> Result<(), AllocError>
         ensures points { OnOk result ((c : Cut) → is_point self.new c
             ≡ (is_point self.old c && is_point (outside bounds.low bounds.high) c)) }
         ensures normal { IsNormal self.new }
-        ensures faults { IfErr result (λ e. e ≡ ClauseFault.NoMemory) }
     {
         // Where a field is read, the invariant is at hand.
         let _ = &self.parts;
@@ -349,17 +347,14 @@ impl LeftOut {
             return Ok(());
         }
         if bounds.high.is_right_behind(bounds.low) {
-            self.leave_single(bounds.low)?;
-            return Ok(());
+            return self.leave_single(bounds.low);
         }
-        self.leave_part(alloc, bounds)?;
-        Ok(())
+        self.leave_part(alloc, bounds)
     }
 
-    /// The versions between two packed cuts that are left over. The only fault is `NoMemory`.
-    pub fn between(self, alloc: Global, bounds: PackedRange) -> Result<VersionSet, ClauseFault>
-        ensures ranges { IfOk result (λ s. s ≡ joined (range bounds.low bounds.high) self) }
-        ensures faults { IfErr result (λ e. e ≡ ClauseFault.NoMemory) }
+    /// The versions between two packed cuts that are left over.
+    pub fn between(self, alloc: Global, bounds: PackedRange) -> Result<VersionSet, AllocError>
+        ensures { IfOk result (λ s. s ≡ joined (range bounds.low bounds.high) self) }
     {
         // Its clauses tell that both cuts are in their one spelling.
         let _ = bounds.low.cmp(&bounds.high);

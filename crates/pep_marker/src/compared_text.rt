@@ -1,6 +1,6 @@
 //! The texts of a comparison.
 
-ghost use Rattle.std.specs.Prelude.{◌≡◌, ◌≢◌, ℕ, IfErr, IfOk, IsTrue, List, MatchOption, Ok};
+ghost use Rattle.std.specs.Prelude.{◌≡◌, ◌≢◌, ℕ, IfOk, IsTrue, List, MatchOption, Ok};
 ghost use Rattle.std.specs.Option.{option_copied, option_map};
 ghost use Rattle.pep_version.specs.Spelling.{Spells};
 ghost use Rattle.pep_version.specs.Version as version;
@@ -14,13 +14,12 @@ ghost use Rattle.pep_marker.specs.Way.Token.{operand_of};
 ghost use Rattle.pep_marker.specs.Way.Value.{IsVersionOf};
 
 use crate::environment::Environment;
-use crate::fault::MarkerFault;
 use crate::normal::Normal;
 use crate::token::Side;
 use crate::value::{Value, version_of};
 use pep_version::Version;
 use specifiers::{Clause, Op};
-use std::alloc::Global;
+use std::alloc::{AllocError, Global};
 
 /// A text of the marker, or the value of a variable, of which more is known.
 #[derive(Clone, Copy)]
@@ -49,10 +48,9 @@ impl<'a> ComparedText<'a> {
         }
     }
 
-    /// The normal form of the text, by the rule of names. The only fault is `NoMemory`, 29.
-    pub(crate) fn normal(self, alloc: Global) -> Result<Normal<'a>, MarkerFault>
-        ensures value { IfOk result (λ n. normal_bytes n ≡ normalized (compared_bytes self.entry)) }
-        ensures faults { IfErr result (λ e. e ≡ MarkerFault.NoMemory) }
+    /// The normal form of the text, by the rule of names.
+    pub(crate) fn normal(self, alloc: Global) -> Result<Normal<'a>, AllocError>
+        ensures { IfOk result (λ n. normal_bytes n ≡ normalized (compared_bytes self.entry)) }
     {
         match self {
             ComparedText::Written(text) => Normal::of(alloc, text),
@@ -70,18 +68,16 @@ impl<'a> ComparedText<'a> {
         }
     }
 
-    /// What the clause says of the text; nothing where it is no version. The only fault is
-    /// `NoMemory`, 29.
+    /// What the clause says of the text; nothing where it is no version.
     pub(crate) fn admitted_by(
         self,
         alloc: Global,
         clause: &Clause,
-    ) -> Result<Option<bool>, MarkerFault>
-        ensures value { IfOk result (λ t. MatchOption t
+    ) -> Result<Option<bool>, AllocError>
+        ensures { IfOk result (λ t. MatchOption t
             ((v : version.Version) → ¬ Spells (compared_bytes self.entry) v)
             (λ b. (v : version.Version) × Spells (compared_bytes self.entry) v
             × (b ≡ admits clause.now v))) }
-        ensures faults { IfErr result (λ e. e ≡ MarkerFault.NoMemory) }
     {
         match self {
             ComparedText::Written(text) => {
@@ -93,17 +89,15 @@ impl<'a> ComparedText<'a> {
     }
 
     /// What the operator says of the version that the text spells, and of what stands in this clause
-    /// of `==`; nothing where it spells none, and where they make no clause. The only fault is
-    /// `NoMemory`, 29.
+    /// of `==`; nothing where it spells none, and where they make no clause.
     pub(crate) fn admitted_as(
         self,
         alloc: Global,
         op: Op,
         clause: &Clause,
-    ) -> Result<Option<bool>, MarkerFault>
-        ensures value { IfOk result (λ t. (text : List ℕ) → ClauseOf Op.Equal text (Ok clause.now) →
+    ) -> Result<Option<bool>, AllocError>
+        ensures { IfOk result (λ t. (text : List ℕ) → ClauseOf Op.Equal text (Ok clause.now) →
             op ≢ Op.Exact → VersionsSay op (compared_bytes self.entry) text t) }
-        ensures faults { IfErr result (λ e. e ≡ MarkerFault.NoMemory) }
     {
         match self {
             ComparedText::Written(text) => {
@@ -133,15 +127,14 @@ fn admitted(
     alloc: Global,
     clause: &Clause,
     version: Option<&Version>,
-) -> Result<Option<bool>, MarkerFault>
-    ensures value { IfOk result (λ t. t ≡ option_map (λ v. admits clause.now v.now) version.entry) }
-    ensures faults { IfErr result (λ e. e ≡ MarkerFault.NoMemory) }
+) -> Result<Option<bool>, AllocError>
+    ensures { IfOk result (λ t. t ≡ option_map (λ v. admits clause.now v.now) version.entry) }
 {
     let Some(version) = version else {
         return Ok(None);
     };
     match clause.admits(alloc, version) {
         Ok(truth) => Ok(Some(truth)),
-        Err(_) => Err(MarkerFault::NoMemory),
+        Err(_) => Err(AllocError),
     }
 }

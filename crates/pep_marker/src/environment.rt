@@ -21,7 +21,7 @@ ghost use Rattle.pep_marker.specs.Way.Slots.{HoldsValues, slot_texts};
 use crate::fault::MarkerFault;
 use crate::slots::{Slots, free_variable, missing};
 use crate::value::Value;
-use std::alloc::Global;
+use std::alloc::{AllocError, Global};
 use std::fmt;
 use std::marker::Model;
 
@@ -148,14 +148,13 @@ impl Environment {
         if let Some(variable) = missing(&slots) {
             return Err(MarkerFault::MissingVariable(variable));
         }
-        Environment::of_slots(alloc, &slots)
+        Ok(Environment::of_slots(alloc, &slots)?)
     }
 
     // The environment of the texts in the slots.
-    fn of_slots(alloc: Global, slots: &Slots<'_>) -> Result<Environment, MarkerFault>
+    fn of_slots(alloc: Global, slots: &Slots<'_>) -> Result<Environment, AllocError>
         requires { HoldsValues slots.now }
-        ensures texts { IfOk result (λ e. e.texts ≡ slot_texts slots.now) }
-        ensures faults { IfErr result (λ e. e ≡ MarkerFault.NoMemory) }
+        ensures { IfOk result (λ e. e.texts ≡ slot_texts slots.now) }
     {
         let mut values = Vec::with_capacity(alloc, slots.len())?;
         for slot in slots {

@@ -11,7 +11,7 @@ use crate::environment::{Environment, NAMED, Variable};
 use crate::fault::MarkerFault;
 use crate::normal::Normal;
 use crate::slots::is_value;
-use std::alloc::Global;
+use std::alloc::{AllocError, Global};
 
 /// The header that stands in front of a text, as [`Environment::header`] writes one, seen from an environment.
 #[derive(Clone, Copy, Debug)]
@@ -39,9 +39,8 @@ fn value_on<'a>(variable: Variable, text: &'a str) -> Option<&'a str>
 }
 
 // Whether a header may have the text of the variable.
-fn is_header_value(alloc: Global, variable: Variable, text: &str) -> Result<bool, MarkerFault>
-    ensures value { IfOk result (λ is. IsTrue is ↔ IsHeaderValue variable text.now) }
-    ensures faults { IfErr result (λ e. e ≡ MarkerFault.NoMemory) }
+fn is_header_value(alloc: Global, variable: Variable, text: &str) -> Result<bool, AllocError>
+    ensures { IfOk result (λ is. IsTrue is ↔ IsHeaderValue variable text.now) }
 {
     if !is_value(text.as_bytes()) {
         return Ok(false);
@@ -58,13 +57,12 @@ fn value_in<'a>(
     alloc: Global,
     variable: Variable,
     text: &'a str,
-) -> Result<Option<(&'a str, &'a str)>, MarkerFault>
-    ensures value { IfOk result (λ found. MatchOption found
+) -> Result<Option<(&'a str, &'a str)>, AllocError>
+    ensures { IfOk result (λ found. MatchOption found
         ((x behind : List ℕ) → IsHeaderValue variable x
         → ¬ (text.now ≡ line (named_line variable x) ++ behind))
         (λ r. IsHeaderValue variable r.0.now
         × (text.now ≡ line (named_line variable r.0.now) ++ r.1.now))) }
-    ensures faults { IfErr result (λ e. e ≡ MarkerFault.NoMemory) }
 {
     let Some((first, behind)) = text.split_once('\n') else {
         return Ok(None);
@@ -111,10 +109,9 @@ impl Environment {
         &self,
         text: &mut String,
         named: &[(Variable, &str)],
-    ) -> Result<(), MarkerFault>
-        ensures ok { OnOk result (string_bytes text.new ≡ string_bytes text.old
+    ) -> Result<(), AllocError>
+        ensures { OnOk result (string_bytes text.new ≡ string_bytes text.old
             ++ written (map (λ r. header_line self.now r.0) named.now)) }
-        ensures faults { IfErr result (λ e. e ≡ MarkerFault.NoMemory) }
     {
         for (variable, _) in named {
             text.push_str("env ")?;
@@ -169,11 +166,10 @@ impl Environment {
         alloc: Global,
         named: &[(Variable, &str)],
         text: &'a str,
-    ) -> Result<HeaderIn<'a>, MarkerFault>
+    ) -> Result<HeaderIn<'a>, AllocError>
         requires { length named.now ≤ length variables }
         ensures found { IfOk result (FindsLines self.now (map (λ r. r.0) named.now) text.now) }
         ensures within { IfOk result (IsWithin (length named.now)) }
-        ensures faults { IfErr result (λ e. e ≡ MarkerFault.NoMemory) }
     {
         let [(variable, _), others @ ..] = named else {
             return Ok(HeaderIn::Own(text));

@@ -24,7 +24,7 @@ use crate::marker::{Marker, Operand, Operator, Tree};
 use crate::token::Side;
 use crate::value::{Value, clause_of};
 use specifiers::Op;
-use std::alloc::Global;
+use std::alloc::{AllocError, Global};
 
 // True, false, or undefined.
 type Truth = Option<bool>;
@@ -53,9 +53,8 @@ impl Marker {
 }
 
 // Both sides of `and` and `or` are evaluated.
-fn tree_truth(alloc: Global, environment: &Environment, tree: &Tree) -> Result<Truth, MarkerFault>
-    ensures value { IfOk result (λ t. Evaluates environment.now (tree_parts tree.now) t) }
-    ensures faults { IfErr result (λ e. e ≡ MarkerFault.NoMemory) }
+fn tree_truth(alloc: Global, environment: &Environment, tree: &Tree) -> Result<Truth, AllocError>
+    ensures { IfOk result (λ t. Evaluates environment.now (tree_parts tree.now) t) }
 {
     match tree {
         Tree::Comparison(left, operator, right) => {
@@ -103,7 +102,7 @@ impl Making for Environment {
     // Not inlined: `tree_truth` calls itself for each comparison of a chain, and all its frames would
     // hold what is wanted here.
     #[inline(never)]
-    fn compared(&self, alloc: Global, it: Comparison<'_>) -> Result<Truth, MarkerFault> {
+    fn compared(&self, alloc: Global, it: Comparison<'_>) -> Result<Truth, AllocError> {
         let left = ComparedText::of(self, it.left);
         let right = ComparedText::of(self, it.right);
         if is_extra(it.left) || is_extra(it.right) {
@@ -118,7 +117,7 @@ impl Making for Environment {
         link: Link,
         left: Truth,
         right: Truth,
-    ) -> Result<Truth, MarkerFault> {
+    ) -> Result<Truth, AllocError> {
         Ok(match link {
             Link::And => and_truth(left, right),
             Link::Or => or_truth(left, right),
@@ -156,10 +155,9 @@ fn normal_truth(
     operator: Operator,
     left: ComparedText<'_>,
     right: ComparedText<'_>,
-) -> Result<Truth, MarkerFault>
-    ensures value { IfOk result (λ t. t ≡ plain_truth (operator_parts operator)
+) -> Result<Truth, AllocError>
+    ensures { IfOk result (λ t. t ≡ plain_truth (operator_parts operator)
         (normalized (compared_bytes left.entry)) (normalized (compared_bytes right.entry))) }
-    ensures faults { IfErr result (λ e. e ≡ MarkerFault.NoMemory) }
 {
     let left = left.normal(alloc)?;
     let right = right.normal(alloc)?;
@@ -172,10 +170,9 @@ fn compared(
     operator: Operator,
     left: ComparedText<'_>,
     right: ComparedText<'_>,
-) -> Result<Truth, MarkerFault>
-    ensures value { IfOk result (λ t. Compares (operator_parts operator)
+) -> Result<Truth, AllocError>
+    ensures { IfOk result (λ t. Compares (operator_parts operator)
         (compared_bytes left.entry) (compared_bytes right.entry) t) }
-    ensures faults { IfErr result (λ e. e ≡ MarkerFault.NoMemory) }
 {
     let Operator::Version(op) = operator else {
         return Ok(plain_truth(operator, left.text(), right.text()));
@@ -192,10 +189,9 @@ fn version_truth(
     op: Op,
     left: ComparedText<'_>,
     right: ComparedText<'_>,
-) -> Result<Option<bool>, MarkerFault>
-    ensures value { IfOk result (VersionsSay op (compared_bytes left.entry)
+) -> Result<Option<bool>, AllocError>
+    ensures { IfOk result (VersionsSay op (compared_bytes left.entry)
         (compared_bytes right.entry)) }
-    ensures faults { IfErr result (λ e. e ≡ MarkerFault.NoMemory) }
 {
     if op == Op::Exact {
         return Ok(None);
@@ -212,10 +208,9 @@ fn written_truth(
     op: Op,
     left: ComparedText<'_>,
     right: &str,
-) -> Result<Option<bool>, MarkerFault>
+) -> Result<Option<bool>, AllocError>
     requires { op ≢ Op.Exact }
-    ensures value { IfOk result (VersionsSay op (compared_bytes left.entry) right.now) }
-    ensures faults { IfErr result (λ e. e ≡ MarkerFault.NoMemory) }
+    ensures { IfOk result (VersionsSay op (compared_bytes left.entry) right.now) }
 {
     if left.is_no_version() {
         return Ok(None);
@@ -232,10 +227,9 @@ fn known_truth(
     op: Op,
     left: ComparedText<'_>,
     right: &Value,
-) -> Result<Option<bool>, MarkerFault>
+) -> Result<Option<bool>, AllocError>
     requires { op ≢ Op.Exact }
-    ensures value { IfOk result (VersionsSay op (compared_bytes left.entry) right.now) }
-    ensures faults { IfErr result (λ e. e ≡ MarkerFault.NoMemory) }
+    ensures { IfOk result (VersionsSay op (compared_bytes left.entry) right.now) }
 {
     match right.matching() {
         Some(clause) => left.admitted_as(alloc, op, clause),

@@ -6,7 +6,7 @@ ghost use Rattle.pep_marker.specs.Judged.{RefusesText, TextSays};
 use crate::chains::made_of;
 use crate::environment::Environment;
 use crate::fault::MarkerFault;
-use std::alloc::Global;
+use std::alloc::{AllocError, Global};
 use std::marker::Model;
 use text_memory::{OfText, TextMemory};
 
@@ -92,15 +92,13 @@ impl<'a> JudgedMarkers<'a> {
         Ok(truth)
     }
 
-    // Remembers the text, and whether it is true. The only fault is `NoMemory`.
-    fn remember(&mut self, alloc: Global, text: &str, truth: bool) -> Result<(), MarkerFault>
+    // Remembers the text, and whether it is true.
+    fn remember(&mut self, alloc: Global, text: &str, truth: bool) -> Result<(), AllocError>
         requires { TextSays self.old text.now (Some truth) }
-        ensures environment { self.new ≡ self.old }
-        ensures faults { IfErr result (λ e. e ≡ MarkerFault.NoMemory) }
+        ensures { self.new ≡ self.old }
     {
         let text = String::from_str(alloc, text)?;
-        self.memory.put(alloc, Judged { text, truth })?;
-        Ok(())
+        self.memory.put(alloc, Judged { text, truth })
     }
 }
 

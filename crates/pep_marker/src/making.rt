@@ -1,13 +1,12 @@
 // What is made of a marker while its tokens are read.
 
-ghost use Rattle.std.specs.Prelude.{◌≡◌, IfErr, IfOk};
+ghost use Rattle.std.specs.Prelude.{IfOk};
 ghost use Rattle.pep_marker.specs.Way.Chains.{Joins};
 ghost use Rattle.pep_marker.specs.Way.Compared.{compared_parts};
 
-use crate::fault::MarkerFault;
 use crate::marker::Operator;
 use crate::token::Side;
-use std::alloc::Global;
+use std::alloc::{AllocError, Global};
 
 // What joins markers: items under `and`, and and-chains under `or`.
 #[derive(Clone, Copy)]
@@ -24,8 +23,7 @@ pub(crate) struct Comparison<'a> {
     pub(crate) right: Side<'a>,
 }
 
-// Makes of a marker what it is read for: its tree, or its truth in an environment. The only fault is
-// `NoMemory`, 29.
+// Makes of a marker what it is read for: its tree, or its truth in an environment.
 pub(crate) trait Making {
     ghost use Rattle.pep_marker.specs.Marker.{MarkerParts};
 
@@ -36,9 +34,8 @@ pub(crate) trait Making {
     ghost means: { Self → Self.Part → MarkerParts → Type 0 };
 
     // What is made of a comparison.
-    fn compared(&self, alloc: Global, it: Comparison<'_>) -> Result<Self::Part, MarkerFault>
-        ensures made { IfOk result (λ p. means self.now p (compared_parts it.entry)) }
-        ensures faults { IfErr result (λ e. e ≡ MarkerFault.NoMemory) };
+    fn compared(&self, alloc: Global, it: Comparison<'_>) -> Result<Self::Part, AllocError>
+        ensures { IfOk result (λ p. means self.now p (compared_parts it.entry)) };
 
     // What is made of two markers under a link, of what is made of each.
     fn joined(
@@ -47,8 +44,7 @@ pub(crate) trait Making {
         link: Link,
         left: Self::Part,
         right: Self::Part,
-    ) -> Result<Self::Part, MarkerFault>
-        ensures made { IfOk result (λ p. Joins link (means self.now left) (means self.now right)
-            (means self.now p)) }
-        ensures faults { IfErr result (λ e. e ≡ MarkerFault.NoMemory) };
+    ) -> Result<Self::Part, AllocError>
+        ensures { IfOk result (λ p. Joins link (means self.now left) (means self.now right)
+            (means self.now p)) };
 }

@@ -1,11 +1,10 @@
 //! The texts of names.
 
-ghost use Rattle.std.specs.Prelude.{◌≡◌, IfErr, IfOk, IfSome};
+ghost use Rattle.std.specs.Prelude.{◌≡◌, IfOk, IfSome};
 ghost use Rattle.pep_marker.specs.NameText.{name_bytes};
 
-use crate::fault::MarkerFault;
 use arrayvec::ArrayString;
-use std::alloc::Global;
+use std::alloc::{AllocError, Global};
 
 /// How many bytes a text has at most that lies in the value.
 pub(crate) const SHORT: usize = 24;
@@ -18,10 +17,9 @@ pub(crate) enum NameText {
 }
 
 impl NameText {
-    /// The text in a value of its own. The only fault is `NoMemory`.
-    pub(crate) fn of(alloc: Global, text: &str) -> Result<NameText, MarkerFault>
-        ensures ok { IfOk result (λ t. name_bytes t ≡ text.now) }
-        ensures faults { IfErr result (λ e. e ≡ MarkerFault.NoMemory) }
+    /// The text in a value of its own.
+    pub(crate) fn of(alloc: Global, text: &str) -> Result<NameText, AllocError>
+        ensures { IfOk result (λ t. name_bytes t ≡ text.now) }
     {
         match NameText::short(text) {
             Some(short) => Ok(short),
@@ -39,10 +37,9 @@ impl NameText {
         }
     }
 
-    /// The same text in another value. The only fault is `NoMemory`.
-    pub(crate) fn copied(&self, alloc: Global) -> Result<NameText, MarkerFault>
-        ensures ok { IfOk result (λ t. name_bytes t ≡ name_bytes self.now) }
-        ensures faults { IfErr result (λ e. e ≡ MarkerFault.NoMemory) }
+    /// The same text in another value.
+    pub(crate) fn copied(&self, alloc: Global) -> Result<NameText, AllocError>
+        ensures { IfOk result (λ t. name_bytes t ≡ name_bytes self.now) }
     {
         match self {
             NameText::Short(text) => Ok(NameText::Short(*text)),

@@ -1,6 +1,6 @@
 // The tokens of a marker (PEP 508, "Grammar").
 
-ghost use Rattle.std.specs.Prelude.{◌≡◌, ◌≤◌, IfOk, IfErr, IsTrue, List, None, drop, false, length};
+ghost use Rattle.std.specs.Prelude.{◌≡◌, ◌≤◌, IfOk, IsTrue, List, None, drop, false, length};
 ghost use Rattle.std.specs.Prelude.{map, option_map, IfSome, MatchOption};
 ghost use Rattle.std.specs.List.{prefix_len};
 ghost use Rattle.std.specs.Str.{IsCharBoundary};
@@ -12,11 +12,10 @@ ghost use Rattle.pep_marker.specs.Way.TokenReading.{in_behind, is_quoted_byte, n
 ghost use Rattle.pep_marker.specs.Way.TokenReading.{operator_token, text_token, word_of, word_token};
 
 use crate::environment::Variable;
-use crate::fault::MarkerFault;
 use crate::forms::form_of;
 use crate::marker::Operator;
 use specifiers::Op;
-use std::alloc::Global;
+use std::alloc::{AllocError, Global};
 use texts::blank_run;
 
 // One side of a comparison: a variable, or what stands between two quotes.
@@ -202,14 +201,13 @@ fn past_blanks(text: &str, place: usize) -> usize
     place + blank_run(rest)
 }
 
-// The tokens of a marker's text. The only fault is `NoMemory`, 29.
-pub(crate) fn tokens_of(alloc: Global, text: &str) -> Result<Tokens<'_>, MarkerFault>
+// The tokens of a marker's text.
+pub(crate) fn tokens_of(alloc: Global, text: &str) -> Result<Tokens<'_>, AllocError>
     ensures whole { IfOk result (λ found. IsTrue found.whole
         → HasTokens text.now (map token_of found.items.items)) }
     ensures stopped { IfOk result (λ found. found.whole ≡ false
         → (ts : List syntax.Token) → ¬ HasTokens text.now ts) }
     ensures front { IfOk result (λ found. BeginsWith text.now (map token_of found.items.items)) }
-    ensures faults { IfErr result (λ e. e ≡ MarkerFault.NoMemory) }
 {
     // a token of a marker has some eight bytes, with the blanks beside it
     let mut items = Vec::with_capacity(alloc, text.len() / 8 + 4)?;

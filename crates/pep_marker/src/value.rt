@@ -1,17 +1,16 @@
 //! What the text of a variable is, found out once for all comparisons.
 
-ghost use Rattle.std.specs.Prelude.{◌≡◌, IfErr, IfOk, MatchOption, Ok};
+ghost use Rattle.std.specs.Prelude.{◌≡◌, IfOk, MatchOption, Ok};
 ghost use Rattle.pep_version.specs.Spelling.{Spells};
 ghost use Rattle.pep_version.specs.Version as version;
 ghost use Rattle.specifiers.specs.Clause as clause;
 ghost use Rattle.specifiers.specs.Clause.{ClauseOf};
 ghost use Rattle.pep_marker.specs.Name.{normalized};
 
-use crate::fault::MarkerFault;
-use crate::name::norm_of;
+use crate::name::normal_text;
 use pep_version::{Version, VersionFault};
 use specifiers::{Clause, ClauseFault, Op};
-use std::alloc::Global;
+use std::alloc::{AllocError, Global};
 use std::marker::Model;
 
 /// The text of a variable, with its normal form, the version that it spells, and the clause of `==`
@@ -39,12 +38,11 @@ impl Model for Value {
 }
 
 impl Value {
-    /// The value with this text. The only fault is `NoMemory`, 29.
-    pub(crate) fn of(alloc: Global, text: &str) -> Result<Value, MarkerFault>
-        ensures value { IfOk result (λ v. v ≡ text.now) }
-        ensures faults { IfErr result (λ e. e ≡ MarkerFault.NoMemory) }
+    /// The value with this text.
+    pub(crate) fn of(alloc: Global, text: &str) -> Result<Value, AllocError>
+        ensures { IfOk result (λ v. v ≡ text.now) }
     {
-        let normal = norm_of(alloc, text)?;
+        let normal = normal_text(alloc, text)?;
         let version = version_of(alloc, text)?;
         let matching = clause_of(alloc, Op::Equal, text)?;
         Ok(Value {
@@ -85,31 +83,29 @@ impl Value {
     }
 }
 
-/// The version that the text spells, if it spells one. The only fault is `NoMemory`, 29.
-pub(crate) fn version_of(alloc: Global, text: &str) -> Result<Option<Version>, MarkerFault>
-    ensures value { IfOk result (λ found. MatchOption found
+/// The version that the text spells, if it spells one.
+pub(crate) fn version_of(alloc: Global, text: &str) -> Result<Option<Version>, AllocError>
+    ensures { IfOk result (λ found. MatchOption found
         ((v : version.Version) → ¬ Spells text.now v) (λ v. Spells text.now v)) }
-    ensures faults { IfErr result (λ e. e ≡ MarkerFault.NoMemory) }
 {
     match Version::read(alloc, text) {
         Ok(version) => Ok(Some(version)),
         Err(fault) => match fault {
-            VersionFault::NoMemory => Err(MarkerFault::NoMemory),
+            VersionFault::NoMemory => Err(AllocError),
             _ => Ok(None),
         },
     }
 }
 
-/// The clause of the operator and the text, if they make one. The only fault is `NoMemory`, 29.
-pub(crate) fn clause_of(alloc: Global, op: Op, text: &str) -> Result<Option<Clause>, MarkerFault>
-    ensures value { IfOk result (λ found. MatchOption found
+/// The clause of the operator and the text, if they make one.
+pub(crate) fn clause_of(alloc: Global, op: Op, text: &str) -> Result<Option<Clause>, AllocError>
+    ensures { IfOk result (λ found. MatchOption found
         ((c : clause.Clause) → ¬ ClauseOf op text.now (Ok c)) (λ c. ClauseOf op text.now (Ok c))) }
-    ensures faults { IfErr result (λ e. e ≡ MarkerFault.NoMemory) }
 {
     match Clause::of(alloc, op, text) {
         Ok(clause) => Ok(Some(clause)),
         Err(fault) => match fault {
-            ClauseFault::NoMemory => Err(MarkerFault::NoMemory),
+            ClauseFault::NoMemory => Err(AllocError),
             _ => Ok(None),
         },
     }

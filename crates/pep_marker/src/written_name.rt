@@ -2,7 +2,6 @@
 
 ghost use Rattle.std.specs.Prelude.{
   ◌≡◌,
-  IfErr,
   IfOk,
   IfSome,
   MatchOption,
@@ -15,9 +14,8 @@ ghost use Rattle.std.specs.Prelude.{
 ghost use Rattle.pep_marker.specs.Name.{IsNormalName, name_of, normalized};
 ghost use Rattle.texts.specs.Bytes.{is_name_byte};
 
-use crate::fault::MarkerFault;
-use crate::name::{Name, has_name_ends, norm_of, normal_run};
-use std::alloc::Global;
+use crate::name::{Name, has_name_ends, normal_run, normal_text};
+use std::alloc::{AllocError, Global};
 use std::marker::Model;
 use texts::name_run;
 
@@ -84,10 +82,9 @@ impl<'a> WrittenName<'a> {
         self.text
     }
 
-    /// The normalized name, in storage of its own. The only fault is `NoMemory`, 29.
-    pub fn kept(&self, alloc: Global) -> Result<Name, MarkerFault>
-        ensures same { IfOk result (λ n. n ≡ self.now) }
-        ensures faults { IfErr result (λ e. e ≡ MarkerFault.NoMemory) }
+    /// The normalized name, in storage of its own.
+    pub fn kept(&self, alloc: Global) -> Result<Name, AllocError>
+        ensures { IfOk result (λ n. n ≡ self.now) }
     {
         if self.is_normal {
             return Name::of_normal(alloc, self.text);
@@ -95,7 +92,7 @@ impl<'a> WrittenName<'a> {
         match Name::normalized_in(self.text.as_bytes()) {
             Some(name) => Ok(name),
             None => {
-                let written = norm_of(alloc, self.text)?;
+                let written = normal_text(alloc, self.text)?;
                 Name::of_normal(alloc, written.as_str())
             }
         }

@@ -1,6 +1,6 @@
 // A sink that keeps the parts of a line.
 
-ghost use Rattle.std.specs.Prelude.{◌≡◌, ◌≤◌, ◌++◌, ◌∷◌, [], IfErr, IfOk, None, OnOk, length};
+ghost use Rattle.std.specs.Prelude.{◌≡◌, ◌≤◌, ◌++◌, ◌∷◌, [], IfOk, None, OnOk, length};
 ghost use Rattle.pep_require.specs.Requirement.{bounds};
 ghost use Rattle.pep_require.specs.Way.Sink.{more_clauses};
 ghost use Rattle.pep_require.specs.View.{target_parts};
@@ -13,7 +13,7 @@ use crate::sink::LineSink;
 use crate::url_text::UrlText;
 use pep_marker::{Marker, Name};
 use specifiers::Clause;
-use std::alloc::Global;
+use std::alloc::{AllocError, Global};
 
 // Keeps the parts of this line.
 #[derive(Drop)]
@@ -106,9 +106,8 @@ fn count_clauses(rest: &str) -> usize {
 // A clause behind which this text stands goes to the end of the list, which has room for all clauses once it has the
 // first.
 #[inline(always)]
-fn keep_clause(clauses: &mut Vec<Clause>, clause: Clause, rest: &str) -> Result<(), RequireFault>
-    ensures items { OnOk result (clauses.new.items ≡ clauses.old.items ++ clause ∷ []) }
-    ensures faults { IfErr result (λ e. e ≡ RequireFault.NoMemory) }
+fn keep_clause(clauses: &mut Vec<Clause>, clause: Clause, rest: &str) -> Result<(), AllocError>
+    ensures { OnOk result (clauses.new.items ≡ clauses.old.items ++ clause ∷ []) }
 {
     if clauses.is_empty() {
         clauses.reserve_exact(count_clauses(rest))?;
@@ -119,10 +118,9 @@ fn keep_clause(clauses: &mut Vec<Clause>, clause: Clause, rest: &str) -> Result<
 
 // A clause behind which this text stands goes to those of the target. A URL has none.
 #[inline(always)]
-fn target_clause(target: &mut Target, clause: Clause, rest: &str) -> Result<(), RequireFault>
-    ensures target { OnOk result (target_parts target.new
+fn target_clause(target: &mut Target, clause: Clause, rest: &str) -> Result<(), AllocError>
+    ensures { OnOk result (target_parts target.new
         ≡ more_clauses (clause ∷ []) (target_parts target.old)) }
-    ensures faults { IfErr result (λ e. e ≡ RequireFault.NoMemory) }
 {
     match target {
         Target::Bounds(clauses) => keep_clause(clauses, clause, rest),
@@ -131,9 +129,8 @@ fn target_clause(target: &mut Target, clause: Clause, rest: &str) -> Result<(), 
 }
 
 // An extra goes to the end of the list, which has room for all extras of the line once it has the first.
-fn keep_extra(names: &mut Vec<Name>, name: Name, line: &str) -> Result<(), RequireFault>
-    ensures items { OnOk result (names.new.items ≡ names.old.items ++ name ∷ []) }
-    ensures faults { IfErr result (λ e. e ≡ RequireFault.NoMemory) }
+fn keep_extra(names: &mut Vec<Name>, name: Name, line: &str) -> Result<(), AllocError>
+    ensures { OnOk result (names.new.items ≡ names.old.items ++ name ∷ []) }
 {
     if names.is_empty() {
         names.reserve_exact(count_extras(line))?;
@@ -153,7 +150,7 @@ impl<'t> LineSink for Keeper<'t> {
         *line = Kept::new(self.alloc);
     }
 
-    fn extra(&mut self, line: &mut Kept, name: Name) -> Result<(), RequireFault> {
+    fn extra(&mut self, line: &mut Kept, name: Name) -> Result<(), AllocError> {
         keep_extra(&mut line.extras, name, self.text)
     }
 

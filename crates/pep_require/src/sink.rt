@@ -22,6 +22,7 @@ ghost use Rattle.pep_require.specs.Way.Sink.{
 
 use crate::fault::RequireFault;
 use pep_marker::Name;
+use std::alloc::AllocError;
 
 /// Takes the parts of a requirement line, in the order of the line, as [`walk`](crate::walk) tells them: the line
 /// begins, each extra, then each clause or else the URL, and the marker.
@@ -46,13 +47,11 @@ pub trait LineSink {
         ensures same { self.new ≡ self.old }
         ensures begun { (name : List ℕ) → holds self.old line.new (with_name name) };
 
-    /// One more extra (PEP 508, "Extras"), in the order of the line, in which one may stand twice. The only refusal is
-    /// lack of memory, 40.
-    fn extra(&mut self, line: &mut Self::Line, name: Name) -> Result<(), RequireFault>
+    /// One more extra (PEP 508, "Extras"), in the order of the line, in which one may stand twice.
+    fn extra(&mut self, line: &mut Self::Line, name: Name) -> Result<(), AllocError>
         ensures same { self.new ≡ self.old }
         ensures ok { OnOk result (Adds (holds self.old line.old) (holds self.old line.new)
-            (with_extra name)) }
-        ensures faults { IfErr result (λ e. e ≡ RequireFault.NoMemory) };
+            (with_extra name)) };
 
     /// One more clause, the one in front of the text (PEP 508, "Grammar"), with the longest run of characters that it
     /// may hold. What stands behind it is given back, without white space before that. The refusals are `BadClause`,

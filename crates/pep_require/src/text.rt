@@ -1,6 +1,6 @@
 // How a requirement is written.
 
-ghost use Rattle.std.specs.Prelude.{◌≡◌, ◌++◌, IfErr, OnOk, map, string_bytes};
+ghost use Rattle.std.specs.Prelude.{◌≡◌, ◌++◌, OnOk, map, string_bytes};
 ghost use Rattle.std.specs.Option.{option_map};
 ghost use Rattle.std.specs.List.{join_with_byte};
 ghost use Rattle.specifiers.specs.Clause.{clause_text};
@@ -17,7 +17,7 @@ use crate::fault::RequireFault;
 use crate::requirement::{Requirement, Target};
 use pep_marker::{Marker, Name};
 use specifiers::Clause;
-use std::alloc::Global;
+use std::alloc::{AllocError, Global};
 
 impl Requirement {
     ghost use Rattle.std.specs.Prelude.{◌≡◌, IfErr, IfOk, string_bytes};
@@ -40,10 +40,9 @@ impl Requirement {
     }
 }
 
-fn push_extras(text: &mut String, extras: &[Name]) -> Result<(), RequireFault>
-    ensures text { OnOk result (string_bytes text.new
+fn push_extras(text: &mut String, extras: &[Name]) -> Result<(), AllocError>
+    ensures { OnOk result (string_bytes text.new
         ≡ string_bytes text.old ++ extras_text extras.now) }
-    ensures faults { IfErr result (λ e. e ≡ RequireFault.NoMemory) }
 {
     let Some((first, rest)) = extras.split_first() else {
         return Ok(());
@@ -55,10 +54,9 @@ fn push_extras(text: &mut String, extras: &[Name]) -> Result<(), RequireFault>
     Ok(())
 }
 
-fn push_other_extras(text: &mut String, extras: &[Name]) -> Result<(), RequireFault>
-    ensures text { OnOk result (string_bytes text.new
+fn push_other_extras(text: &mut String, extras: &[Name]) -> Result<(), AllocError>
+    ensures { OnOk result (string_bytes text.new
         ≡ string_bytes text.old ++ behind_commas extras.now) }
-    ensures faults { IfErr result (λ e. e ≡ RequireFault.NoMemory) }
 {
     for name in extras {
         text.push_str(",")?;
@@ -67,20 +65,17 @@ fn push_other_extras(text: &mut String, extras: &[Name]) -> Result<(), RequireFa
     Ok(())
 }
 
-fn push_clause(alloc: Global, text: &mut String, clause: &Clause) -> Result<(), RequireFault>
-    ensures text { OnOk result (string_bytes text.new
+fn push_clause(alloc: Global, text: &mut String, clause: &Clause) -> Result<(), AllocError>
+    ensures { OnOk result (string_bytes text.new
         ≡ string_bytes text.old ++ clause_text clause.now) }
-    ensures faults { IfErr result (λ e. e ≡ RequireFault.NoMemory) }
 {
-    let written = clause.text(alloc)?;
-    text.push_str(written.as_str())?;
-    Ok(())
+    let written = clause.text(alloc).map_err(|_| AllocError)?;
+    text.push_str(written.as_str())
 }
 
-fn push_clauses(alloc: Global, text: &mut String, clauses: &[Clause]) -> Result<(), RequireFault>
-    ensures text { OnOk result (string_bytes text.new
+fn push_clauses(alloc: Global, text: &mut String, clauses: &[Clause]) -> Result<(), AllocError>
+    ensures { OnOk result (string_bytes text.new
         ≡ string_bytes text.old ++ join_with_byte 44 (map clause_text clauses.now)) }
-    ensures faults { IfErr result (λ e. e ≡ RequireFault.NoMemory) }
 {
     let Some((first, rest)) = clauses.split_first() else {
         return Ok(());
@@ -94,10 +89,9 @@ fn push_other_clauses(
     alloc: Global,
     text: &mut String,
     clauses: &[Clause],
-) -> Result<(), RequireFault>
-    ensures text { OnOk result (string_bytes text.new
+) -> Result<(), AllocError>
+    ensures { OnOk result (string_bytes text.new
         ≡ string_bytes text.old ++ behind_commas (map clause_text clauses.now)) }
-    ensures faults { IfErr result (λ e. e ≡ RequireFault.NoMemory) }
 {
     for clause in clauses {
         text.push_str(",")?;
@@ -106,35 +100,27 @@ fn push_other_clauses(
     Ok(())
 }
 
-fn push_target(alloc: Global, text: &mut String, target: &Target) -> Result<(), RequireFault>
-    ensures text { OnOk result (string_bytes text.new
+fn push_target(alloc: Global, text: &mut String, target: &Target) -> Result<(), AllocError>
+    ensures { OnOk result (string_bytes text.new
         ≡ string_bytes text.old ++ target_text (target_parts target.now)) }
-    ensures faults { IfErr result (λ e. e ≡ RequireFault.NoMemory) }
 {
     match target {
         Target::Bounds(clauses) => push_clauses(alloc, text, clauses.as_slice()),
         Target::Direct(url) => {
             text.push_str(" @ ")?;
-            text.push_str(url.written())?;
-            Ok(())
+            text.push_str(url.written())
         }
     }
 }
 
-fn push_marker(
-    alloc: Global,
-    text: &mut String,
-    marker: &Option<Marker>,
-) -> Result<(), RequireFault>
-    ensures text { OnOk result (string_bytes text.new
+fn push_marker(alloc: Global, text: &mut String, marker: &Option<Marker>) -> Result<(), AllocError>
+    ensures { OnOk result (string_bytes text.new
         ≡ string_bytes text.old ++ ending_text (option_map marker_parts marker.now)) }
-    ensures faults { IfErr result (λ e. e ≡ RequireFault.NoMemory) }
 {
     let Some(marker) = marker else {
         return Ok(());
     };
-    let written = marker.text(alloc)?;
+    let written = marker.text(alloc).map_err(|_| AllocError)?;
     text.push_str(" ; ")?;
-    text.push_str(written.as_str())?;
-    Ok(())
+    text.push_str(written.as_str())
 }

@@ -230,9 +230,7 @@ impl Gathered {
     fn other_place(&mut self, alloc: Global, name: &WrittenName) -> Result<usize, AllocError>
         ensures { IfOk result (OpensPlace self.old name.now self.new) }
     {
-        let Ok(kept) = name.kept(alloc) else {
-            return Err(AllocError);
-        };
+        let kept = name.kept(alloc)?;
         if kept.text() == name.text() {
             return self.begin(alloc, kept);
         }
@@ -282,9 +280,7 @@ impl Gathered {
         // Its clause tells that the name is in its normalized form.
         let _ = name.text();
         let mut demands = PackageDemands::bare();
-        let Ok(()) = demands.join(alloc, entry) else {
-            return Err(AllocError);
-        };
+        demands.join(alloc, entry)?;
         self.push(alloc, name, demands)?;
         Ok(())
     }

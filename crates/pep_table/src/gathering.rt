@@ -138,7 +138,7 @@ impl Gathering {
     {
         let name = requirement.name().written();
         let mut line = LineDemands::of(alloc, requirement)?;
-        self.take_line(alloc, &name, &mut line)
+        Ok(self.take_line(alloc, &name, &mut line)?)
     }
 
     /// What is demanded so far and, if it applies in the environment, by the requirement. A marker
@@ -204,18 +204,17 @@ impl Gathering {
     }
 
     /// What is demanded so far, and of one package by a line, whose sets are moved: the line may be anything until it
-    /// is cleared. The only fault is `NoMemory`, 42.
+    /// is cleared.
     #[inline(always)]
     pub fn take_line(
         self,
         alloc: Global,
         name: &WrittenName,
         line: &mut LineDemands,
-    ) -> Result<Gathering, TableFault>
+    ) -> Result<Gathering, AllocError>
         ensures joined { IfOk result (λ new. JoinsTables self ((name.now, line.old) ∷ []) new) }
         ensures taken { IfOk result (λ new. (r : RequirementParts) → r.name ≡ name.now
             → DemandsEntry r line.old → TakesRequirement self r new) }
-        ensures faults { IfErr result (λ e. e ≡ TableFault.NoMemory) }
     {
         // Its clause tells that the name is in its normalized form.
         let _ = name.text();

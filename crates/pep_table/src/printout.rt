@@ -34,10 +34,8 @@ impl Row {
         ensures same { IfOk result (λ row. row.finished ≡ gathered) }
         ensures shows { IfOk result (λ row. Shows row.finished row.verdict) }
     {
-        let Ok(finished) = gathered.finish(alloc) else {
-            return Err(AllocError);
-        };
-        let verdict = finished.verdict(alloc).map_err(|_| AllocError)?;
+        let finished = gathered.finish(alloc)?;
+        let verdict = finished.verdict(alloc)?;
         Ok(Row {
             name,
             finished,

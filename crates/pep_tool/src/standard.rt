@@ -1,12 +1,10 @@
 //! The environment of the program where none is handed in.
 
-ghost use Rattle.std.specs.Prelude.{◌≡◌, IfErr, IfOk};
-ghost use Rattle.inputs.specs.Refusal.{no_memory};
+ghost use Rattle.std.specs.Prelude.{◌≡◌, IfOk};
 ghost use Rattle.pep_tool.specs.Standard.{standard_environment};
 
-use faults::Fault;
 use pep_marker::{Environment, MarkerFault};
-use std::alloc::Global;
+use std::alloc::{AllocError, Global};
 
 // Its variables and their texts.
 const STANDARD: [(&str, &str); 11] = [
@@ -24,13 +22,12 @@ const STANDARD: [(&str, &str); 11] = [
 ];
 
 /// CPython 3.9.18 on a machine with Linux and an x86-64 processor, and no extra.
-pub(crate) fn standard_environment(alloc: Global) -> Result<Environment, Fault>
-    ensures environment { IfOk result (λ e. e ≡ standard_environment) }
-    ensures faults { IfErr result (λ fault. fault ≡ no_memory) }
+pub(crate) fn standard_environment(alloc: Global) -> Result<Environment, AllocError>
+    ensures { IfOk result (λ e. e ≡ standard_environment) }
 {
     match Environment::of(alloc, &STANDARD) {
         Ok(environment) => Ok(environment),
-        Err(MarkerFault::NoMemory) => Err(Fault::no_memory()),
+        Err(MarkerFault::NoMemory) => Err(AllocError),
         Err(_) => unreachable!(),
     }
 }

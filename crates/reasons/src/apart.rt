@@ -18,7 +18,7 @@ ghost use Rattle.reasons.specs.View.{claim_parts};
 
 use crate::claims::Claim;
 use demands::Entry;
-use pep_clause::{Clause, ClauseFault, Cut, Op, Range, VersionSet};
+use pep_clause::{Clause, Cut, Op, Range, VersionSet};
 use pep_require::Target;
 use std::alloc::{AllocError, Global};
 
@@ -139,14 +139,16 @@ fn clause_is_apart(
     clause: &Clause,
     points: &[Point],
     own: usize,
-) -> Result<bool, ClauseFault>
+) -> Result<bool, AllocError>
     requires rising { AreRising points.now }
     ensures { IfOk result (λ b. IsTrue b → IsClauseApart clause.now points.now own) }
 {
     if clause.op() == Op::Exact {
         return Ok(false);
     }
-    let versions = VersionSet::of(alloc, clause)?;
+    let Ok(versions) = VersionSet::of(alloc, clause) else {
+        return Err(AllocError);
+    };
     Ok(has_others(versions.ranges(), points, own))
 }
 
@@ -156,7 +158,7 @@ fn clauses_are_apart(
     clauses: &[Clause],
     points: &[Point],
     own: usize,
-) -> Result<bool, ClauseFault>
+) -> Result<bool, AllocError>
     requires rising { AreRising points.now }
     ensures { IfOk result (λ b. IsTrue b → AreClausesApart clauses.now points.now own) }
 {
@@ -185,7 +187,7 @@ fn admits_others(
     claim: &Claim,
     points: &[Point],
     own: usize,
-) -> Result<bool, ClauseFault>
+) -> Result<bool, AllocError>
     requires rising { AreRising points.now }
     ensures { IfOk result (λ b. IsTrue b → AdmitsOthers (claim_parts claim.now) points.now own) }
 {
@@ -205,7 +207,7 @@ pub(crate) fn is_apart(
     points: &[Point],
     at: usize,
     own: usize,
-) -> Result<bool, ClauseFault>
+) -> Result<bool, AllocError>
     requires rising { AreRising points.now }
     ensures { IfOk result (λ b. IsTrue b → IsApart (claim_parts claim.now) points.now own) }
 {

@@ -1,15 +1,14 @@
 //! Packages that are asked about, with the claims on them that were found.
 
-ghost use Rattle.std.specs.Prelude.{◌≡◌, ◌↔◌, Contains, IfErr, IfOk, IsTrue, map};
+ghost use Rattle.std.specs.Prelude.{◌≡◌, ◌↔◌, Contains, IfOk, IsTrue, map};
 ghost use Rattle.pep_require.specs.Requirement.{IsAscending};
-ghost use Rattle.inputs.specs.Refusal.{no_memory};
 ghost use Rattle.reasons.specs.Way.Asked.{IsIndexOf, asked_parts, names_in, with_claim};
 ghost use Rattle.reasons.specs.View.{placed_parts};
 
 use crate::claims::PlacedClaim;
 use demands::Verdict;
-use faults::Fault;
 use pep_marker::Name;
+use std::alloc::AllocError;
 
 /// A package that is asked about: its name, its verdict, and the claims on it that were found so far.
 #[derive(Drop)]
@@ -39,11 +38,10 @@ pub(crate) fn is_asked(asked: &[Asked], name: &Name) -> bool
 }
 
 /// The same packages, with one claim more where its package is asked about.
-pub(crate) fn with_claim(asked: Vec<Asked>, claim: PlacedClaim) -> Result<Vec<Asked>, Fault>
+pub(crate) fn with_claim(asked: Vec<Asked>, claim: PlacedClaim) -> Result<Vec<Asked>, AllocError>
     requires { IsAscending (names_in asked.items) }
-    ensures claims { IfOk result (λ new. map asked_parts new.items
+    ensures { IfOk result (λ new. map asked_parts new.items
         ≡ map (with_claim (placed_parts claim)) (map asked_parts asked.items)) }
-    ensures faults { IfErr result (λ fault. fault ≡ no_memory) }
 {
     let mut asked = asked;
     let Some(index) = index_of(asked.as_slice(), claim.claim.name()) else {

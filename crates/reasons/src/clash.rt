@@ -11,12 +11,11 @@
 //! first one, and then the first half beside those that were found in the second. What isn't needed falls away with
 //! its half. So two claims are divided if a pair was hinted at and is enough, and all claims if no hint was.
 
-ghost use Rattle.std.specs.Prelude.{◌≡◌, ◌++◌, IfErr, IfOk, IsTrue, List, [], length, map};
+ghost use Rattle.std.specs.Prelude.{◌≡◌, ◌++◌, IfOk, IsTrue, List, [], length, map};
 ghost use Rattle.demands.specs.Gathering.{bare_entry};
 ghost use Rattle.demands.specs.Join.{JoinsEntries};
 ghost use Rattle.demands.specs.Table.{IsValidEntry};
 ghost use Rattle.demands.specs.Verdict.{IsVerdict};
-ghost use Rattle.faults.specs.NoMemory.{no_memory};
 ghost use Rattle.reasons.specs.Way.Apart.{AreApart, AreRising};
 ghost use Rattle.reasons.specs.Claims.{AreAmong, AreInOrder, Claimed, PlacedParts};
 ghost use Rattle.reasons.specs.Clash.{IsPartThatClashes};
@@ -41,11 +40,9 @@ ghost use Rattle.reasons.specs.View.{claim_parts, claims_at, placed_parts};
 use crate::apart::{Point, are_rising, is_apart, turns_of};
 use crate::claims::{Claim, PlacedClaim};
 use crate::likely::{Hint, clashing_urls, clashing_versions};
-use demands::{Entry, PackageDemands, Sorted, TableFault, Verdict};
-use faults::Fault;
-use pep_clause::ClauseFault;
+use demands::{Entry, PackageDemands, Sorted, Verdict};
 use pep_marker::Name;
-use std::alloc::Global;
+use std::alloc::{AllocError, Global};
 
 // What is demanded so far of the name, and by the claim.
 fn take_claim(
@@ -53,7 +50,7 @@ fn take_claim(
     demands: PackageDemands,
     claim: &Claim,
     name: &Name,
-) -> Result<PackageDemands, TableFault>
+) -> Result<PackageDemands, AllocError>
     ensures { IfOk result (TakesClaim name.now demands (claim_parts claim.now)) }
 {
     if *claim.name() != *name {
@@ -62,7 +59,10 @@ fn take_claim(
     let mut demands = demands;
     match claim {
         Claim::Required(requirement) => demands.take(alloc, requirement)?,
-        Claim::Entered(_, entry) => demands.join(alloc, entry.copied(alloc)?)?,
+        Claim::Entered(_, entry) => demands.join(
+            alloc,
+            entry.copied(alloc).map_err(|_| AllocError)?,
+        )?,
     }
     Ok(demands)
 }
@@ -74,7 +74,7 @@ fn take_found(
     claims: &[PlacedClaim],
     found: &[usize],
     name: &Name,
-) -> Result<PackageDemands, TableFault>
+) -> Result<PackageDemands, AllocError>
     requires { AreWithin (map placed_parts claims.now) found.now }
     ensures { IfOk result (TakesClaims name.now demands
         (claims_at (map placed_parts claims.now) found.now)) }
@@ -87,20 +87,24 @@ fn take_found(
 }
 
 // A copy of the entry without its extras, by which no verdict goes.
-fn copy_without_extras(alloc: Global, entry: &Entry) -> Result<Entry, TableFault>
+fn copy_without_extras(alloc: Global, entry: &Entry) -> Result<Entry, AllocError>
     ensures same { IfOk result (λ e. e ≡ without_extras entry.now) }
     ensures valid { IsValidEntry (without_extras entry.now) }
 {
-    let urls = entry.urls().copied(alloc)?;
-    let texts = entry.texts().copied(alloc)?;
-    match entry.versions().copied(alloc) {
-        Ok(versions) => Ok(Entry::of(Sorted::new(alloc), urls, texts, versions)),
-        Err(_) => Err(TableFault::NoMemory),
-    }
+    let Ok(urls) = entry.urls().copied(alloc) else {
+        return Err(AllocError);
+    };
+    let Ok(texts) = entry.texts().copied(alloc) else {
+        return Err(AllocError);
+    };
+    let Ok(versions) = entry.versions().copied(alloc) else {
+        return Err(AllocError);
+    };
+    Ok(Entry::of(Sorted::new(alloc), urls, texts, versions))
 }
 
 // What the entry demands without its extras, to take more to it.
-fn begun(alloc: Global, entry: &Entry) -> Result<PackageDemands, TableFault>
+fn begun(alloc: Global, entry: &Entry) -> Result<PackageDemands, AllocError>
     ensures joined { IfOk result (JoinsEntries bare_entry (without_extras entry.now)) }
     ensures valid { IsValidEntry (without_extras entry.now) }
 {
@@ -110,14 +114,14 @@ fn begun(alloc: Global, entry: &Entry) -> Result<PackageDemands, TableFault>
 }
 
 // The entry of what no claims demand.
-fn bare_entry(alloc: Global) -> Result<Entry, TableFault>
+fn bare_entry(alloc: Global) -> Result<Entry, AllocError>
     ensures { IfOk result (λ e. e ≡ bare_entry) }
 {
     PackageDemands::bare().entry(alloc)
 }
 
 // All indices below the number.
-fn indices_below(alloc: Global, count: usize) -> Result<Vec<usize>, TableFault>
+fn indices_below(alloc: Global, count: usize) -> Result<Vec<usize>, AllocError>
     ensures { IfOk result (λ all. all.items ≡ indices count) }
 {
     let mut all = Vec::new(alloc);
@@ -139,7 +143,7 @@ struct Trial<'a> {
 
 impl Trial<'_> {
     // What is demanded by claims for which the entry stands, and by those at these indices.
-    fn with_more(&self, entry: &Entry, more: &[usize]) -> Result<Entry, TableFault>
+    fn with_more(&self, entry: &Entry, more: &[usize]) -> Result<Entry, AllocError>
         requires within { AreWithin (map placed_parts self.now.claims.now) more.now }
         ensures { IfOk result (λ both. (some : List PlacedParts)
             → StandsFor self.now.name.now some entry.now
@@ -152,7 +156,7 @@ impl Trial<'_> {
     }
 
     // Whether claims for which the entry stands are enough for the verdict.
-    fn is_enough(&self, entry: &Entry) -> Result<bool, TableFault>
+    fn is_enough(&self, entry: &Entry) -> Result<bool, AllocError>
         requires verdict { IsVerdict (Claimed (map placed_parts self.now.claims.now)
             self.now.name.now) self.now.verdict }
         ensures { IfOk result (λ b. (some : List PlacedParts)
@@ -162,12 +166,14 @@ impl Trial<'_> {
     {
         // Its clause tells that the entry is valid.
         let _ = entry.versions();
-        let verdict = entry.verdict(self.alloc)?;
+        let Ok(verdict) = entry.verdict(self.alloc) else {
+            return Err(AllocError);
+        };
         Ok(verdict == self.verdict)
     }
 
     // Whether the claims at these indices are enough for the verdict.
-    fn are_enough(&self, few: &[usize]) -> Result<bool, TableFault>
+    fn are_enough(&self, few: &[usize]) -> Result<bool, AllocError>
         requires within { AreWithin (map placed_parts self.now.claims.now) few.now }
         requires verdict { IsVerdict (Claimed (map placed_parts self.now.claims.now)
             self.now.name.now) self.now.verdict }
@@ -183,7 +189,7 @@ impl Trial<'_> {
     }
 
     // Those of the claims at these indices that are needed beside claims for which the entry stands.
-    fn needed(&self, entry: &Entry, picked: &[usize]) -> Result<Vec<usize>, TableFault>
+    fn needed(&self, entry: &Entry, picked: &[usize]) -> Result<Vec<usize>, AllocError>
         requires within { AreWithin (map placed_parts self.now.claims.now) picked.now }
         requires verdict { IsVerdict (Claimed (map placed_parts self.now.claims.now)
             self.now.name.now) self.now.verdict }
@@ -216,7 +222,7 @@ impl Trial<'_> {
     }
 
     // Some of the claims at these indices, which are enough: they are enough too, and each of them is needed.
-    fn least_of(&self, picked: &[usize]) -> Result<Vec<usize>, TableFault>
+    fn least_of(&self, picked: &[usize]) -> Result<Vec<usize>, AllocError>
         requires enough { AreEnough self.now.name.now self.now.verdict
             (map placed_parts self.now.claims.now) picked.now }
         requires verdict { IsVerdict (Claimed (map placed_parts self.now.claims.now)
@@ -233,20 +239,16 @@ impl Trial<'_> {
     }
 
     // A few claims that may be enough, and points. No clause says that they are.
-    fn hint(&self) -> Result<Hint, TableFault> {
-        let hint = if self.verdict == Verdict::Conflict {
+    fn hint(&self) -> Result<Hint, AllocError> {
+        if self.verdict == Verdict::Conflict {
             clashing_urls(self.alloc, self.claims)
         } else {
             clashing_versions(self.alloc, self.claims)
-        };
-        match hint {
-            Ok(hint) => Ok(hint),
-            Err(_) => Err(TableFault::NoMemory),
         }
     }
 
     // Those of the indices that are within the claims, where each is above those before it.
-    fn rising(&self, hinted: &[usize]) -> Result<Vec<usize>, TableFault>
+    fn rising(&self, hinted: &[usize]) -> Result<Vec<usize>, AllocError>
         ensures within { IfOk result (λ few.
             AreWithin (map placed_parts self.now.claims.now) few.items) }
         ensures rising { IfOk result (λ few. RiseFrom 0 few.items) }
@@ -264,7 +266,7 @@ impl Trial<'_> {
     }
 
     // The indices of claims that are enough: those that are hinted at, or all.
-    fn enough(&self, hinted: &[usize]) -> Result<Vec<usize>, TableFault>
+    fn enough(&self, hinted: &[usize]) -> Result<Vec<usize>, AllocError>
         requires verdict { IsVerdict (Claimed (map placed_parts self.now.claims.now)
             self.now.name.now) self.now.verdict }
         ensures { IfOk result (λ picked. AreEnough self.now.name.now self.now.verdict
@@ -283,7 +285,7 @@ impl Trial<'_> {
         picked: &[usize],
         points: &[Point],
         turns: &[usize],
-    ) -> Result<bool, ClauseFault>
+    ) -> Result<bool, AllocError>
         requires within { AreWithin (map placed_parts self.now.claims.now) picked.now }
         requires rising { AreRising points.now }
         ensures { IfOk result (λ b. IsTrue b → AreApart
@@ -300,7 +302,7 @@ impl Trial<'_> {
     }
 
     // Whether the points tell that each of the claims at these indices is needed.
-    fn are_needed(&self, picked: &[usize], points: &[Point]) -> Result<bool, TableFault>
+    fn are_needed(&self, picked: &[usize], points: &[Point]) -> Result<bool, AllocError>
         requires within { AreWithin (map placed_parts self.now.claims.now) picked.now }
         ensures { IfOk result (λ b. IsTrue b → AreNeeded self.now.name.now self.now.verdict []
             (claims_at (map placed_parts self.now.claims.now) picked.now)) }
@@ -309,14 +311,11 @@ impl Trial<'_> {
             return Ok(false);
         }
         let turns = turns_of(self.alloc, points, picked.len())?;
-        match self.are_apart(picked, points, turns.as_slice()) {
-            Ok(apart) => Ok(apart),
-            Err(_) => Err(TableFault::NoMemory),
-        }
+        self.are_apart(picked, points, turns.as_slice())
     }
 
     // The indices of claims that clash.
-    fn found(&self) -> Result<Vec<usize>, TableFault>
+    fn found(&self) -> Result<Vec<usize>, AllocError>
         requires verdict { IsVerdict (Claimed (map placed_parts self.now.claims.now)
             self.now.name.now) self.now.verdict }
         ensures { IfOk result (λ found. AreFound self.now.name.now self.now.verdict
@@ -331,19 +330,17 @@ impl Trial<'_> {
     }
 }
 
-/// Which of the claims on a name clash, by their indices: none where the verdict is open. The only
-/// fault is lack of memory.
+/// Which of the claims on a name clash, by their indices: none where the verdict is open.
 pub(crate) fn clash_of(
     alloc: Global,
     claims: &[PlacedClaim],
     name: &Name,
     verdict: Verdict,
-) -> Result<Vec<usize>, Fault>
+) -> Result<Vec<usize>, AllocError>
     requires order { AreInOrder (map placed_parts claims.now) }
     requires verdict { IsVerdict (Claimed (map placed_parts claims.now) name.now) verdict }
-    ensures clash { IfOk result (λ clash. IsPartThatClashes name.now verdict
+    ensures { IfOk result (λ clash. IsPartThatClashes name.now verdict
         (map placed_parts claims.now) (claims_at (map placed_parts claims.now) clash.items)) }
-    ensures faults { IfErr result (λ fault. fault ≡ no_memory) }
 {
     if verdict == Verdict::Possible {
         return Ok(Vec::new(alloc));
@@ -354,8 +351,5 @@ pub(crate) fn clash_of(
         name,
         verdict,
     };
-    match trial.found() {
-        Ok(found) => Ok(found),
-        Err(_) => Err(Fault::no_memory()),
-    }
+    trial.found()
 }

@@ -1,7 +1,7 @@
 //! What claims leave out, between cuts that are numbered in order.
 
 use crate::cover::Part;
-use pep_clause::{Clause, ClauseFault, Cut, Range, VersionSet};
+use pep_clause::{Clause, Cut, Range, VersionSet};
 use std::alloc::{AllocError, Global};
 
 // Where a part begins or ends.
@@ -130,12 +130,12 @@ impl Numbered {
     }
 
     /// The cut with the number.
-    pub(crate) fn cut(&self, alloc: Global, number: usize) -> Result<Option<Cut>, ClauseFault> {
+    pub(crate) fn cut(&self, alloc: Global, number: usize) -> Result<Option<Cut>, AllocError> {
         let Some(&index) = self.cuts.get(number) else {
             return Ok(None);
         };
         match self.ends.get(index) {
-            Some(end) => Ok(Some(end.cut.copied(alloc)?)),
+            Some(end) => Ok(Some(end.cut.copied(alloc).map_err(|_| AllocError)?)),
             None => Ok(None),
         }
     }
@@ -147,14 +147,14 @@ pub(crate) fn push_others(
     ends: &mut Ends,
     claim: usize,
     ranges: &[Range],
-) -> Result<(), ClauseFault> {
+) -> Result<(), AllocError> {
     let mut low = Cut::least();
     for range in ranges {
-        ends.push(claim, low, range.low().copied(alloc)?)?;
-        low = range.high().copied(alloc)?;
+        let end = range.low().copied(alloc).map_err(|_| AllocError)?;
+        ends.push(claim, low, end)?;
+        low = range.high().copied(alloc).map_err(|_| AllocError)?;
     }
-    ends.push(claim, low, Cut::end())?;
-    Ok(())
+    ends.push(claim, low, Cut::end())
 }
 
 /// Puts what the clause leaves out behind the rest.
@@ -163,7 +163,7 @@ pub(crate) fn push_cuts(
     ends: &mut Ends,
     claim: usize,
     clause: &Clause,
-) -> Result<(), ClauseFault> {
-    let versions = VersionSet::of(alloc, clause)?;
+) -> Result<(), AllocError> {
+    let versions = VersionSet::of(alloc, clause).map_err(|_| AllocError)?;
     push_others(alloc, ends, claim, versions.ranges())
 }

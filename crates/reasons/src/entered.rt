@@ -1,9 +1,8 @@
 //! Claims of printed tables: their entries.
 
-ghost use Rattle.std.specs.Prelude.{◌≡◌, ◌+◌, ◌≤◌, None, IfErr, IfOk, map};
+ghost use Rattle.std.specs.Prelude.{◌≡◌, ◌+◌, ◌≤◌, None, IfOk, map};
 ghost use Rattle.pep_require.specs.Requirement.{IsAscending};
 ghost use Rattle.pep_table.specs.Refused.{feeds};
-ghost use Rattle.inputs.specs.Refusal.{no_memory};
 ghost use Rattle.inputs.specs.TableFiles.{IsTableFile};
 ghost use Rattle.inputs.specs.declared.input.Kind.TheVariants as kind;
 ghost use Rattle.reasons.specs.Way.Asked.{AllGain, asked_parts, names_in, with_claim};
@@ -16,10 +15,9 @@ use crate::asked::{Asked, is_asked, with_claim};
 use crate::claims::{Claim, PlacedClaim};
 use demands::Entry;
 use documents::file_text;
-use faults::Fault;
 use pep_marker::{Environment, Name};
 use pep_table::Table;
-use std::alloc::Global;
+use std::alloc::{AllocError, Global};
 
 // How many lines the bytes have that end.
 fn feeds(bytes: &[u8]) -> usize
@@ -48,24 +46,23 @@ fn with_entry(
     number: usize,
     name: &Name,
     entry: &Entry,
-) -> Result<Vec<Asked>, Fault>
+) -> Result<Vec<Asked>, AllocError>
     requires { IsAscending (names_in asked.items) }
-    ensures claims { IfOk result (λ new. map asked_parts new.items
+    ensures { IfOk result (λ new. map asked_parts new.items
         ≡ map (with_claim (record {
           input = input;
           number = number;
           claim = entered name.now entry.now;
         })) (map asked_parts asked.items)) }
-    ensures faults { IfErr result (λ fault. fault ≡ no_memory) }
 {
     if !is_asked(asked.as_slice(), name) {
         return Ok(asked);
     }
     let Ok(name) = name.copied(alloc) else {
-        return Err(Fault::no_memory());
+        return Err(AllocError);
     };
     let Ok(entry) = entry.copied(alloc) else {
-        return Err(Fault::no_memory());
+        return Err(AllocError);
     };
     let claim = Claim::Entered(name, entry);
     let number = number as u64;
@@ -88,13 +85,12 @@ fn with_entries(
     environment: &Environment,
     entries: &[(Name, Entry)],
     asked: Vec<Asked>,
-) -> Result<Vec<Asked>, Fault>
+) -> Result<Vec<Asked>, AllocError>
     requires order { IsAscending (names_in asked.items) }
     requires file { IsTableFile environment.now bytes.now entries.now }
-    ensures claims { IfOk result (λ new. AllGain
+    ensures { IfOk result (λ new. AllGain
         (AreClaimsBy (StandsIn environment.now kind.Table None bytes.now) input)
         asked.items new.items) }
-    ensures faults { IfErr result (λ fault. fault ≡ no_memory) }
 {
     let mut asked = asked;
     let mut number = feeds(bytes) + 1;
@@ -116,18 +112,17 @@ pub(crate) fn table_claims(
     input: u64,
     environment: &Environment,
     asked: Vec<Asked>,
-) -> Result<Vec<Asked>, Fault>
+) -> Result<Vec<Asked>, AllocError>
     requires { IsAscending (names_in asked.items) }
-    ensures claims { IfOk result (λ new. AllGain
+    ensures { IfOk result (λ new. AllGain
         (AreClaimsBy (StandsIn environment.now kind.Table None bytes.now) input)
         asked.items new.items) }
-    ensures faults { IfErr result (λ fault. fault ≡ no_memory) }
 {
     let Ok(text) = file_text(bytes) else {
-        return Err(Fault::no_memory());
+        return Err(AllocError);
     };
     let Ok(table) = Table::read(alloc, text, environment) else {
-        return Err(Fault::no_memory());
+        return Err(AllocError);
     };
     with_entries(alloc, bytes, input, environment, table.entries(), asked)
 }

@@ -6,7 +6,7 @@ use crate::cover::{Needed, covering};
 use crate::ends::{Ends, Numbered, push_cuts, push_others};
 use demands::Entry;
 use packed_cuts::{PackedRange, PackedSet};
-use pep_clause::{Clause, ClauseFault, Cut, PackedCut, VersionSet};
+use pep_clause::{Clause, Cut, PackedCut, VersionSet};
 use pep_require::Target;
 use pep_version::{Key, Version, VersionFault};
 use std::alloc::{AllocError, Global};
@@ -38,17 +38,17 @@ fn narrow(range: &mut PackedRange, versions: &VersionSet) {
 }
 
 // The packed cuts between which all clauses admit versions, as far as packed cuts tell.
-fn between(alloc: Global, clauses: &[Clause]) -> Result<PackedRange, ClauseFault> {
+fn between(alloc: Global, clauses: &[Clause]) -> Result<PackedRange, AllocError> {
     let mut bounds = PackedRange::all();
     for clause in clauses {
-        let versions = VersionSet::of(alloc, clause)?;
+        let versions = VersionSet::of(alloc, clause).map_err(|_| AllocError)?;
         narrow(&mut bounds, &versions);
     }
     Ok(bounds)
 }
 
 // The same of a claim. Of an entry no more is told than whether it admits a version.
-fn bounds_of(alloc: Global, claim: &Claim) -> Result<PackedRange, ClauseFault> {
+fn bounds_of(alloc: Global, claim: &Claim) -> Result<PackedRange, AllocError> {
     match claim {
         Claim::Required(requirement) => match requirement.target() {
             Target::Bounds(clauses) => between(alloc, clauses.as_slice()),
@@ -61,7 +61,7 @@ fn bounds_of(alloc: Global, claim: &Claim) -> Result<PackedRange, ClauseFault> {
 
 // The claim whose versions begin last, and the one whose versions end first, by their indices, where no version is
 // between them: one that admits no version by itself is both.
-fn narrowest(alloc: Global, claims: &[PlacedClaim]) -> Result<Option<(usize, usize)>, ClauseFault> {
+fn narrowest(alloc: Global, claims: &[PlacedClaim]) -> Result<Option<(usize, usize)>, AllocError> {
     let mut first = 0;
     let mut last = 0;
     let mut low = PackedCut::least();
@@ -157,30 +157,30 @@ fn first_text(claims: &[PlacedClaim]) -> Option<(usize, &str)> {
     None
 }
 
-fn clauses_admit(
-    alloc: Global,
-    clauses: &[Clause],
-    version: &Version,
-) -> Result<bool, ClauseFault> {
+fn clauses_admit(alloc: Global, clauses: &[Clause], version: &Version) -> Result<bool, AllocError> {
     for clause in clauses {
-        if !clause.admits(alloc, version)? {
+        if !clause.admits(alloc, version).map_err(|_| AllocError)? {
             return Ok(false);
         }
     }
     Ok(true)
 }
 
-fn entry_admits(alloc: Global, entry: &Entry, version: &Version) -> Result<bool, ClauseFault> {
-    let text = version.text(alloc)?;
+fn entry_admits(alloc: Global, entry: &Entry, version: &Version) -> Result<bool, AllocError> {
+    let text = version.text(alloc).map_err(|_| AllocError)?;
     let is_text = entry
         .texts()
         .items()
         .iter()
         .all(|demanded| demanded.as_str() == text.as_str());
-    Ok(is_text && entry.versions().contains(&Key::of(alloc, version)?))
+    if !is_text {
+        return Ok(false);
+    }
+    let key = Key::of(alloc, version).map_err(|_| AllocError)?;
+    Ok(entry.versions().contains(&key))
 }
 
-fn admits(alloc: Global, claim: &Claim, version: &Version) -> Result<bool, ClauseFault> {
+fn admits(alloc: Global, claim: &Claim, version: &Version) -> Result<bool, AllocError> {
     match claim {
         Claim::Required(requirement) => match requirement.target() {
             Target::Bounds(clauses) => clauses_admit(alloc, clauses.as_slice(), version),
@@ -191,16 +191,13 @@ fn admits(alloc: Global, claim: &Claim, version: &Version) -> Result<bool, Claus
 }
 
 // The first claim that demands a text, and one that doesn't admit its version, by their indices.
-fn text_apart(
-    alloc: Global,
-    claims: &[PlacedClaim],
-) -> Result<Option<(usize, usize)>, ClauseFault> {
+fn text_apart(alloc: Global, claims: &[PlacedClaim]) -> Result<Option<(usize, usize)>, AllocError> {
     let Some((first, text)) = first_text(claims) else {
         return Ok(None);
     };
     let version = match Version::read(alloc, text) {
         Ok(version) => version,
-        Err(VersionFault::NoMemory) => return Err(ClauseFault::NoMemory),
+        Err(VersionFault::NoMemory) => return Err(AllocError),
         Err(_) => return Ok(Some((first, first))),
     };
     for (index, placed) in claims.iter().enumerate() {
@@ -218,7 +215,7 @@ fn push_claim(
     ends: &mut Ends,
     index: usize,
     claim: &Claim,
-) -> Result<(), ClauseFault> {
+) -> Result<(), AllocError> {
     match claim {
         Claim::Required(requirement) => {
             if let Target::Bounds(clauses) = requirement.target() {
@@ -233,12 +230,12 @@ fn push_claim(
 }
 
 // What the claims leave out.
-fn left_out(alloc: Global, claims: &[PlacedClaim]) -> Result<Numbered, ClauseFault> {
+fn left_out(alloc: Global, claims: &[PlacedClaim]) -> Result<Numbered, AllocError> {
     let mut ends = Ends::none(alloc);
     for (index, placed) in claims.iter().enumerate() {
         push_claim(alloc, &mut ends, index, &placed.claim)?;
     }
-    Ok(ends.numbered(alloc, Cut::least(), Cut::end())?)
+    ends.numbered(alloc, Cut::least(), Cut::end())
 }
 
 // A point for each claim that is needed, in the order of the cuts.
@@ -246,7 +243,7 @@ fn points_of(
     alloc: Global,
     numbered: &Numbered,
     needed: &[Needed],
-) -> Result<Vec<Point>, ClauseFault> {
+) -> Result<Vec<Point>, AllocError> {
     let mut places = Vec::with_capacity(alloc, needed.len())?;
     for (owner, one) in needed.iter().enumerate() {
         places.push((one.at, owner))?;
@@ -260,7 +257,7 @@ fn points_at(
     alloc: Global,
     numbered: &Numbered,
     places: &[(usize, usize)],
-) -> Result<Vec<Point>, ClauseFault> {
+) -> Result<Vec<Point>, AllocError> {
     let mut points = Vec::with_capacity(alloc, places.len())?;
     for &(at, owner) in places {
         if let Some(cut) = numbered.cut(alloc, at)? {
@@ -271,7 +268,7 @@ fn points_at(
 }
 
 // Claims that leave out all versions together, none of which may be left away, and for each a point.
-fn hint_of(alloc: Global, numbered: &Numbered, claims: usize) -> Result<Hint, ClauseFault> {
+fn hint_of(alloc: Global, numbered: &Numbered, claims: usize) -> Result<Hint, AllocError> {
     let needed = covering(alloc, numbered.parts.as_slice(), numbered.last(), claims)?;
     let points = points_of(alloc, numbered, needed.as_slice())?;
     let mut few = Vec::with_capacity(alloc, needed.len())?;
@@ -282,21 +279,18 @@ fn hint_of(alloc: Global, numbered: &Numbered, claims: usize) -> Result<Hint, Cl
 }
 
 /// Claims that may clash by the versions that they admit, and points.
-pub(crate) fn clashing_versions(
-    alloc: Global,
-    claims: &[PlacedClaim],
-) -> Result<Hint, ClauseFault> {
+pub(crate) fn clashing_versions(alloc: Global, claims: &[PlacedClaim]) -> Result<Hint, AllocError> {
     if let Some(pair) = narrowest(alloc, claims)? {
-        return Ok(Hint::of_pair(alloc, pair)?);
+        return Hint::of_pair(alloc, pair);
     }
     if let Some(pair) = text_apart(alloc, claims)? {
-        return Ok(Hint::of_pair(alloc, pair)?);
+        return Hint::of_pair(alloc, pair);
     }
     hint_of(alloc, &left_out(alloc, claims)?, claims.len())
 }
 
 /// Claims that may clash by their URLs.
-pub(crate) fn clashing_urls(alloc: Global, claims: &[PlacedClaim]) -> Result<Hint, ClauseFault> {
+pub(crate) fn clashing_urls(alloc: Global, claims: &[PlacedClaim]) -> Result<Hint, AllocError> {
     let pair = urls_apart(claims).unwrap_or((0, 0));
-    Ok(Hint::of_pair(alloc, pair)?)
+    Hint::of_pair(alloc, pair)
 }

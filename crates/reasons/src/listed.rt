@@ -1,9 +1,8 @@
 //! Claims of lists and of project files: their requirements.
 
-ghost use Rattle.std.specs.Prelude.{◌≡◌, None, IfErr, IfOk, map, option_map, option_copied};
+ghost use Rattle.std.specs.Prelude.{◌≡◌, None, IfOk, map, option_map, option_copied};
 ghost use Rattle.pep_require.specs.Requirement.{IsAscending};
 ghost use Rattle.pep_require.specs.View.{requirement_parts};
-ghost use Rattle.inputs.specs.Refusal.{no_memory};
 ghost use Rattle.inputs.specs.declared.input.Kind.TheVariants as kind;
 ghost use Rattle.reasons.specs.Way.Asked.{AllGain, asked_parts, names_in, with_found};
 ghost use Rattle.reasons.specs.Way.ClaimSearch.{AreClaimsBy, FindsApplying, FindsCounted, FindsOnLine};
@@ -12,11 +11,10 @@ ghost use Rattle.reasons.specs.Places.{StandsIn};
 use crate::asked::{Asked, is_asked, with_claim};
 use crate::claims::{Claim, PlacedClaim};
 use documents::project_of;
-use faults::Fault;
 use inputs::text_of_line;
 use pep_marker::{Environment, Name};
 use pep_require::Requirement;
-use std::alloc::Global;
+use std::alloc::{AllocError, Global};
 use texts::first_part;
 
 // The requirement, if it applies.
@@ -24,15 +22,14 @@ fn applying(
     alloc: Global,
     requirement: Requirement,
     environment: &Environment,
-) -> Result<Option<Requirement>, Fault>
-    ensures applying { IfOk result (λ found. FindsApplying environment.now
+) -> Result<Option<Requirement>, AllocError>
+    ensures { IfOk result (λ found. FindsApplying environment.now
         (requirement_parts requirement) (option_map requirement_parts found)) }
-    ensures faults { IfErr result (λ fault. fault ≡ no_memory) }
 {
     match requirement.applies(alloc, environment) {
         Ok(true) => Ok(Some(requirement)),
         Ok(false) => Ok(None),
-        Err(_) => Err(Fault::no_memory()),
+        Err(_) => Err(AllocError),
     }
 }
 
@@ -42,11 +39,10 @@ fn counted(
     requirement: Requirement,
     environment: &Environment,
     asked: &[Asked],
-) -> Result<Option<Requirement>, Fault>
+) -> Result<Option<Requirement>, AllocError>
     requires { IsAscending (names_in asked.now) }
-    ensures counted { IfOk result (λ found. FindsCounted environment.now (names_in asked.now)
+    ensures { IfOk result (λ found. FindsCounted environment.now (names_in asked.now)
         (requirement_parts requirement) (option_map requirement_parts found)) }
-    ensures faults { IfErr result (λ fault. fault ≡ no_memory) }
 {
     if is_asked(asked, requirement.name()) {
         applying(alloc, requirement, environment)
@@ -62,26 +58,25 @@ fn requirement_on(
     line: &[u8],
     environment: &Environment,
     asked: &[Asked],
-) -> Result<Option<Requirement>, Fault>
+) -> Result<Option<Requirement>, AllocError>
     requires { IsAscending (names_in asked.now) }
-    ensures found { IfOk result (λ found. FindsOnLine environment.now (names_in asked.now) line.now
+    ensures { IfOk result (λ found. FindsOnLine environment.now (names_in asked.now) line.now
         (option_map requirement_parts found)) }
-    ensures faults { IfErr result (λ fault. fault ≡ no_memory) }
 {
     let Ok(found) = text_of_line(line) else {
-        return Err(Fault::no_memory());
+        return Err(AllocError);
     };
     let Some(text) = found else {
         return Ok(None);
     };
     let Ok(name) = Requirement::name_of_line(alloc, text) else {
-        return Err(Fault::no_memory());
+        return Err(AllocError);
     };
     if !is_asked(asked, &name) {
         return Ok(None);
     }
     let Ok(requirement) = Requirement::read(alloc, text) else {
-        return Err(Fault::no_memory());
+        return Err(AllocError);
     };
     applying(alloc, requirement, environment)
 }
@@ -92,12 +87,11 @@ fn with_found(
     input: u64,
     number: u64,
     found: Option<Requirement>,
-) -> Result<Vec<Asked>, Fault>
+) -> Result<Vec<Asked>, AllocError>
     requires { IsAscending (names_in asked.items) }
-    ensures claims { IfOk result (λ new. map asked_parts new.items
+    ensures { IfOk result (λ new. map asked_parts new.items
         ≡ map (with_found input number (option_map requirement_parts found))
         (map asked_parts asked.items)) }
-    ensures faults { IfErr result (λ fault. fault ≡ no_memory) }
 {
     let Some(requirement) = found else {
         return Ok(asked);
@@ -120,12 +114,11 @@ pub(crate) fn list_claims(
     input: u64,
     environment: &Environment,
     asked: Vec<Asked>,
-) -> Result<Vec<Asked>, Fault>
+) -> Result<Vec<Asked>, AllocError>
     requires { IsAscending (names_in asked.items) }
-    ensures claims { IfOk result (λ new. AllGain
+    ensures { IfOk result (λ new. AllGain
         (AreClaimsBy (StandsIn environment.now kind.List None bytes.now) input)
         asked.items new.items) }
-    ensures faults { IfErr result (λ fault. fault ≡ no_memory) }
 {
     let mut asked = asked;
     let mut number: u64 = 0;
@@ -148,16 +141,15 @@ pub(crate) fn project_claims(
     input: u64,
     environment: &Environment,
     asked: Vec<Asked>,
-) -> Result<Vec<Asked>, Fault>
+) -> Result<Vec<Asked>, AllocError>
     requires { IsAscending (names_in asked.items) }
-    ensures claims { IfOk result (λ new. AllGain (AreClaimsBy
+    ensures { IfOk result (λ new. AllGain (AreClaimsBy
         (StandsIn environment.now kind.Project (option_copied group.entry) bytes.now) input)
         asked.items new.items) }
-    ensures faults { IfErr result (λ fault. fault ≡ no_memory) }
 {
     let extra = environment.value("extra").unwrap_or("");
     let Ok(requirements) = project_of(alloc, bytes, extra, group) else {
-        return Err(Fault::no_memory());
+        return Err(AllocError);
     };
     let mut asked = asked;
     let mut number: u64 = 0;

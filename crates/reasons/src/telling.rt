@@ -7,7 +7,7 @@ ghost use Rattle.pep_require.specs.Requirement.{IsAscending};
 ghost use Rattle.demands.specs.Table.{EntryDemands, IsTable, TableDemands};
 ghost use Rattle.demands.specs.Verdict.{IsVerdict};
 ghost use Rattle.inputs.specs.Gathered.{Gathered, IsAccepted};
-ghost use Rattle.inputs.specs.Refusal.{RefusesInputs, no_memory};
+ghost use Rattle.inputs.specs.Refusal.{RefusesInputs};
 ghost use Rattle.reasons.specs.Way.Asked.{AllGain, asked_parts, names_in};
 ghost use Rattle.reasons.specs.Claims.{AreInOrder, Claimed};
 ghost use Rattle.reasons.specs.Way.ClaimSearch.{AreClaimsBy};
@@ -26,28 +26,26 @@ use faults::Fault;
 use inputs::{Input, Kind, gather};
 use pep_marker::{Environment, Name};
 use pep_table::{Gathering, Table};
-use std::alloc::Global;
+use std::alloc::{AllocError, Global};
 
 // The table that is gathered.
-fn finished(alloc: Global, gathering: Gathering) -> Result<Table, Fault>
-    ensures same { IfOk result (λ table. table ≡ gathering) }
-    ensures faults { IfErr result (λ fault. fault ≡ no_memory) }
+fn finished(alloc: Global, gathering: Gathering) -> Result<Table, AllocError>
+    ensures { IfOk result (λ table. table ≡ gathering) }
 {
     match gathering.finish(alloc) {
         Ok(table) => Ok(table),
-        Err(_) => Err(Fault::no_memory()),
+        Err(_) => Err(AllocError),
     }
 }
 
 // The verdict on what a table demands of a name: open where that is nothing.
-fn verdict_on(alloc: Global, table: &Table, name: &Name) -> Result<Verdict, Fault>
-    ensures verdict { IfOk result (IsVerdict (TableDemands table.now name.now)) }
-    ensures faults { IfErr result (λ fault. fault ≡ no_memory) }
+fn verdict_on(alloc: Global, table: &Table, name: &Name) -> Result<Verdict, AllocError>
+    ensures { IfOk result (IsVerdict (TableDemands table.now name.now)) }
 {
     match table.verdict(alloc, name) {
         Ok(Some(verdict)) => Ok(verdict),
         Ok(None) => Ok(Verdict::Possible),
-        Err(_) => Err(Fault::no_memory()),
+        Err(_) => Err(AllocError),
     }
 }
 
@@ -58,11 +56,10 @@ fn claims_in(
     number: u64,
     environment: &Environment,
     asked: Vec<Asked>,
-) -> Result<Vec<Asked>, Fault>
+) -> Result<Vec<Asked>, AllocError>
     requires { IsAscending (names_in asked.items) }
-    ensures claims { IfOk result (λ new. AllGain
+    ensures { IfOk result (λ new. AllGain
         (AreClaimsBy (ClaimsAt environment.now input.now) number) asked.items new.items) }
-    ensures faults { IfErr result (λ fault. fault ≡ no_memory) }
 {
     let bytes = input.bytes.as_slice();
     match input.kind {
@@ -82,11 +79,10 @@ fn claims_on(
     inputs: &[Input],
     environment: &Environment,
     asked: Vec<Asked>,
-) -> Result<Vec<Asked>, Fault>
+) -> Result<Vec<Asked>, AllocError>
     requires { IsAscending (names_in asked.items) }
-    ensures claims { IfOk result (λ new. AllGain (AreClaims environment.now inputs.now)
+    ensures { IfOk result (λ new. AllGain (AreClaims environment.now inputs.now)
         asked.items new.items) }
-    ensures faults { IfErr result (λ fault. fault ≡ no_memory) }
 {
     let mut asked = asked;
     let mut number: u64 = 0;
@@ -98,13 +94,12 @@ fn claims_on(
 }
 
 // The reason of a package, all claims on which are found.
-fn reason_of(alloc: Global, asked: Asked) -> Result<Reason, Fault>
+fn reason_of(alloc: Global, asked: Asked) -> Result<Reason, AllocError>
     requires order { AreInOrder (map placed_parts asked.claims.items) }
     requires verdict { IsVerdict (Claimed (map placed_parts asked.claims.items) asked.name)
         asked.verdict }
-    ensures reason { IfOk result (λ reason.
+    ensures { IfOk result (λ reason.
         TellsClash (asked_parts asked) (reason_parts reason)) }
-    ensures faults { IfErr result (λ fault. fault ≡ no_memory) }
 {
     let Asked {
         name,
@@ -121,13 +116,12 @@ fn reason_of(alloc: Global, asked: Asked) -> Result<Reason, Fault>
 }
 
 // The reasons of packages, all claims on which are found.
-fn reasons_of(alloc: Global, asked: Vec<Asked>) -> Result<Vec<Reason>, Fault>
+fn reasons_of(alloc: Global, asked: Vec<Asked>) -> Result<Vec<Reason>, AllocError>
     requires order { All (λ q. AreInOrder q.claims) (map asked_parts asked.items) }
     requires verdicts { All (λ q. IsVerdict (Claimed q.claims q.name) q.verdict)
         (map asked_parts asked.items) }
-    ensures reasons { IfOk result (λ reasons. AllZip TellsClash (map asked_parts asked.items)
+    ensures { IfOk result (λ reasons. AllZip TellsClash (map asked_parts asked.items)
         (map reason_parts reasons.items)) }
-    ensures faults { IfErr result (λ fault. fault ≡ no_memory) }
 {
     let mut reasons = Vec::new(alloc);
     for each in asked {
@@ -143,15 +137,14 @@ fn explained(
     inputs: &[Input],
     environment: &Environment,
     asked: Vec<Asked>,
-) -> Result<Vec<Reason>, Fault>
+) -> Result<Vec<Reason>, AllocError>
     requires accepted { All (IsAccepted environment.now) inputs.now }
     requires order { IsAscending (names_in asked.items) }
     requires bare { All (λ q. q.claims ≡ []) (map asked_parts asked.items) }
     requires verdicts { All (λ q. IsVerdict (Gathered environment.now inputs.now q.name) q.verdict)
         (map asked_parts asked.items) }
-    ensures reasons { IfOk result (λ reasons. AllZip (Explains environment.now inputs.now)
+    ensures { IfOk result (λ reasons. AllZip (Explains environment.now inputs.now)
         (map asked_parts asked.items) (map reason_parts reasons.items)) }
-    ensures faults { IfErr result (λ fault. fault ≡ no_memory) }
 {
     let asked = claims_on(alloc, inputs, environment, asked)?;
     reasons_of(alloc, asked)
@@ -164,13 +157,12 @@ fn reason_on(
     environment: &Environment,
     name: Name,
     verdict: Verdict,
-) -> Result<Reason, Fault>
+) -> Result<Reason, AllocError>
     requires accepted { All (IsAccepted environment.now) inputs.now }
     requires verdict { IsVerdict (Gathered environment.now inputs.now name) verdict }
     ensures reason { IfOk result (λ reason.
         IsReasonOf environment.now inputs.now (reason_parts reason)) }
     ensures name { IfOk result (λ reason. reason.name ≡ name) }
-    ensures faults { IfErr result (λ fault. fault ≡ no_memory) }
 {
     let claims = Vec::new(alloc);
     let mut asked = Vec::new(alloc);
@@ -203,26 +195,22 @@ pub fn why(
     let gathering = gather(alloc, inputs, environment)?;
     let table = finished(alloc, gathering)?;
     let verdict = verdict_on(alloc, &table, &name)?;
-    match reason_on(alloc, inputs, environment, name, verdict) {
-        Ok(reason) => Ok(reason),
-        Err(fault) => Err(fault),
-    }
+    Ok(reason_on(alloc, inputs, environment, name, verdict)?)
 }
 
 // The package with this name and entry, if its verdict isn't open.
-fn closed_package(alloc: Global, name: &Name, entry: &Entry) -> Result<Option<Asked>, Fault>
-    ensures found { IfOk result (λ found.
+fn closed_package(alloc: Global, name: &Name, entry: &Entry) -> Result<Option<Asked>, AllocError>
+    ensures { IfOk result (λ found.
         FindsClosed (EntryDemands entry.now) name.now (option_map asked_parts found)) }
-    ensures faults { IfErr result (λ fault. fault ≡ no_memory) }
 {
     let Ok(verdict) = entry.verdict(alloc) else {
-        return Err(Fault::no_memory());
+        return Err(AllocError);
     };
     if verdict == Verdict::Possible {
         return Ok(None);
     }
     let Ok(name) = name.copied(alloc) else {
-        return Err(Fault::no_memory());
+        return Err(AllocError);
     };
     let claims = Vec::new(alloc);
     Ok(Some(Asked {
@@ -233,10 +221,9 @@ fn closed_package(alloc: Global, name: &Name, entry: &Entry) -> Result<Option<As
 }
 
 // The packages with the one that was found, if there is one.
-fn with_package(asked: Vec<Asked>, found: Option<Asked>) -> Result<Vec<Asked>, Fault>
-    ensures asked { IfOk result (λ new. map asked_parts new.items
+fn with_package(asked: Vec<Asked>, found: Option<Asked>) -> Result<Vec<Asked>, AllocError>
+    ensures { IfOk result (λ new. map asked_parts new.items
         ≡ map asked_parts asked.items ++ option_to_list (option_map asked_parts found)) }
-    ensures faults { IfErr result (λ fault. fault ≡ no_memory) }
 {
     let mut asked = asked;
     if let Some(closed) = found {
@@ -246,9 +233,8 @@ fn with_package(asked: Vec<Asked>, found: Option<Asked>) -> Result<Vec<Asked>, F
 }
 
 // The packages of a table whose verdict isn't open.
-fn closed_packages(alloc: Global, table: &Table) -> Result<Vec<Asked>, Fault>
-    ensures closed { IfOk result (λ asked. AreClosed table.now (map asked_parts asked.items)) }
-    ensures faults { IfErr result (λ fault. fault ≡ no_memory) }
+fn closed_packages(alloc: Global, table: &Table) -> Result<Vec<Asked>, AllocError>
+    ensures { IfOk result (λ asked. AreClosed table.now (map asked_parts asked.items)) }
 {
     let entries = table.entries();
     let mut asked = Vec::new(alloc);
@@ -265,12 +251,11 @@ fn closed_reasons(
     inputs: &[Input],
     environment: &Environment,
     table: &Table,
-) -> Result<Vec<Reason>, Fault>
+) -> Result<Vec<Reason>, AllocError>
     requires accepted { All (IsAccepted environment.now) inputs.now }
     requires table { IsTable (Gathered environment.now inputs.now) table.now }
-    ensures reasons { IfOk result (λ reasons.
+    ensures { IfOk result (λ reasons.
         AreReasons environment.now inputs.now (map reason_parts reasons.items)) }
-    ensures faults { IfErr result (λ fault. fault ≡ no_memory) }
 {
     let asked = closed_packages(alloc, table)?;
     explained(alloc, inputs, environment, asked)
@@ -289,8 +274,5 @@ pub fn clashes(
 {
     let gathering = gather(alloc, inputs, environment)?;
     let table = finished(alloc, gathering)?;
-    match closed_reasons(alloc, inputs, environment, &table) {
-        Ok(reasons) => Ok(reasons),
-        Err(fault) => Err(fault),
-    }
+    Ok(closed_reasons(alloc, inputs, environment, &table)?)
 }

@@ -169,10 +169,7 @@ impl Reason {
             string_bytes text ≡ reason_text (reason_parts self.now)) }
         ensures faults { IfErr result (λ fault. fault ≡ no_memory) }
     {
-        match written_reason(alloc, self) {
-            Ok(text) => Ok(text),
-            Err(_) => Err(Fault::no_memory()),
-        }
+        Ok(written_reason(alloc, self)?)
     }
 }
 
@@ -183,8 +180,5 @@ pub fn reasons_text(alloc: Global, reasons: &[Reason]) -> Result<String, Fault>
         string_bytes text ≡ reasons_text (map reason_parts reasons.now)) }
     ensures faults { IfErr result (λ fault. fault ≡ no_memory) }
 {
-    match written_reasons(alloc, reasons) {
-        Ok(text) => Ok(text),
-        Err(_) => Err(Fault::no_memory()),
-    }
+    Ok(written_reasons(alloc, reasons)?)
 }

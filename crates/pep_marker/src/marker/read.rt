@@ -41,7 +41,7 @@ impl Making for Trees {
 
     ghost means = { λ _ t m. tree_parts t ≡ m };
 
-    fn compared(&self, alloc: Global, it: Comparison<'_>) -> Result<Tree, MarkerFault> {
+    fn compared(&self, alloc: Global, it: Comparison<'_>) -> Result<Tree, AllocError> {
         let left = operand(alloc, it.left)?;
         let right = operand(alloc, it.right)?;
         Ok(Tree::Comparison(left, it.operator, right))
@@ -53,7 +53,7 @@ impl Making for Trees {
         link: Link,
         left: Tree,
         right: Tree,
-    ) -> Result<Tree, MarkerFault> {
+    ) -> Result<Tree, AllocError> {
         let left = Box::new(alloc, left)?;
         let right = Box::new(alloc, right)?;
         Ok(match link {

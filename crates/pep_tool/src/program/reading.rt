@@ -36,7 +36,7 @@ use devices::{Folder, OpenFault, Source};
 use faults::{Cause, Fault, Place};
 use inputs::{Input, Kind, environment_of};
 use pep_marker::{Environment, Name};
-use std::alloc::Global;
+use std::alloc::{AllocError, Global};
 use texts::INPUT_LIMIT;
 
 /// How many bytes are asked for at once.
@@ -145,16 +145,15 @@ pub(crate) fn kind_of(path: &str) -> Kind
 }
 
 // The name, where there is one, once more.
-fn name_copied(alloc: Global, name: Option<&Name>) -> Result<Option<Name>, Fault>
-    ensures copy { IfOk result (λ copy. copy ≡ option_copied name.entry) }
-    ensures faults { IfErr result (λ fault. fault ≡ no_memory) }
+fn name_copied(alloc: Global, name: Option<&Name>) -> Result<Option<Name>, AllocError>
+    ensures { IfOk result (λ copy. copy ≡ option_copied name.entry) }
 {
     let Some(name) = name else {
         return Ok(None);
     };
     match name.copied(alloc) {
         Ok(copy) => Ok(Some(copy)),
-        Err(_) => Err(Fault::no_memory()),
+        Err(_) => Err(AllocError),
     }
 }
 

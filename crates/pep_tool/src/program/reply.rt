@@ -204,7 +204,7 @@ fn merge_input<S: Source>(alloc: Global, source: &mut S) -> Result<Printout, Fau
 {
     let environment = standard_environment(alloc)?;
     let gathering = gather_reader(alloc, source, &environment)?;
-    printout_of(alloc, gathering, &environment)
+    Ok(printout_of(alloc, gathering, &environment)?)
 }
 
 // The requirements that a list or a project file has, without an extra, or of a dependency group.
@@ -252,7 +252,7 @@ fn file_lines<D: Folder>(
     let mut buffer = [0u8; PIECE];
     let bytes = read_file(alloc, folder, path, Place::Input(1), &mut buffer)?;
     let requirements = requirements_to_show(alloc, kind, bytes.as_slice(), name.as_ref())?;
-    lines_text(alloc, requirements.as_slice())
+    Ok(lines_text(alloc, requirements.as_slice())?)
 }
 
 // The text of the table of the files, in the environment of a file.

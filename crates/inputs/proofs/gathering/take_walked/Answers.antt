@@ -17,9 +17,9 @@ returns-then-not-is_counted-clause-ok c =
     λ e text h. walked_passed e w text c.args.name.now c.args.line.now h c.in-Some.applies c.args.gathering c.in-Some.is
     off
 
-pub returns-in-Ok-clause-ok : goal.returns-in-Ok-clause-ok
-returns-in-Ok-clause-ok c =
+pub returns-clause-ok : goal.returns-clause-ok
+returns-clause-ok c =
     let w = wanted_name c.args.wanted in
     let on : (c.in-Some.applies && wants w c.args.name.now) ≡ true = search rules in
-    λ e text h. walked_taken e w text c.args.name.now c.args.line.now h c.in-Some.applies c.args.gathering c.in-Ok.new
-    c.in-Some.is on c.in-Ok.ensures.taken
+    λ e text h. walked_taken e w text c.args.name.now c.args.line.now h c.in-Some.applies c.args.gathering c.in_ok-take_line.field-0
+    c.in-Some.is on c.in_ok-take_line.ensures.taken

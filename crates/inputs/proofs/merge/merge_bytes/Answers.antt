@@ -1,9 +1,12 @@
 use Rattle.std.proofs.Common.{string_bytes}
+use Rattle.std.specs.Prelude.{Ok, Result}
+use Rattle.faults.specs.declared.fault.Fault.{Fault}
 use Rattle.inputs.proofs.MergeLemmas.{merges}
 use Rattle.inputs.proofs.merge.merge_bytes.Goals as goal
 
 pub returns-clause-merged : goal.returns-clause-merged
 returns-clause-merged c =
+    let made : Result _ Fault = Ok c.in_ok-text_of.field-0 in
     merges string_bytes c.args.environment.now c.args.inputs.now c.in_ok-gathering.gathering
-    c.text_of.result c.in_ok-gathering.ensures.accepted c.in_ok-gathering.ensures.table
-    c.in_ok-gathering.ensures.points c.text_of.ensures.text
+    made c.in_ok-gathering.ensures.accepted c.in_ok-gathering.ensures.table
+    c.in_ok-gathering.ensures.points c.in_ok-text_of.ensures

@@ -51,7 +51,7 @@ chain-loop-behind-smaller g t c =
 pub chain-loop-behind-preserved : goal.chain-loop-behind-preserved
 chain-loop-behind-preserved g t c =
     chain_step c.args.link c.args.depth _ _ _ _ _ _ _ c.loop-behind.invariant
-    c.in-Some.ensures.some c.in_ok-next.ensures.read c.in_ok-joined.ensures.made
+    c.in-Some.ensures.some c.in_ok-next.ensures.read c.in_ok-joined.ensures
 
 pub chain-returns-clause-read : goal.chain-returns-clause-read
 chain-returns-clause-read g t c =

@@ -5,5 +5,5 @@ use Rattle.pep_marker.proofs.chains.comparison.Goals as goal
 pub returns-clause-read : goal.returns-clause-read
 returns-clause-read g c =
     comparison_here _ _ _ c.args.room _ _ _ c.in-Some.ensures.some
-    c.in-Some-operand_at.ensures.some c.in_ok-compared.ensures.made
+    c.in-Some-operand_at.ensures.some c.in_ok-compared.ensures
     (omega (arith, c.if-room-eq0.false))

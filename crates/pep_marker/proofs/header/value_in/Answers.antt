@@ -16,21 +16,21 @@ line_cut c =
     c.in-Some.ensures.cases (lit< tt) in
     (cut.0, feed_free c.in-Some.first.now cut.1)
 
-pub returns-in_default-clause-value : goal.returns-in_default-clause-value
-returns-in_default-clause-value c =
+pub returns-in_default : goal.returns-in_default
+returns-in_default c =
     let text = c.args.text.now in
     let off = split_parts 10 text None c.in_default.ensures.cases (lit< tt) in
     λ x behind is. no_value_line text c.args.variable (feed_free text off) x behind
 
-pub returns-in_default-value_on-clause-value : goal.returns-in_default-value_on-clause-value
-returns-in_default-value_on-clause-value c =
-    let cut = line_cut (goal.at.returns-in_default-value_on-clause-value c).In-Some in
+pub returns-in_default-value_on : goal.returns-in_default-value_on
+returns-in_default-value_on c =
+    let cut = line_cut (goal.at.returns-in_default-value_on c).In-Some in
     let none : (x : List ℕ) → ¬ (c.in-Some.first.now ≡ named_line c.args.variable x) = search rules in
     other_line c.args.text.now c.in-Some.first.now c.in-Some.behind.now c.args.variable cut.0 cut.1 none
 
-pub returns-else-branch-clause-value : goal.returns-else-branch-clause-value
-returns-else-branch-clause-value c =
-    let cut = line_cut (goal.at.returns-else-branch-clause-value c).In-Some in
+pub returns-else-branch : goal.returns-else-branch
+returns-else-branch c =
+    let cut = line_cut (goal.at.returns-else-branch c).In-Some in
     let value = c.in-Some-value_on.value.now in
     let named : c.in-Some.first.now ≡ named_line c.args.variable value = search rules in
     let bad : ¬ IsHeaderValue c.args.variable value = search rules in

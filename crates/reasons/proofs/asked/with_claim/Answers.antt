@@ -8,15 +8,15 @@ use Rattle.reasons.specs.declared.asked.Asked.{Asked}
 use Rattle.reasons.proofs.AskedClaims.{not_asked, one_pushed}
 use Rattle.reasons.proofs.asked.with_claim.Goals as goal
 
-pub returns-in_default-clause-claims : goal.returns-in_default-clause-claims
-returns-in_default-clause-claims c =
+pub returns-in_default : goal.returns-in_default
+returns-in_default c =
     not_asked (placed_parts c.args.claim) (map asked_parts c.args.asked.items) (λ m.
     c.in_default.ensures (subst (λ (l : List Asked). Contains (names_in l) c.name.result.now)
     (sym c.as_slice.ensures.value) (subst (Contains (names_in c.args.asked.items))
     (sym c.name.ensures) m)))
 
-pub returns-clause-claims : goal.returns-clause-claims
-returns-clause-claims c =
+pub returns : goal.returns
+returns c =
     let p = placed_parts c.args.claim in
     let olds = c.args.asked.items in
     let k = c.in-Some.index in

@@ -41,12 +41,12 @@ loop-left-preserved c =
     c.index-entries-left.is c.loop-left-test.true c.loop-left.invariant.within
     c.loop-left.invariant.lines c.entry_lines-number.result (map asked_parts c.args.asked.items)
     (map asked_parts c.loop-left.asked.items) (map asked_parts c.in_ok-asked.asked.items)
-    c.entry_lines-number.ensures c.in_ok-asked.ensures.claims c.loop-left.invariant.claims in
+    c.entry_lines-number.ensures c.in_ok-asked.ensures c.loop-left.invariant.claims in
     let within = c.loop-left.invariant.within in
     record { within = omega (arith, within); lines = next.0; claims = next.1 }
 
-pub returns-clause-claims : goal.returns-clause-claims
-returns-clause-claims c =
+pub returns : goal.returns
+returns c =
     let e = c.args.environment.now in
     let bytes = c.args.bytes.now in
     let last = c.loop-left-test.false in

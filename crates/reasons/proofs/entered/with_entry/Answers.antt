@@ -6,8 +6,8 @@ use Rattle.reasons.specs.declared.asked.Asked.{Asked}
 use Rattle.reasons.proofs.AskedClaims.{not_asked}
 use Rattle.reasons.proofs.entered.with_entry.Goals as goal
 
-pub returns-then-not-is_asked-clause-claims : goal.returns-then-not-is_asked-clause-claims
-returns-then-not-is_asked-clause-claims c =
+pub returns-then-not-is_asked : goal.returns-then-not-is_asked
+returns-then-not-is_asked c =
     not_asked (record {
       input = c.args.input;
       number = c.args.number;

@@ -47,14 +47,14 @@ loop-left-preserved c =
           (option_map requirement_parts c.in_ok-found.found) h
           (subst (λ (l : List Asked). FindsOnLine e (names_in l) c.first_part.result.0.now
           (option_map requirement_parts c.in_ok-found.found)) c.as_slice.ensures.value
-          c.in_ok-found.ensures.found)
-          c.in_ok-asked.ensures.claims;
+          c.in_ok-found.ensures)
+          c.in_ok-asked.ensures;
       room = room_left number (number + 1) (length bytes + 1) c.loop-left.left after c.in-Some.text
           c.loop-left.invariant.room c.in-Some.is c.first_part.ensures.shorter (omega arith);
     }
 
-pub returns-clause-claims : goal.returns-clause-claims
-returns-clause-claims c =
+pub returns : goal.returns
+returns c =
     all_listed c.args.environment.now c.args.bytes.now c.args.input c.loop-left.number
     (left_parts 10 c.loop-left.left) (map asked_parts c.args.asked.items)
     (map asked_parts c.loop-left.asked.items)

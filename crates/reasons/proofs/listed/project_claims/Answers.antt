@@ -73,11 +73,11 @@ loop-requirement-preserved c =
           (option_map requirement_parts c.in_ok-found.found) whole number at.invariant.claims
           (subst (λ (l : List Asked). FindsCounted c.args.environment.now (names_in l)
           (requirement_parts p) (option_map requirement_parts c.in_ok-found.found))
-          c.as_slice.ensures.value c.in_ok-found.ensures.counted) c.in_ok-asked.ensures.claims;
+          c.as_slice.ensures.value c.in_ok-found.ensures) c.in_ok-asked.ensures;
     }
 
-pub returns-clause-claims : goal.returns-clause-claims
-returns-clause-claims c =
+pub returns : goal.returns
+returns c =
     let at = c.loop-requirement in
     let total : List Requirement = into_iter_items c.into_iter-requirement-iterator.result in
     let done : List Requirement = at.yielded in

@@ -24,6 +24,6 @@ loop-input-preserved c =
       claims = inputs_next c.args.environment.now c.args.inputs.now at.input-index at.number
           c.input-item.result (map asked_parts c.args.asked.items) (map asked_parts at.asked.items)
           (map asked_parts c.in_ok-asked.asked.items) c.loop-input-test.true c.input-item.is
-          at.invariant.number at.invariant.claims c.in_ok-asked.ensures.claims;
+          at.invariant.number at.invariant.claims c.in_ok-asked.ensures;
       number = let n = at.invariant.number in omega (arith, n);
     }

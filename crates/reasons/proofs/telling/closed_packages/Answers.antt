@@ -14,11 +14,11 @@ loop-entry-preserved c =
     c.entry-item.result (map asked_parts c.loop-entry.asked.items)
     (map asked_parts c.in_ok-asked.asked.items) (option_map asked_parts c.in_ok-found.found)
     c.entries-entries.ensures.valid c.entries-entries.ensures.entries
-    c.loop-entry-test.true c.entry-item.is c.loop-entry.invariant c.in_ok-found.ensures.found
-    c.in_ok-asked.ensures.asked
+    c.loop-entry-test.true c.entry-item.is c.loop-entry.invariant c.in_ok-found.ensures
+    c.in_ok-asked.ensures
 
-pub returns-clause-closed : goal.returns-clause-closed
-returns-clause-closed c =
+pub returns : goal.returns
+returns c =
     let t : TableParts = c.args.table.now in
     let entries = c.entries-entries.result.now in
     let qs = map asked_parts c.loop-entry.asked.items in

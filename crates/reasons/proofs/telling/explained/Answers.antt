@@ -9,18 +9,18 @@ pub reasons_of-requires-clause-order : goal.reasons_of-requires-clause-order
 reasons_of-requires-clause-order c =
     orders_gained c.args.environment.now c.args.inputs.now c.requires.accepted
     (map asked_parts c.args.asked.items) (map asked_parts c.in_ok-asked.asked.items)
-    c.requires.bare c.in_ok-asked.ensures.claims
+    c.requires.bare c.in_ok-asked.ensures
 
 pub reasons_of-requires-clause-verdicts : goal.reasons_of-requires-clause-verdicts
 reasons_of-requires-clause-verdicts c =
     verdicts_gained c.args.environment.now c.args.inputs.now c.requires.accepted
     (map asked_parts c.args.asked.items) (map asked_parts c.in_ok-asked.asked.items)
-    c.requires.bare c.requires.verdicts c.in_ok-asked.ensures.claims
+    c.requires.bare c.requires.verdicts c.in_ok-asked.ensures
 
-pub returns-clause-reasons : goal.returns-clause-reasons
-returns-clause-reasons c =
+pub returns : goal.returns
+returns c =
     IfOk-weaker c.reasons_of.result _ _ (λ reasons h.
     all_explained c.args.environment.now c.args.inputs.now c.requires.accepted
     (map asked_parts c.args.asked.items) (map asked_parts c.in_ok-asked.asked.items)
     (map reason_parts reasons.items) c.requires.bare c.requires.verdicts
-    c.in_ok-asked.ensures.claims h) c.reasons_of.ensures.reasons
+    c.in_ok-asked.ensures h) c.reasons_of.ensures

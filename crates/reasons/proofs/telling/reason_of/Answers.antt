@@ -13,8 +13,8 @@ clash_of-requires-clause-verdict c =
     subst (λ (xs : List PlacedClaim). IsVerdict (Claimed (map placed_parts xs) n) w)
     (sym c.as_slice.ensures.value) c.requires.verdict
 
-pub returns-clause-reason : goal.returns-clause-reason
-returns-clause-reason c =
+pub returns : goal.returns
+returns c =
     let n = c.args.asked.name in
     let w = c.args.asked.verdict in
     record {
@@ -23,5 +23,5 @@ returns-clause-reason c =
       claims_are = refl;
       part = subst (λ (xs : List PlacedClaim). IsPartThatClashes n w (map placed_parts xs)
           (claims_at (map placed_parts xs) c.in_ok-clash.clash.items)) c.as_slice.ensures.value
-          c.in_ok-clash.ensures.clash;
+          c.in_ok-clash.ensures;
     }

@@ -29,7 +29,7 @@ unreachable-requires c =
     let reasons = c.in_ok-reasons.reasons in
     let some = some_reason e inputs _ reasons.items (one_explained c.new-asked.result.items
     c.push.new.self.items _ c.new-asked.ensures.items c.in_ok-push.ensures.items e inputs
-    reasons.items c.in_ok-reasons.ensures.reasons) in
+    reasons.items c.in_ok-reasons.ensures) in
     let count = reasons.ok.0 in
     let never : false ≡ true = c.in_default.ensures.variant.1 (omega (arith, some, count)) in cc never
 
@@ -40,5 +40,5 @@ returns c =
     let reasons = c.in_ok-reasons.reasons.items in
     let one = only_reason e inputs _ reasons (one_explained c.new-asked.result.items c.push.new.self.items _
     c.new-asked.ensures.items c.in_ok-push.ensures.items e inputs reasons
-    c.in_ok-reasons.ensures.reasons) c.pop.new.self.items c.in-Some.reason c.in-Some.ensures.items in
-    record { reason = one.reason; name = one.name_is; faults = tt }
+    c.in_ok-reasons.ensures) c.pop.new.self.items c.in-Some.reason c.in-Some.ensures.items in
+    record { reason = one.reason; name = one.name_is }

@@ -54,11 +54,11 @@ loop-each-preserved c =
           ∙ ap (λ (l : List Asked). done ++ l) (sym steps) ∙ at.invariant.whole;
       left = omega arith;
       reasons = tells_more done p at.reasons.items c.push.new.self.items c.in_ok-reason.reason
-          at.invariant.reasons c.in_ok-reason.ensures.reason c.in_ok-push.ensures.items;
+          at.invariant.reasons c.in_ok-reason.ensures c.in_ok-push.ensures.items;
     }
 
-pub returns-clause-reasons : goal.returns-clause-reasons
-returns-clause-reasons c =
+pub returns : goal.returns
+returns c =
     let at = c.loop-each in
     let done : List Asked = at.yielded in
     let none : into_iter_items at.each-iterator ≡ [] =

@@ -9,6 +9,6 @@ reason_on-requires-clause-verdict c =
     let e = c.args.environment.now in
     let inputs = c.args.inputs.now in
     let table = subst (λ (t : TableParts). IsTable (Gathered e inputs) t)
-    (sym c.in_ok-table.ensures.same) c.in_ok-gathering.ensures.table in
+    (sym c.in_ok-table.ensures) c.in_ok-gathering.ensures.table in
     verdict_of_table e inputs c.in_ok-table.table c.args.name c.in_ok-verdict.verdict table
-    c.in_ok-verdict.ensures.verdict
+    c.in_ok-verdict.ensures

@@ -21,5 +21,5 @@ returns c =
     let new = c.leave_out.new.self in
     met-beside i.range.low i.range.high b c.args.self.now t (joined new (joined_sets b.sets.items)) c.self.invariant.0
     c.self.invariant.1 are (ap (kept_versions i.range.low i.range.high) same ∙ c.self.view_is)
-    (first-met b.left_out new t (joined_sets b.sets.items) c.in-Ok.ensures.normal (normal_sets b.sets.items are.1)
-    c.in-Ok.ensures.points)
+    (first-met b.left_out new t (joined_sets b.sets.items) c.leave_out.ensures.normal (normal_sets b.sets.items are.1)
+    c.in_ok-leave_out.ensures.points)

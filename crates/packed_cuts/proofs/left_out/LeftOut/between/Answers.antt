@@ -30,8 +30,8 @@ unreachable-requires c =
     (all_normal singles parts c.order_singles.ensures.singles are) in
     let never : ⊥ = cc (subst IsSome c.in-None.is (c.of_ranges.ensures.in_order.1 normal.increasing)) in never
 
-pub returns-clause-ranges : goal.returns-clause-ranges
-returns-clause-ranges c =
+pub returns : goal.returns
+returns c =
     let b = c.args.bounds in
     let own = c.self.inside in
     let own_singles = own.singles.items in

@@ -1,4 +1,5 @@
 use Rattle.std.proofs.Common.{◌&&◌, ◌∙◌, refl, rules, subst, sym}
+use Rattle.std.proofs.lemmas.Result.{on_ok_weaker}
 use Rattle.std.specs.Prelude.{◌≢◌}
 use Rattle.std.specs.declared.cmp.Ordering.TheVariants.{Less}
 use Rattle.pep_clause.specs.Cut.{cut_cmp}
@@ -21,7 +22,9 @@ returns-then-ne-clause-normal c =
     subst IsNormal c.self.view_is (all_normal own.singles.items own.parts.items are.0 are.1)
 
 pub returns-then-is_right_behind-clause-points : goal.returns-then-is_right_behind-clause-points
-returns-then-is_right_behind-clause-points c x =
+returns-then-is_right_behind-clause-points c =
     let b = c.args.bounds in
-    c.in_ok-leave_single.ensures.points x
-    ∙ (λ i. is_point c.args.self.now x && is_point (outside b.low (sym (c.if-is_right_behind.ensures.exactly.0 refl).0 i)) x)
+    on_ok_weaker c.leave_single.result
+    (λ k x. k x
+    ∙ (λ i. is_point c.args.self.now x && is_point (outside b.low (sym (c.if-is_right_behind.ensures.exactly.0 refl).0 i)) x))
+    c.leave_single.ensures.points

@@ -1,7 +1,6 @@
 use Rattle.std.proofs.Common.{rules, ◌≡◌, ◌∙◌, ◌+◌, ◌<◌, arith, sym, None, Some, inl, ap, subst}
 use Rattle.std.proofs.Common.{length, get_or, refl, take, List, ℕ}
 use Rattle.std.proofs.lemmas.List.{take_all}
-use Rattle.std.proofs.lemmas.Result.{IfOk-weaker}
 use Rattle.std.specs.Option.{option_map, option_or}
 use Rattle.pep_marker.specs.declared.fault.MarkerFault.TheVariants.{MissingVariable}
 use Rattle.pep_marker.specs.Environment.{EnvironmentParts, pairs_fault}
@@ -71,10 +70,10 @@ returns-clause-accepted c =
     let all = subst (λ done. HoldsPairs c.loop-name.slots (pair_texts done))
     (take_all i pairs c.loop-name-test.false) c.loop-name.invariant.holds in
     let none : c.missing.result ≡ None = search rules in
-    IfOk-weaker c.of_slots.result _ _ (λ e h. sym c.loop-name.invariant.faults
+    sym c.loop-name.invariant.faults
     ∙ fault_from-end pairs i c.loop-name-test.false
     ∙ sym (missing_fault-slots c.loop-name.slots (pair_texts pairs) all)
-    ∙ ap (option_map MissingVariable) (sym c.missing.ensures ∙ none)) c.of_slots.ensures.texts
+    ∙ ap (option_map MissingVariable) (sym c.missing.ensures ∙ none)
 
 pub returns-clause-value : goal.returns-clause-value
 returns-clause-value c =
@@ -82,6 +81,5 @@ returns-clause-value c =
     let all = subst (λ done. HoldsPairs c.loop-name.slots (pair_texts done))
     (take_all c.loop-name.name-index pairs c.loop-name-test.false) c.loop-name.invariant.holds in
     let of : List (List ℕ) → EnvironmentParts = λ texts. record { texts = texts } in
-    IfOk-weaker c.of_slots.result _ _ (λ e h. ap of (h
-    ∙ environment_of-slots c.loop-name.slots (pair_texts pairs) c.loop-name.invariant.all all))
-    c.of_slots.ensures.texts
+    ap of (c.in_ok-of_slots.ensures
+    ∙ environment_of-slots c.loop-name.slots (pair_texts pairs) c.loop-name.invariant.all all)

@@ -8,6 +8,6 @@ invariant_of-result c =
     let text = c.args.text.now in
     let kept = string_bytes c.in_ok-from_str.field-0 in (
       search rules,
-      version_kept text kept c.in_ok-version.version (search rules) c.in_ok-version.ensures.value,
-      clause_kept text kept c.in_ok-matching.matching (search rules) c.in_ok-matching.ensures.value,
+      version_kept text kept c.in_ok-version.version (search rules) c.in_ok-version.ensures,
+      clause_kept text kept c.in_ok-matching.matching (search rules) c.in_ok-matching.ensures,
     )

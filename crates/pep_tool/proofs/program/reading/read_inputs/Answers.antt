@@ -17,6 +17,6 @@ loop-path-preserved g c = (
   rw c.in_ok-push.ensures.items (inputs_more string_bytes _ _ _ _ c.args.paths.now
       c.loop-path.path-index c.path-item.result c.as_str-path.result.now c.loop-path.inputs.items _
       c.path-item.is c.as_str-path.ensures.value c.loop-path-test.true c.loop-path.invariant.0
-      (c.kind_of.ensures, c.in_ok-name_copied.ensures.copy, c.in_ok-bytes.ensures.bytes)),
+      (c.kind_of.ensures, c.in_ok-name_copied.ensures, c.in_ok-bytes.ensures.bytes)),
   ap (λ n. n + 1) c.loop-path.invariant.1,
 )

@@ -1,4 +1,5 @@
 use Rattle.std.proofs.Common.{◌≡◌, ◌≢◌, ap, inr, map, option_copied, option_map, refl, rules, string_bytes}
+use Rattle.std.specs.Prelude.{Ok}
 use Rattle.std.proofs.lemmas.Result.{err_from_is_err_and}
 use Rattle.pep_require.specs.View.{requirement_parts}
 use Rattle.pep_require.proofs.Exits.{further}
@@ -43,11 +44,11 @@ returns-in_err-requirements-clause-refused g c =
 
 pub returns-clause-lists : goal.returns-clause-lists
 returns-clause-lists g c =
-    lists_file string_bytes c.lines_text.result _ _ _ (option_map string_bytes c.args.group.now)
+    lists_file string_bytes (Ok c.in_ok-lines_text.field-0) _ _ _ (option_map string_bytes c.args.group.now)
     c.in_ok-name.name (option_copied c.as_ref.result) c.args.path.now c.kind_of-kind.result
     c.in_ok-bytes.bytes.items c.as_slice.result.now
     (map requirement_parts c.in_ok-requirements.requirements.items)
     (map requirement_parts c.as_slice-2.result.now) c.in_ok-name.ensures.group
     c.as_ref.ensures.value c.in_ok-bytes.ensures.bytes
     c.kind_of-kind.ensures c.as_slice.ensures.value c.in_ok-requirements.ensures.ok
-    (ap (map requirement_parts) c.as_slice-2.ensures.value) c.lines_text.ensures.text
+    (ap (map requirement_parts) c.as_slice-2.ensures.value) c.in_ok-lines_text.ensures

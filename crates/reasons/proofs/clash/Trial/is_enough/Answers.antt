@@ -9,8 +9,8 @@ use Rattle.reasons.proofs.clash.Trial.is_enough.Goals as goal
 
 pub returns : goal.returns
 returns c = λ qs among h.
-    told_by c.args.self.now.name.now c.args.self.now.verdict c.in_ok-verdict.verdict
+    told_by c.args.self.now.name.now c.args.self.now.verdict c.in-Ok.verdict
     (map placed_parts c.args.self.now.claims.now) qs c.eq.result among c.requires.verdict
-    (weighed_verdict (Claimed qs c.args.self.now.name.now) c.args.entry.now c.in_ok-verdict.verdict
-    c.versions.ensures.valid h c.in_ok-verdict.ensures.entry)
+    (weighed_verdict (Claimed qs c.args.self.now.name.now) c.args.entry.now c.in-Ok.verdict
+    c.versions.ensures.valid h c.in-Ok.ensures.entry)
     (λ same. same_true the_type tt _ _ (sym c.eq.ensures ∙ same)) (λ same. same_false the_type _ _ (sym c.eq.ensures ∙ same))

@@ -20,4 +20,4 @@ returns c =
     IfOk-weaker c.entry.result _ _ (λ e same some h.
     subst (λ (x : EntryParts). StandsFor name (some ++ more) x) (sym same)
     (stands_with name some more c.args.entry.now c.in_ok-demands.demands c.in_ok-all.all
-    c.begun.ensures.valid c.in_ok-demands.ensures.joined c.in_ok-all.ensures h)) c.entry.ensures.same
+    c.begun.ensures.valid c.in_ok-demands.ensures.joined c.in_ok-all.ensures h)) c.entry.ensures

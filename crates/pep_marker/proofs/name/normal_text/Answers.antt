@@ -2,7 +2,7 @@ use Rattle.std.proofs.Common.{string_bytes, ◌∙◌, sym, ap, append-nil, ◌+
 use Rattle.std.specs.Char.{encode_utf8}
 use Rattle.std.specs.Str.Iter.{chars_rest}
 use Rattle.pep_marker.proofs.NormalNames.{after-begun, after-end, after-going, after-letter, after-step}
-use Rattle.pep_marker.proofs.name.norm_of.Goals as goal
+use Rattle.pep_marker.proofs.name.normal_text.Goals as goal
 
 pub loop-c-preserved-in_ok-push : goal.loop-c-preserved-in_ok-push
 loop-c-preserved-in_ok-push c =
@@ -32,7 +32,7 @@ loop-c-preserved c =
     after-step c.args.text.now left rest _ _ [] c.loop-c.in_run _ c.loop-c.invariant step
     (sym (append-nil (string_bytes c.loop-c.written)))
 
-pub returns-clause-value : goal.returns-clause-value
-returns-clause-value c =
+pub returns : goal.returns
+returns c =
     after-end c.args.text.now (chars_rest c.loop-c.c-iterator) (string_bytes c.loop-c.written)
     c.loop-c.in_run c.in-None.ensures.steps.0.0 c.loop-c.invariant

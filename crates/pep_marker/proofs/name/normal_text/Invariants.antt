@@ -2,7 +2,7 @@ use Rattle.std.proofs.Common.{◌≡◌, ◌++◌, string_bytes}
 use Rattle.std.specs.Str.Iter.{chars_rest}
 use Rattle.pep_marker.specs.Name.{normalized}
 use Rattle.pep_marker.proofs.NormalNames.{after}
-use Rattle.pep_marker.proofs.name.norm_of.Given as goal
+use Rattle.pep_marker.proofs.name.normal_text.Given as goal
 
 -- what is written and the normal form of what is left are the whole's
 abbrev pub invariant-loop-c : goal.invariant-loop-c
