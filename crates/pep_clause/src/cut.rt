@@ -1,5 +1,6 @@
 // Cuts: positions in the order of versions.
 
+mod boxed;
 mod read;
 mod text;
 
@@ -38,6 +39,7 @@ ghost use Rattle.pep_clause.specs.CutView.{CutReadsBack, cut_at};
 ghost use Rattle.pep_clause.specs.Laws.{cut_total};
 ghost use Rattle.pep_clause.specs.OperatorTable.{before_dev, before_place, past_release};
 
+use crate::cut::boxed::BoxedBytes;
 use crate::packed_cut::{CUT_ROOM, PackedCut};
 use pep_version::{Key, KeyBytes, Phase, Version};
 use specifiers::ClauseFault;
@@ -60,7 +62,7 @@ pub struct Cut {
 #[derive(Drop)]
 enum Form {
     Small(PackedCut),
-    Large(Box<KeyBytes>),
+    Large(BoxedBytes),
 }
 
 impl Model for Cut {
@@ -102,7 +104,7 @@ impl Cut {
         ensures spelled { IfOk result (λ c. IsCut c) }
     {
         Ok(Cut {
-            form: Form::Large(Box::new(alloc, bytes)?),
+            form: Form::Large(BoxedBytes::of(alloc, bytes)?),
         })
     }
 
