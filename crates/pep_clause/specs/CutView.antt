@@ -5,8 +5,6 @@ use Rattle.pep_version.specs.Version.{Version}
 use Rattle.specifiers.specs.Clause.{prefix_of}
 use Rattle.pep_clause.specs.Cut.{Cut, IsCut, before, after, past}
 use Rattle.pep_clause.specs.CutBytes.{cut_bytes}
-use Rattle.pep_clause.specs.declared.cut.boxed.BoxedBytes.{BoxedBytes}
-use Rattle.pep_clause.specs.declared.cut.boxed.BoxedBytes.TheVariants.{UpTo32, UpTo48, UpTo64, UpTo80, More}
 use Rattle.pep_clause.specs.declared.cut.Form.{Form}
 use Rattle.pep_clause.specs.declared.cut.Form.TheVariants.{Small, Large}
 
@@ -38,19 +36,11 @@ pub record CutReadsBack (bytes : List ℕ) : Type 0 where
   pub cut : IsCut (cut_at bytes)
   pub bytes_are : cut_bytes (cut_at bytes) ≡ bytes
 
--- the bytes in a box, whatever its size
-abbrev pub boxed_bytes : BoxedBytes → List ℕ
-boxed_bytes (UpTo32 b) = b.value.items
-boxed_bytes (UpTo48 b) = b.value.items
-boxed_bytes (UpTo64 b) = b.value.items
-boxed_bytes (UpTo80 b) = b.value.items
-boxed_bytes (More b) = b.value.items
-
 -- the cut in either form
 abbrev pub form_cut : Form → Cut
 form_cut (Small c) = c
-form_cut (Large bytes) = cut_at (boxed_bytes bytes)
+form_cut (Large bytes) = cut_at bytes.value.items
 
 abbrev pub IsForm : Form → Type 0
 IsForm (Small c) = IsCut c
-IsForm (Large bytes) = CutReadsBack (boxed_bytes bytes)
+IsForm (Large bytes) = CutReadsBack bytes.value.items

@@ -1,6 +1,5 @@
 // Cuts: positions in the order of versions.
 
-mod boxed;
 mod read;
 mod text;
 
@@ -39,7 +38,6 @@ ghost use Rattle.pep_clause.specs.CutView.{CutReadsBack, cut_at};
 ghost use Rattle.pep_clause.specs.Laws.{cut_total};
 ghost use Rattle.pep_clause.specs.OperatorTable.{before_dev, before_place, past_release};
 
-use crate::cut::boxed::BoxedBytes;
 use crate::packed_cut::{CUT_ROOM, PackedCut};
 use pep_version::{Key, KeyBytes, Phase, Version};
 use specifiers::ClauseFault;
@@ -62,7 +60,7 @@ pub struct Cut {
 #[derive(Drop)]
 enum Form {
     Small(PackedCut),
-    Large(BoxedBytes),
+    Large(Box<KeyBytes>),
 }
 
 impl Model for Cut {
@@ -104,7 +102,7 @@ impl Cut {
         ensures spelled { IfOk result (λ c. IsCut c) }
     {
         Ok(Cut {
-            form: Form::Large(BoxedBytes::of(alloc, bytes)?),
+            form: Form::Large(Box::new(alloc, bytes)?),
         })
     }
 
