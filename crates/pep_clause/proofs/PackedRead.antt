@@ -227,15 +227,15 @@ short-fit (a ∷ b ∷ c ∷ d ∷ []) few h =
 short-fit (a ∷ b ∷ c ∷ d ∷ e ∷ rest) few h = absurd (omega (arith, few))
 
 -- a release that is short makes a version
-pub release-version : (r : List ℕ) (q d : Option ℕ) → 0 < length r →
-    IsShortVersion (with_suffixes (release_alone r) None q d) → IsVersion (with_suffixes (release_alone r) None q d)
-release-version r q d some h = record {
+pub release-version : (r : List ℕ) (p : Option (Phase × ℕ)) (q d : Option ℕ) → 0 < length r →
+    IsShortVersion (with_suffixes (release_alone r) p q d) → IsVersion (with_suffixes (release_alone r) p q d)
+release-version r p q d some h = record {
   release = some;
   label = tt;
   numbers = record {
     epoch = omega arith;
     release = short-fit r h.release.few h.release.numbers;
-    pre = tt;
+    pre = pre_fits p h.suffix.pre;
     post = post_fits q h.suffix.post;
     dev = dev_fits d h.suffix.dev;
     label = tt;

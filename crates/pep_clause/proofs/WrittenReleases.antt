@@ -11,7 +11,8 @@ use Rattle.std.proofs.lemmas.Bool.Decides.{nat_tests}
 use Rattle.texts.proofs.Connectives.{and_first, and_second}
 use Rattle.pep_version.specs.Order.{short_release, with_suffixes}
 use Rattle.pep_version.specs.Spelling.{is_number}
-use Rattle.pep_version.specs.Text.{dev_text, normal_text, post_text, release_text}
+use Rattle.pep_version.specs.Text.{dev_text, normal_text, post_text, pre_text, release_text}
+use Rattle.pep_version.specs.declared.parts.Phase.{Phase}
 use Rattle.pep_version.specs.Version.{Fits}
 use Rattle.pep_clause.specs.Cut.{Cut, cut_text}
 use Rattle.pep_clause.specs.OperatorTable.{before_place}
@@ -105,19 +106,26 @@ module _ (x left : List ℕ) (numbers : List ℕ) (count : ℕ) (so : NumbersSoF
 
 -- ---- cuts
 
-suffixed-text : (r : List ℕ) (post dev : Option ℕ) → normal_text (with_suffixes (release_alone r) None post dev)
-    ≡ release_text r ++ (post_text post ++ dev_text dev)
-suffixed-text r post dev =
-    append-nil (((release_text r ++ []) ++ post_text post) ++ dev_text dev)
-    ∙ ap (λ l. (l ++ post_text post) ++ dev_text dev) (append-nil (release_text r))
-    ∙ append_assoc (release_text r) (post_text post) (dev_text dev)
+suffixed-text : (r : List ℕ) (pre : Option (Phase × ℕ)) (post dev : Option ℕ) → normal_text (with_suffixes (release_alone r) pre post dev)
+    ≡ release_text r ++ (pre_text pre ++ (post_text post ++ dev_text dev))
+suffixed-text r pre post dev =
+    append-nil (((release_text r ++ pre_text pre) ++ post_text post) ++ dev_text dev)
+    ∙ append_assoc (release_text r ++ pre_text pre) (post_text post) (dev_text dev)
+    ∙ append_assoc (release_text r) (pre_text pre) (post_text post ++ dev_text dev)
+
+-- three parts of a text, of which nothing is left behind them
+pub parts-joined : (x y z w front middle last : List ℕ) → x ≡ front ++ y → y ≡ middle ++ z → z ≡ last ++ w → length w ≡ 0
+    → x ≡ front ++ (middle ++ last)
+parts-joined x y z [] front middle last one two three none =
+    one ∙ ap (λ l. front ++ l) (two ∙ ap (λ l. middle ++ l) (three ∙ append-nil last))
+parts-joined x y z (b ∷ w) front middle last one two three none = absurd (omega (arith, none))
 
 -- before the version with this release, which has no zeros at its end
-pub before-text : (r : List ℕ) (post dev : Option ℕ) (rest : List ℕ) (found : Option Cut) → short_release r ≡ r →
-    IfSome found (λ c. c ≡ before_place (with_suffixes (release_alone r) None post dev)) →
-    rest ≡ post_text post ++ dev_text dev → HasTextWith false r rest found
-before-text r post dev rest None short is same = tt
-before-text r post dev rest (Some c) short is same =
+pub before-text : (r : List ℕ) (pre : Option (Phase × ℕ)) (post dev : Option ℕ) (rest : List ℕ) (found : Option Cut) → short_release r ≡ r →
+    IfSome found (λ c. c ≡ before_place (with_suffixes (release_alone r) pre post dev)) →
+    rest ≡ pre_text pre ++ (post_text post ++ dev_text dev) → HasTextWith false r rest found
+before-text r pre post dev rest None short is same = tt
+before-text r pre post dev rest (Some c) short is same =
     ap cut_text is
-    ∙ ap (λ x. codes "before " ++ normal_text (with_suffixes (release_alone x) None post dev)) short
-    ∙ ap (λ x. codes "before " ++ x) (suffixed-text r post dev ∙ ap (λ x. release_text r ++ x) (sym same))
+    ∙ ap (λ x. codes "before " ++ normal_text (with_suffixes (release_alone x) pre post dev)) short
+    ∙ ap (λ x. codes "before " ++ x) (suffixed-text r pre post dev ∙ ap (λ x. release_text r ++ x) (sym same))

@@ -119,14 +119,19 @@ fn word_before(
 }
 
 // The same of the version of epoch 0 with this release and these suffixes, and nothing more.
-fn release_word_before(release: &[u64], post: Option<u64>, dev: Option<u64>) -> Option<u128>
+fn release_word_before(
+    release: &[u64],
+    pre: Option<(Phase, u64)>,
+    post: Option<u64>,
+    dev: Option<u64>,
+) -> Option<u128>
     ensures word { IfSome result (λ w.
-        w ≡ word_before (with_suffixes (release_alone release.now) None post dev)) }
+        w ≡ word_before (with_suffixes (release_alone release.now) pre post dev)) }
     ensures exactly { IsSome result
-        ↔ IsShortVersion (with_suffixes (release_alone release.now) None post dev) }
+        ↔ IsShortVersion (with_suffixes (release_alone release.now) pre post dev) }
 {
     let numbers = word_of(four(release)?)?;
-    suffixed(numbers, None, post, dev)
+    suffixed(numbers, pre, post, dev)
 }
 
 impl PackedCut {
@@ -188,6 +193,24 @@ impl PackedCut {
 
     /// The packed cut directly before the version of epoch 0 with this release and these suffixes, or `None` where its
     /// numbers are too large or too many.
+    pub(crate) fn before_public(
+        release: &[u64],
+        pre: Option<(Phase, u64)>,
+        post: Option<u64>,
+        dev: Option<u64>,
+    ) -> Option<PackedCut>
+        requires { 0 < length release.now }
+        ensures cut { IfSome result (λ p.
+            p ≡ before_place (with_suffixes (release_alone release.now) pre post dev)) }
+        ensures spelled { IfSome result (λ p. IsCut p) }
+        ensures exactly { IsSome result
+            ↔ IsShortVersion (with_suffixes (release_alone release.now) pre post dev) }
+    {
+        let word = release_word_before(release, pre, post, dev)?;
+        Some(PackedCut::of_word(word))
+    }
+
+    /// The same of a version without a pre-release part.
     pub fn before_release(release: &[u64], post: Option<u64>, dev: Option<u64>) -> Option<PackedCut>
         requires { 0 < length release.now }
         ensures cut { IfSome result (λ p.
@@ -196,8 +219,7 @@ impl PackedCut {
         ensures exactly { IsSome result
             ↔ IsShortVersion (with_suffixes (release_alone release.now) None post dev) }
     {
-        let word = release_word_before(release, post, dev)?;
-        Some(PackedCut::of_word(word))
+        PackedCut::before_public(release, None, post, dev)
     }
 
     /// The packed cut before the first developmental release of a release, or `None` where its epoch isn't 0, or its

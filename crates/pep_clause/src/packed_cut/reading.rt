@@ -1,13 +1,15 @@
-// How the texts of most packed cuts are read: number by number, as they are written.
+// How the texts of packed cuts are read: number by number, as they are written.
 
-ghost use Rattle.std.specs.Prelude.{◌≡◌, ◌↔◌, ◌++◌, ◌∷◌, ◌<◌, decimal, length, IfSome, IsTrue};
+ghost use Rattle.std.specs.Prelude.{◌≡◌, ◌↔◌, ◌++◌, ◌∷◌, ◌<◌, decimal, false, length, IfSome, IsTrue};
 ghost use Rattle.pep_version.specs.Order.{short_release};
+ghost use Rattle.pep_version.specs.Text.{part_text, pre_text};
 ghost use Rattle.pep_clause.specs.Cut.{cut_text};
 ghost use Rattle.pep_clause.specs.PackedCut.{front_text};
 ghost use Rattle.pep_clause.specs.Way.Numbers.{HasTextWith};
 
 use crate::packed_cut::PackedCut;
 use crate::words;
+use pep_version::Phase;
 
 /// Whether the release has no zero at its end beyond its first number.
 pub(crate) fn is_short(release: &[u64]) -> bool
@@ -48,6 +50,46 @@ fn behind_dot(text: &[u8]) -> Option<&[u8]>
     }
 }
 
+// The pre-release part in front of a text, which may be missing, and what stands behind it.
+fn pre_in_front(text: &[u8]) -> Option<(Option<(Phase, u64)>, &[u8])>
+    ensures { IfSome result (λ found. text.now ≡ pre_text found.0 ++ found.1.now) }
+{
+    let (phase, behind) = match text {
+        [b'a', behind @ ..] => (Phase::Alpha, behind),
+        [b'b', behind @ ..] => (Phase::Beta, behind),
+        [b'r', b'c', behind @ ..] => (Phase::Rc, behind),
+        _ => return Some((None, text)),
+    };
+    let (number, rest) = written_number(behind)?;
+    Some((Some((phase, number)), rest))
+}
+
+// The part in front of a text that begins with the word, which may be missing, and what stands behind it.
+fn number_behind<'a>(word: &[u8], text: &'a [u8]) -> Option<(Option<u64>, &'a [u8])>
+    ensures { IfSome result (λ found. text.now ≡ part_text word.now found.0 ++ found.1.now) }
+{
+    let Some(behind) = text.strip_prefix(word) else {
+        return Some((None, text));
+    };
+    let (number, rest) = written_number(behind)?;
+    Some((Some(number), rest))
+}
+
+// The packed cut whose text ends with this release and the rest, before a version of it.
+fn before_with(release: &[u64], rest: &[u8]) -> Option<PackedCut>
+    requires some { 0 < length release.now }
+    requires short { short_release release.now ≡ release.now }
+    ensures { HasTextWith false release.now rest.now result }
+{
+    let (pre, behind_pre) = pre_in_front(rest)?;
+    let (post, behind_post) = number_behind(b".post", behind_pre)?;
+    let (dev, behind_dev) = number_behind(b".dev", behind_post)?;
+    if !behind_dev.is_empty() {
+        return None;
+    }
+    PackedCut::before_public(release, pre, post, dev)
+}
+
 // The packed cut whose text ends with this release and the rest, past the release or before a version of it.
 fn cut_with(release: &[u64], is_past: bool, rest: &[u8]) -> Option<PackedCut>
     requires { 0 < length release.now }
@@ -56,19 +98,11 @@ fn cut_with(release: &[u64], is_past: bool, rest: &[u8]) -> Option<PackedCut>
     if !is_short(release) {
         return None;
     }
-    if is_past {
-        return if rest.is_empty() {
-            PackedCut::past(0, release)
-        } else {
-            None
-        };
+    if !is_past {
+        return before_with(release, rest);
     }
     if rest.is_empty() {
-        PackedCut::before_release(release, None, None)
-    } else if rest == b".dev0".as_slice() {
-        PackedCut::before_release(release, None, Some(0))
-    } else if rest == b".post0.dev0".as_slice() {
-        PackedCut::before_release(release, Some(0), Some(0))
+        PackedCut::past(0, release)
     } else {
         None
     }
@@ -96,8 +130,8 @@ fn cut_behind(text: &[u8], is_past: bool) -> Option<PackedCut>
 }
 
 impl PackedCut {
-    /// The packed cut whose text this is, if it is the end, or stands past a release, before a release, or before the
-    /// first developmental release of one or of its first post-release, as most do. `None` says nothing of the text.
+    /// The packed cut whose text this is. Where there is none, the answer is `None`, but no clause says that it is `None`
+    /// only there.
     pub(crate) fn read(text: &str) -> Option<PackedCut>
         ensures { IfSome result (λ cut. cut_text cut ≡ text.now) }
     {

@@ -78,11 +78,19 @@ fn joins_equal_versions(rt: HostRuntime) {
     assert!(rt; is_one_cut(&rt, "1", "1.0"));
 }
 
-const TEXTS: [&str; 12] = [
+const TEXTS: [&str; 20] = [
     "before 0.dev0",
     "before 0",
     "before 1",
     "before 1.0.1",
+    "before 1.2a3.dev0",
+    "before 1.2b0.post126",
+    "before 1.2rc1",
+    "before 1.2.post1",
+    "before 1.2.post2.dev126",
+    "before 1.2.dev3",
+    "before 1.2rc128.post127.dev127",
+    "before 1.2.3.4.5",
     "before 1!2.3rc4.post5.dev6",
     "before 1+a.2",
     "before 18446744073709551615",
@@ -94,7 +102,7 @@ const TEXTS: [&str; 12] = [
 ];
 
 // No text of a cut: another spelling of its version, another word, or something more.
-const OTHER_TEXTS: [&str; 38] = [
+const OTHER_TEXTS: [&str; 44] = [
     "",
     " ",
     "End",
@@ -119,6 +127,12 @@ const OTHER_TEXTS: [&str; 38] = [
     "before 1.a1",
     "before 1A1",
     "before 1a",
+    "before 1rc",
+    "before 1rc01",
+    "before 1r1",
+    "before 1.post01",
+    "before 1.dev1.post1",
+    "before 1.0rc1",
     "before 1-1",
     "before 1+X",
     "before 1+a-b",
