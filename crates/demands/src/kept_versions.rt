@@ -87,16 +87,16 @@ fn set_between(alloc: Global, cuts: PackedRange) -> VersionSet
 fn left_between(
     alloc: Global,
     left_out: LeftOut,
-    bounds: PackedRange,
+    cuts: PackedRange,
 ) -> Result<VersionSet, AllocError>
-    ensures { IfOk result (λ s. s ≡ joined (range bounds.low bounds.high) left_out) }
+    ensures { IfOk result (λ s. s ≡ joined (range cuts.low cuts.high) left_out) }
 {
     if left_out.is_none() {
         // Its clauses tell that both cuts are in their one spelling.
-        let _ = bounds.low.cmp(&bounds.high);
-        return Ok(set_between(alloc, bounds));
+        let _ = cuts.low.cmp(&cuts.high);
+        return Ok(set_between(alloc, cuts));
     }
-    left_out.between(alloc, bounds)
+    left_out.between(alloc, cuts)
 }
 
 impl KeptVersions {
@@ -189,12 +189,12 @@ impl KeptVersions {
         Ok(())
     }
 
-    // Keeps the versions that don't lie between the bounds.
-    fn leave_out(&mut self, alloc: Global, bounds: PackedRange) -> Result<(), AllocError>
-        ensures { OnOk result (IsIntersection self.old (outside bounds.low bounds.high) self.new) }
+    // Keeps the versions that don't lie in the range.
+    fn leave_out(&mut self, alloc: Global, range: PackedRange) -> Result<(), AllocError>
+        ensures { OnOk result (IsIntersection self.old (outside range.low range.high) self.new) }
     {
         let mut beside = beside_or_all(alloc, self.beside.take())?;
-        beside.left_out.leave_out(alloc, bounds)?;
+        beside.left_out.leave_out(alloc, range)?;
         self.beside = Some(beside);
         Ok(())
     }

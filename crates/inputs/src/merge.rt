@@ -1,6 +1,6 @@
 //! What all inputs demand: the text of its table, and what it says of a version.
 
-ghost use Rattle.std.specs.Prelude.{◌≡◌, All, IfErr, IfOk, string_bytes};
+ghost use Rattle.std.specs.Prelude.{All, IfErr, IfOk, string_bytes};
 ghost use Rattle.demands.specs.Answer.{IsAnswer};
 ghost use Rattle.demands.specs.Table.{TableDemands};
 ghost use Rattle.pep_table.specs.TableText.{IsTableText};

@@ -336,28 +336,28 @@ impl LeftOut {
 
     /// Leaves out the versions between two packed cuts, too. Where memory lacks, what is left out is of no more use: it
     /// may lack what it had.
-    pub fn leave_out(&mut self, alloc: Global, bounds: PackedRange) -> Result<(), AllocError>
+    pub fn leave_out(&mut self, alloc: Global, cuts: PackedRange) -> Result<(), AllocError>
         ensures points { OnOk result ((c : Cut) → is_point self.new c
-            ≡ (is_point self.old c && is_point (outside bounds.low bounds.high) c)) }
+            ≡ (is_point self.old c && is_point (outside cuts.low cuts.high) c)) }
         ensures normal { IsNormal self.new }
     {
         // Where a field is read, the invariant is at hand.
         let _ = &self.parts;
-        if bounds.low.cmp(&bounds.high) != Ordering::Less {
+        if cuts.low.cmp(&cuts.high) != Ordering::Less {
             return Ok(());
         }
-        if bounds.high.is_right_behind(bounds.low) {
-            return self.leave_single(bounds.low);
+        if cuts.high.is_right_behind(cuts.low) {
+            return self.leave_single(cuts.low);
         }
-        self.leave_part(alloc, bounds)
+        self.leave_part(alloc, cuts)
     }
 
     /// The versions between two packed cuts that are left over.
-    pub fn between(self, alloc: Global, bounds: PackedRange) -> Result<VersionSet, AllocError>
-        ensures { IfOk result (λ s. s ≡ joined (range bounds.low bounds.high) self) }
+    pub fn between(self, alloc: Global, cuts: PackedRange) -> Result<VersionSet, AllocError>
+        ensures { IfOk result (λ s. s ≡ joined (range cuts.low cuts.high) self) }
     {
         // Its clauses tell that both cuts are in their one spelling.
-        let _ = bounds.low.cmp(&bounds.high);
+        let _ = cuts.low.cmp(&cuts.high);
         let LeftOut {
             mut singles,
             settled,
@@ -365,9 +365,9 @@ impl LeftOut {
             ..
         } = self;
         order_singles(&mut singles, settled)?;
-        let mut parts = closed(parts, bounds.high)?;
+        let mut parts = closed(parts, cuts.high)?;
         sort_falling(&mut parts);
-        let ranges = swept(alloc, bounds.low, singles, parts)?;
+        let ranges = swept(alloc, cuts.low, singles, parts)?;
         match VersionSet::of_ranges(ranges) {
             Some(versions) => Ok(versions),
             None => unreachable!(),

@@ -23,7 +23,7 @@ const MOST: usize = 65_536;
 const LONGEST: usize = 40;
 // The log isn't put in order before there are so many entries ..
 const FEWEST: usize = 32_768;
-// .. or so many, if many of them are of names that have another one: those fall together in the memory, or are long.
+// .. or so many, if a quarter of them repeat a name: such names fall together in the memory, or are long.
 const FEWEST_REPEATED: usize = 4_096;
 
 /// A name as it is written, with the place of an entry of the name.
@@ -42,7 +42,8 @@ impl OfText for KnownName {
 }
 
 /// A log of what is demanded. A name that is remembered goes on in its entry, and another one begins a new entry, even
-/// where the name has one. When the log has doubled, it is put in order, and the entries of a name are joined. If a
+/// where the name has one. When the log has doubled, or early if many names repeat, it is put in order, and the entries
+/// of a name are joined. If a
 /// quarter of them had one already, names are also looked for among those in order from then on. So names that fall
 /// together in the memory cost no more than that. Clauses see the list of the entries.
 #[derive(Drop)]
@@ -51,7 +52,7 @@ pub(crate) struct Gathered {
     // Among so many at the front, which are in order, names are looked for.
     ordered: usize,
     known: TextMemory<KnownName>,
-    // At this length, the log is put in order.
+    // At this length, the log is put in order, below `FEWEST` only if many names repeat.
     room: usize,
 }
 
@@ -66,6 +67,11 @@ impl Model for Gathered {
     ghost view = { λ g. g.log.items };
 
     ghost invariant = { λ g. IsValidLog g.log.items × All (IsKnown (names g.log.items)) g.known };
+}
+
+// So many names at most have so many entries, if a quarter of the entries repeat a name.
+fn few_names(entries: usize) -> usize {
+    entries / 4 * 3
 }
 
 impl Gathered {
@@ -124,7 +130,7 @@ impl Gathered {
         ensures { OnOk result (log_table self.new ≡ log_table self.old) }
     {
         self.known = TextMemory::new(alloc, MOST);
-        let most = self.log.len() / 4 * 3;
+        let most = few_names(self.log.len());
         let log = mem::replace(&mut self.log, Vec::new(alloc));
         self.log = put_in_order(alloc, log)?;
         if self.ordered > 0 || self.log.len() <= most {
@@ -133,13 +139,13 @@ impl Gathered {
         Ok(())
     }
 
-    // Whether a quarter of the entries are of names that have another one.
+    // Whether at least a quarter of the entries would stand behind another one of their name.
     fn has_repeats(&self, alloc: Global) -> Result<bool, AllocError> {
         let repeats = count_repeats(alloc, self.log.as_slice())?;
-        Ok(repeats >= self.log.len() / 4)
+        Ok(self.log.len().saturating_sub(repeats) <= few_names(self.log.len()))
     }
 
-    // Puts the log in order, if it has doubled.
+    // Puts the log in order, if it has doubled, or if it is short and has many repeats.
     fn make_room(&mut self, alloc: Global) -> Result<(), AllocError>
         ensures { OnOk result (log_table self.new ≡ log_table self.old) }
     {

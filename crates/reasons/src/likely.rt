@@ -39,16 +39,16 @@ fn narrow(range: &mut PackedRange, versions: &VersionSet) {
 
 // The packed cuts between which all clauses admit versions, as far as packed cuts tell.
 fn between(alloc: Global, clauses: &[Clause]) -> Result<PackedRange, AllocError> {
-    let mut bounds = PackedRange::all();
+    let mut range = PackedRange::all();
     for clause in clauses {
         let versions = VersionSet::of(alloc, clause).map_err(|_| AllocError)?;
-        narrow(&mut bounds, &versions);
+        narrow(&mut range, &versions);
     }
-    Ok(bounds)
+    Ok(range)
 }
 
 // The same of a claim. Of an entry no more is told than whether it admits a version.
-fn bounds_of(alloc: Global, claim: &Claim) -> Result<PackedRange, AllocError> {
+fn range_of(alloc: Global, claim: &Claim) -> Result<PackedRange, AllocError> {
     match claim {
         Claim::Required(requirement) => match requirement.target() {
             Target::Bounds(clauses) => between(alloc, clauses.as_slice()),
@@ -67,7 +67,7 @@ fn narrowest(alloc: Global, claims: &[PlacedClaim]) -> Result<Option<(usize, usi
     let mut low = PackedCut::least();
     let mut high = PackedCut::end();
     for (index, placed) in claims.iter().enumerate() {
-        let own = bounds_of(alloc, &placed.claim)?;
+        let own = range_of(alloc, &placed.claim)?;
         if own.low >= own.high {
             return Ok(Some((index, index)));
         }

@@ -22,7 +22,7 @@ is_behind_begin begin.Version w v = is_ge (order_to w v)
 is_behind_begin begin.Greater w v =
     is_below w (public_version v) && (is_some w.post || not (is_post_release_of v w))
 
--- one that is behind that place is before the one where they end
+-- a version that is behind that place is also before the place where those end
 abbrev pub is_before_end : End → Version → Version → Bool
 is_before_end ends.Version w v = is_le (version_cmp (public_version v) w)
 is_before_end ends.Matching w v = is_le (order_to w v)
@@ -31,6 +31,6 @@ is_before_end ends.Less w v =
 is_before_end ends.Prefix w v = has_prefix (compatible_prefix w) v
 is_before_end ends.All w v = true
 
--- .. between the two ends of the operator
+-- the version is behind the first place and before the second
 abbrev pub is_between : Begin → End → Version → Version → Bool
 is_between b e w v = is_behind_begin b w v && is_before_end e w v

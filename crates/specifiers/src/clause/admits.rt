@@ -95,7 +95,7 @@ fn matches_prefix(prefix: &Version, version: &Version) -> bool
     has_prefix(prefix.epoch(), prefix.release(), version)
 }
 
-// `~=` (PEP 440, "Compatible release").
+// Whether the version begins with the release of a clause of `~=` but its last number (PEP 440, "Compatible release").
 fn has_compatible_prefix(wanted: &Version, version: &Version) -> bool
     ensures { result ≡ has_prefix (compatible_prefix wanted.now) version.now }
 {
@@ -121,7 +121,7 @@ fn is_greater(wanted: &Version, version: &Version) -> bool
         && (wanted.post().is_some() || !is_post_release_of(version, wanted))
 }
 
-// Whether the version is behind the place where those begin of which an operator and the wanted version speak.
+// Whether the version is behind the place where the versions begin that an operator and the wanted one speak of.
 fn is_behind_begin(begin: Begin, wanted: &Version, version: &Version) -> bool
     ensures { result ≡ is_behind_begin begin wanted.now version.now }
 {
@@ -132,7 +132,7 @@ fn is_behind_begin(begin: Begin, wanted: &Version, version: &Version) -> bool
     }
 }
 
-// Whether a version that is behind that place is before the one where they end.
+// Whether a version that is behind that place is also before the place where those end.
 fn is_before_end(end: End, wanted: &Version, version: &Version) -> bool
     ensures { result ≡ is_before_end end wanted.now version.now }
 {
@@ -145,7 +145,7 @@ fn is_before_end(end: End, wanted: &Version, version: &Version) -> bool
     }
 }
 
-// Whether the version is between the two.
+// Whether the version is behind the first place and before the second.
 fn is_between(begin: Begin, end: End, wanted: &Version, version: &Version) -> bool
     ensures { result ≡ is_between begin end wanted.now version.now }
 {

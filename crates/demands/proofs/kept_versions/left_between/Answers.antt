@@ -7,7 +7,7 @@ use Rattle.demands.proofs.kept_versions.left_between.Goals as goal
 
 pub returns-then-is_none : goal.returns-then-is_none
 returns-then-is_none c =
-    let b = c.args.bounds in
+    let b = c.args.cuts in
     let all : c.args.left_out ≡ all_versions = search rules in
     c.set_between.ensures
     ∙ kept-bare b.low b.high c.cmp.ensures.spelled c.cmp.ensures.other_spelled

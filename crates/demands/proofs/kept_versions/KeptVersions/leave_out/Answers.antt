@@ -17,7 +17,7 @@ returns c =
     c.in_ok-beside.ensures.normal in
     let same = ap (λ (x : Beside). beside_versions (Some x)) c.deref_mut.ensures.value ∙ c.in_ok-beside.ensures.same
     ∙ ap (λ x. beside_versions (option_map (λ k. k.value) x)) c.take.ensures.value in
-    let t = outside c.args.bounds.low c.args.bounds.high in
+    let t = outside c.args.range.low c.args.range.high in
     let new = c.leave_out.new.self in
     met-beside i.range.low i.range.high b c.args.self.now t (joined new (joined_sets b.sets.items)) c.self.invariant.0
     c.self.invariant.1 are (ap (kept_versions i.range.low i.range.high) same ∙ c.self.view_is)

@@ -21,7 +21,7 @@ swept-requires-clause-falling c = record {
 
 pub unreachable-requires : goal.unreachable-requires
 unreachable-requires c =
-    let b = c.args.bounds in
+    let b = c.args.cuts in
     let singles = c.order_singles.new.singles.items in
     let parts = c.sort_falling.new.parts.items in
     let are = All-permutation IsPart _ _ c.sort_falling.ensures.permutation c.in_ok-parts.ensures.parts in
@@ -32,7 +32,7 @@ unreachable-requires c =
 
 pub returns : goal.returns
 returns c =
-    let b = c.args.bounds in
+    let b = c.args.cuts in
     let own = c.self.inside in
     let own_singles = own.singles.items in
     let singles = c.order_singles.new.singles.items in

@@ -11,7 +11,7 @@ use Rattle.packed_cuts.proofs.left_out.LeftOut.leave_out.Goals as goal
 
 pub returns-then-ne-clause-points : goal.returns-then-ne-clause-points
 returns-then-ne-clause-points c =
-    let b = c.args.bounds in
+    let b = c.args.cuts in
     let other : cut_cmp b.low b.high ≢ Less = search rules in
     points-none c.args.self.now b (not_below b.low b.high other)
 
@@ -23,7 +23,7 @@ returns-then-ne-clause-normal c =
 
 pub returns-then-is_right_behind-clause-points : goal.returns-then-is_right_behind-clause-points
 returns-then-is_right_behind-clause-points c =
-    let b = c.args.bounds in
+    let b = c.args.cuts in
     on_ok_weaker c.leave_single.result
     (λ k x. k x
     ∙ (λ i. is_point c.args.self.now x && is_point (outside b.low (sym (c.if-is_right_behind.ensures.exactly.0 refl).0 i)) x))
