@@ -113,6 +113,10 @@ suffixed-text r pre post dev =
     ∙ append_assoc (release_text r ++ pre_text pre) (post_text post) (dev_text dev)
     ∙ append_assoc (release_text r) (pre_text pre) (post_text post ++ dev_text dev)
 
+pub nothing-left : (x : List ℕ) → length x ≡ 0 → x ≡ []
+nothing-left [] none = refl
+nothing-left (b ∷ x) none = absurd (omega (arith, none))
+
 -- three parts of a text, of which nothing is left behind them
 pub parts-joined : (x y z w front middle last : List ℕ) → x ≡ front ++ y → y ≡ middle ++ z → z ≡ last ++ w → length w ≡ 0
     → x ≡ front ++ (middle ++ last)

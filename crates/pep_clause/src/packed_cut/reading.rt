@@ -51,6 +51,7 @@ fn behind_dot(text: &[u8]) -> Option<&[u8]>
 }
 
 // The pre-release part in front of a text, which may be missing, and what stands behind it.
+#[inline(always)]
 fn pre_in_front(text: &[u8]) -> Option<(Option<(Phase, u64)>, &[u8])>
     ensures { IfSome result (λ found. text.now ≡ pre_text found.0 ++ found.1.now) }
 {
@@ -65,6 +66,7 @@ fn pre_in_front(text: &[u8]) -> Option<(Option<(Phase, u64)>, &[u8])>
 }
 
 // The part in front of a text that begins with the word, which may be missing, and what stands behind it.
+#[inline(always)]
 fn number_behind<'a>(word: &[u8], text: &'a [u8]) -> Option<(Option<u64>, &'a [u8])>
     ensures { IfSome result (λ found. text.now ≡ part_text word.now found.0 ++ found.1.now) }
 {
@@ -76,11 +78,16 @@ fn number_behind<'a>(word: &[u8], text: &'a [u8]) -> Option<(Option<u64>, &'a [u
 }
 
 // The packed cut whose text ends with this release and the rest, before a version of it.
+#[inline(always)]
 fn before_with(release: &[u64], rest: &[u8]) -> Option<PackedCut>
     requires some { 0 < length release.now }
     requires short { short_release release.now ≡ release.now }
     ensures { HasTextWith false release.now rest.now result }
 {
+    if rest.is_empty() {
+        // as in most cuts
+        return PackedCut::before_public(release, None, None, None);
+    }
     let (pre, behind_pre) = pre_in_front(rest)?;
     let (post, behind_post) = number_behind(b".post", behind_pre)?;
     let (dev, behind_dev) = number_behind(b".dev", behind_post)?;

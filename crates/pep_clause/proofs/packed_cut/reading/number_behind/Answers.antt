@@ -1,4 +1,4 @@
-use Rattle.std.proofs.Common.{◌≡◌, ◌∙◌, ◌++◌, Some, ap, append_assoc, decimal, sym}
+use Rattle.std.proofs.Common.{◌∙◌, ◌++◌, Some, ap, append_assoc, decimal, sym}
 use Rattle.std.proofs.lemmas.Bool.Decides.{Decides-eqb}
 use Rattle.std.proofs.lemmas.Slice.Eq.{strip_prefix_is}
 use Rattle.pep_clause.proofs.packed_cut.reading.number_behind.Goals as goal
